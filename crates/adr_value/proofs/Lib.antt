@@ -1,0 +1,12 @@
+pub mod NumbersLemmas
+pub mod PowerLemmas
+pub mod ReadLemmas
+pub mod ScalingLemmas
+pub mod SettleLemmas
+pub mod ShieldLemmas
+pub mod SpellingLemmas
+pub mod TextLemmas
+pub mod ValueLemmas
+pub mod PayloadTable
+pub mod Refusals
+pub mod Judged

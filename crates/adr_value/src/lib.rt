@@ -1,0 +1,29 @@
+//! What every layer shares: refusals, exact decimals, payload types, and texts and lists whose contracts
+//! forget the memory behind them.
+#![tactic(auto)]
+
+mod judging;
+mod datum;
+mod decimal;
+mod list;
+mod parts;
+mod payload;
+mod print;
+mod refusal;
+mod shielding;
+mod spelling;
+mod text;
+mod try_clone;
+
+pub use judging::{Faults, both};
+pub use datum::Datum;
+pub use decimal::Decimal;
+pub use list::BoundedVec;
+pub use payload::{PayloadType, PrivateName, Shape, payload_laws};
+pub use refusal::{Refusal, refusal_laws};
+pub use shielding::shield;
+pub use text::{Name, Text};
+pub use try_clone::TryClone;
+
+#[cfg(test)]
+mod tests;

@@ -1,0 +1,279 @@
+ghost use Rattle.std.specs.Prelude.{◌≡◌, IfOk, IfErr, false, true, IsTrue, Result, Ok, Err, not, ◌&&◌, cond};
+ghost use Rattle.std.specs.List.{list_all};
+ghost use Rattle.adr_value.specs.Answer.{Answers};
+ghost use Rattle.adr_value.specs.Copy.{IsCopyOf};
+ghost use Rattle.adr_value.specs.Names.{is_name, is_table_name};
+ghost use Rattle.adr_value.specs.Payload.{type_of, type_named, RowsAgree, NamesReturn, CodesReturn, PrivateNamesDiffer};
+
+use crate::refusal::Refusal;
+use crate::text::Name;
+use crate::try_clone::TryClone;
+use std::alloc::Global;
+use std::marker::Model;
+
+/// What the values of a payload type must be.
+#[derive(Clone, Copy, Debug, PartialEq, Eq)]
+pub enum Shape {
+    /// At least one value, the first a whole number of at least 0.
+    Whole,
+    /// At least one value, all numbers.
+    Amount,
+    /// At least one value, all points.
+    Points,
+    /// Texts, perhaps none.
+    Notes,
+    /// Any values.
+    Any,
+}
+
+/// The name of a private type: 1 to 128 characters, and none of the table's names.
+#[derive(Drop, Debug)]
+pub struct PrivateName {
+    name: Name,
+}
+
+impl Model for PrivateName {
+    ghost use Rattle.std.specs.Prelude.{List, ℕ, ◌≡◌, false, IsTrue};
+    ghost use Rattle.adr_value.specs.Names.{is_name, is_table_name};
+
+    ghost Value = { List ℕ };
+
+    ghost view = { λ n. n.name };
+
+    ghost invariant = { λ n. IsTrue (is_name n.name) × (is_table_name n.name ≡ false) };
+}
+
+impl PrivateName {
+    fn new(alloc: Global, text: &str) -> Result<PrivateName, Refusal>
+        requires name { IsTrue (is_name text.now) }
+        requires private { is_table_name text.now ≡ false }
+        ensures { IsCopyOf result text.now }
+    {
+        Ok(PrivateName {
+            name: Name::new(alloc, text)?,
+        })
+    }
+
+    /// The name's characters.
+    pub fn as_str(&self) -> &str
+        ensures text { result.now ≡ self.now }
+        ensures limit { IsTrue (is_name self.now) }
+        ensures private { is_table_name self.now ≡ false }
+    {
+        self.name.as_str()
+    }
+
+    /// The same name, which takes no growth.
+    pub fn copy(&self) -> Result<PrivateName, Refusal>
+        ensures { IsCopyOf result self.now }
+    {
+        Ok(PrivateName {
+            name: self.name.copy()?,
+        })
+    }
+}
+
+/// The type of a payload: one of the table, or a private one.
+#[derive(Drop, Debug)]
+pub enum PayloadType {
+    Simple,
+    Price,
+    ChargeStateSetpoint,
+    DispatchSetpoint,
+    DispatchSetpointRelative,
+    ControlSetpoint,
+    ExportPrice,
+    Ghg,
+    Curve,
+    Ols,
+    ImportCapacitySubscription,
+    ImportCapacityReservation,
+    ImportCapacityReservationFee,
+    ImportCapacityAvailable,
+    ImportCapacityAvailablePrice,
+    ExportCapacitySubscription,
+    ExportCapacityReservation,
+    ExportCapacityReservationFee,
+    ExportCapacityAvailable,
+    ExportCapacityAvailablePrice,
+    ImportCapacityLimit,
+    ExportCapacityLimit,
+    AlertGridEmergency,
+    AlertBlackStart,
+    AlertPossibleOutage,
+    AlertFlexAlert,
+    AlertFire,
+    AlertFreezing,
+    AlertWind,
+    AlertTsunami,
+    AlertAirQuality,
+    AlertOther,
+    Cta2045Reboot,
+    Cta2045SetOverrideStatus,
+    Private(PrivateName),
+}
+
+/// The table of payload types. `payload_table!(WHAT (ARGUMENTS))` makes the match of WHAT from its rows.
+#[macro_export]
+macro_rules! payload_table {
+    (@type_of ($text:expr, $other:ident, $private:expr) $($case:ident $code:literal $name:literal $shape:ident,)*) => {
+        match $text {
+            $($name => Ok($crate::PayloadType::$case),)*
+            $other => $private,
+        }
+    };
+    (@name ($payload:expr, $text:ident, $private:expr) $($case:ident $code:literal $name:literal $shape:ident,)*) => {
+        match $payload {
+            $($crate::PayloadType::$case => $name,)*
+            $crate::PayloadType::Private($text) => $private,
+        }
+    };
+    (@code ($payload:expr) $($case:ident $code:literal $name:literal $shape:ident,)*) => {
+        match $payload {
+            $($crate::PayloadType::$case => $code,)*
+            $crate::PayloadType::Private(_) => 34,
+        }
+    };
+    (@of_code ($number:expr) $($case:ident $code:literal $name:literal $shape:ident,)*) => {
+        match $number {
+            $($code => Some($crate::PayloadType::$case),)*
+            _ => None,
+        }
+    };
+    (@copy ($payload:expr, $text:ident, $private:expr) $($case:ident $code:literal $name:literal $shape:ident,)*) => {
+        match $payload {
+            $($crate::PayloadType::$case => Ok($crate::PayloadType::$case),)*
+            $crate::PayloadType::Private($text) => $private,
+        }
+    };
+    (@shape ($payload:expr) $($case:ident $code:literal $name:literal $shape:ident,)*) => {
+        match $payload {
+            $($crate::PayloadType::$case => $crate::Shape::$shape,)*
+            $crate::PayloadType::Private(_) => $crate::Shape::Any,
+        }
+    };
+    ($what:ident $arguments:tt) => {
+        $crate::payload_table! { @$what $arguments
+            Simple 0 "SIMPLE" Whole,
+            Price 1 "PRICE" Amount,
+            ChargeStateSetpoint 2 "CHARGE_STATE_SETPOINT" Amount,
+            DispatchSetpoint 3 "DISPATCH_SETPOINT" Amount,
+            DispatchSetpointRelative 4 "DISPATCH_SETPOINT_RELATIVE" Amount,
+            ControlSetpoint 5 "CONTROL_SETPOINT" Amount,
+            ExportPrice 6 "EXPORT_PRICE" Amount,
+            Ghg 7 "GHG" Amount,
+            Curve 8 "CURVE" Points,
+            Ols 9 "OLS" Amount,
+            ImportCapacitySubscription 10 "IMPORT_CAPACITY_SUBSCRIPTION" Amount,
+            ImportCapacityReservation 11 "IMPORT_CAPACITY_RESERVATION" Amount,
+            ImportCapacityReservationFee 12 "IMPORT_CAPACITY_RESERVATION_FEE" Amount,
+            ImportCapacityAvailable 13 "IMPORT_CAPACITY_AVAILABLE" Amount,
+            ImportCapacityAvailablePrice 14 "IMPORT_CAPACITY_AVAILABLE_PRICE" Amount,
+            ExportCapacitySubscription 15 "EXPORT_CAPACITY_SUBSCRIPTION" Amount,
+            ExportCapacityReservation 16 "EXPORT_CAPACITY_RESERVATION" Amount,
+            ExportCapacityReservationFee 17 "EXPORT_CAPACITY_RESERVATION_FEE" Amount,
+            ExportCapacityAvailable 18 "EXPORT_CAPACITY_AVAILABLE" Amount,
+            ExportCapacityAvailablePrice 19 "EXPORT_CAPACITY_AVAILABLE_PRICE" Amount,
+            ImportCapacityLimit 20 "IMPORT_CAPACITY_LIMIT" Amount,
+            ExportCapacityLimit 21 "EXPORT_CAPACITY_LIMIT" Amount,
+            AlertGridEmergency 22 "ALERT_GRID_EMERGENCY" Notes,
+            AlertBlackStart 23 "ALERT_BLACK_START" Notes,
+            AlertPossibleOutage 24 "ALERT_POSSIBLE_OUTAGE" Notes,
+            AlertFlexAlert 25 "ALERT_FLEX_ALERT" Notes,
+            AlertFire 26 "ALERT_FIRE" Notes,
+            AlertFreezing 27 "ALERT_FREEZING" Notes,
+            AlertWind 28 "ALERT_WIND" Notes,
+            AlertTsunami 29 "ALERT_TSUNAMI" Notes,
+            AlertAirQuality 30 "ALERT_AIR_QUALITY" Notes,
+            AlertOther 31 "ALERT_OTHER" Notes,
+            Cta2045Reboot 32 "CTA2045_REBOOT" Any,
+            Cta2045SetOverrideStatus 33 "CTA2045_SET_OVERRIDE_STATUS" Any,
+        }
+    };
+}
+
+impl PayloadType {
+    ghost use Rattle.adr_value.specs.Payload.{name_of, code_of, of_code, shape_of};
+
+    /// The type of a name. `BadText` for a name that has not 1 to 128 characters, `NoMemory` where there is no
+    /// room for a private one.
+    pub fn type_of(alloc: Global, text: &str) -> Result<PayloadType, Refusal>
+        ensures { Answers result (type_named text.now) }
+    {
+        if !Name::fits(text) {
+            return Err(Refusal::BadText);
+        }
+        PayloadType::of_name(alloc, text)
+    }
+
+    fn of_name(alloc: Global, text: &str) -> Result<PayloadType, Refusal>
+        requires { IsTrue (is_name text.now) }
+        ensures { IsCopyOf result (type_of text.now) }
+    {
+        payload_table!(type_of(text, other, private(alloc, other)))
+    }
+
+    /// The name that bodies and scripts know the type by.
+    pub fn name(&self) -> &str
+        ensures { result.now ≡ name_of self.now }
+    {
+        payload_table!(name(self, text, text.as_str()))
+    }
+
+    /// The place in the table: 0 to 33, and 34 for each private type.
+    pub fn code(&self) -> u8
+        ensures { result ≡ code_of self.now }
+    {
+        payload_table!(code(self))
+    }
+
+    /// The type at a place of the table, or None from 34 on.
+    pub fn of_code(code: u8) -> Option<PayloadType>
+        ensures { result ≡ of_code code }
+    {
+        payload_table!(of_code(code))
+    }
+
+    /// What the type's values must be.
+    pub fn shape(&self) -> Shape
+        ensures { result ≡ shape_of self.now }
+    {
+        payload_table!(shape(self))
+    }
+
+    /// The same type, which takes no growth.
+    pub fn copy(&self) -> Result<PayloadType, Refusal>
+        ensures { IsCopyOf result self.now }
+    {
+        payload_table!(copy(self, text, private_copy(text)))
+    }
+}
+
+impl TryClone for PayloadType {
+    fn try_clone(&self) -> Result<PayloadType, Refusal> {
+        self.copy()
+    }
+}
+
+fn private(alloc: Global, text: &str) -> Result<PayloadType, Refusal>
+    requires name { IsTrue (is_name text.now) }
+    requires private { is_table_name text.now ≡ false }
+    ensures { IsCopyOf result (PayloadType.Private text.now) }
+{
+    Ok(PayloadType::Private(PrivateName::new(alloc, text)?))
+}
+
+fn private_copy(name: &PrivateName) -> Result<PayloadType, Refusal>
+    ensures { IsCopyOf result (PayloadType.Private name.now) }
+{
+    Ok(PayloadType::Private(name.copy()?))
+}
+
+/// The laws of the table: the functions agree with its rows, a name gives back itself, each of the 34 codes
+/// gives back its type, and a private type has none of the table's names.
+pub fn payload_laws()
+    ensures rows { RowsAgree }
+    ensures names { NamesReturn }
+    ensures codes { CodesReturn }
+    ensures private { PrivateNamesDiffer }
+{}

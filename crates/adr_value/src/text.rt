@@ -1,0 +1,125 @@
+ghost use Rattle.std.specs.Prelude.{◌≡◌, IfOk, IfErr, IsTrue, ◌↔◌, length};
+ghost use Rattle.std.specs.Str.{chars};
+ghost use Rattle.adr_value.specs.Copy.{IsCopyOf};
+ghost use Rattle.adr_value.specs.Names.{is_name};
+
+use crate::refusal::Refusal;
+use crate::try_clone::TryClone;
+use std::alloc::Global;
+use std::marker::Model;
+use std::sync::ArcStr;
+
+/// A text that contracts see as its bytes. Its copies share one memory.
+#[derive(Drop, Debug)]
+pub struct Text {
+    text: ArcStr,
+}
+
+impl Model for Text {
+    ghost use Rattle.std.specs.Prelude.{ℕ, List};
+    ghost use Rattle.std.specs.Arc.{arc_str_bytes};
+
+    ghost Value = { List ℕ };
+
+    ghost view = { λ t. arc_str_bytes t.text };
+}
+
+impl Text {
+    /// The text with these characters. `NoMemory` where there is no room for them.
+    pub fn new(alloc: Global, text: &str) -> Result<Text, Refusal>
+        ensures { IsCopyOf result text.now }
+    {
+        Ok(Text {
+            text: ArcStr::from_str(alloc, text)?,
+        })
+    }
+
+    /// The text's characters.
+    pub fn as_str(&self) -> &str
+        ensures { result.now ≡ self.now }
+    {
+        self.text.as_str()
+    }
+
+    /// The same text, which takes no growth.
+    pub fn copy(&self) -> Result<Text, Refusal>
+        ensures { IsCopyOf result self.now }
+    {
+        Ok(Text {
+            text: self.text.clone()?,
+        })
+    }
+}
+
+impl TryClone for Text {
+    fn try_clone(&self) -> Result<Text, Refusal> {
+        self.copy()
+    }
+}
+
+/// How many Unicode scalar values a text has.
+fn char_count(text: &str) -> usize
+    ensures { result ≡ length (chars text.now) }
+{
+    text.chars().count()
+}
+
+/// A text of 1 to 128 characters. Its copies share one memory.
+#[derive(Drop, Debug)]
+pub struct Name {
+    text: Text,
+}
+
+impl Model for Name {
+    ghost use Rattle.std.specs.Prelude.{ℕ, List, IsTrue};
+    ghost use Rattle.adr_value.specs.Names.{is_name};
+
+    ghost Value = { List ℕ };
+
+    ghost view = { λ n. n.text };
+
+    ghost invariant = { λ n. IsTrue (is_name n.text) };
+}
+
+impl Name {
+    /// Whether a text has 1 to 128 characters.
+    pub fn fits(text: &str) -> bool
+        ensures { result ≡ is_name text.now }
+    {
+        let count = char_count(text);
+        1 <= count && count <= 128
+    }
+
+    /// The name with these characters. `NoMemory` where there is no room for them.
+    pub fn new(alloc: Global, text: &str) -> Result<Name, Refusal>
+        requires { IsTrue (is_name text.now) }
+        ensures { IsCopyOf result text.now }
+    {
+        Ok(Name {
+            text: Text::new(alloc, text)?,
+        })
+    }
+
+    /// The name's characters.
+    pub fn as_str(&self) -> &str
+        ensures value { result.now ≡ self.now }
+        ensures limit { IsTrue (is_name self.now) }
+    {
+        self.text.as_str()
+    }
+
+    /// The same name, which takes no growth.
+    pub fn copy(&self) -> Result<Name, Refusal>
+        ensures { IsCopyOf result self.now }
+    {
+        Ok(Name {
+            text: self.text.copy()?,
+        })
+    }
+}
+
+impl TryClone for Name {
+    fn try_clone(&self) -> Result<Name, Refusal> {
+        self.copy()
+    }
+}
