@@ -1,0 +1,129 @@
+ghost use Rattle.adr_value.specs.Copy.{IsCopyOf};
+
+use crate::id::Id;
+use adr_time::{Length, Moment};
+use adr_value::{BoundedVec, Datum, Name, PayloadType, Refusal, Text, TryClone};
+
+/// Values under one type, which a resource or its ven has, or which an event or its program asks for (OpenADR 3.0
+/// Definition, valuesMap).
+#[derive(Drop)]
+pub struct Target {
+    pub kind: Name,
+    pub values: BoundedVec<Datum, 256>,
+}
+
+/// What an interval says of one payload type (OpenADR 3.0 Definition, valuesMap).
+#[derive(Drop)]
+pub struct Payload {
+    pub kind: PayloadType,
+    pub values: BoundedVec<Datum, 256>,
+}
+
+/// When an interval starts, and how long it lasts (OpenADR 3.0 Definition, intervalPeriod). `randomize` is kept for
+/// clients; it moves nothing here.
+#[derive(Clone, Copy)]
+pub struct Period {
+    pub start: Moment,
+    pub duration: Option<Length>,
+    pub randomize: Option<Length>,
+}
+
+/// A part of an event with its payloads (OpenADR 3.0 Definition, interval). Two intervals of one event may have one
+/// `id`.
+#[derive(Drop)]
+pub struct Interval {
+    pub id: i64,
+    pub period: Option<Period>,
+    pub payloads: BoundedVec<Payload, 64>,
+}
+
+/// Intervals for the resources that the targets match (OpenADR 3.0 Definition, event). A lower `priority` goes first;
+/// none goes last. An interval without a period of its own takes the event's.
+#[derive(Drop)]
+pub struct Event {
+    pub id: Id,
+    pub program_id: Id,
+    pub event_name: Option<Text>,
+    pub priority: Option<u32>,
+    pub targets: BoundedVec<Target, 64>,
+    pub interval_period: Option<Period>,
+    pub intervals: BoundedVec<Interval, 4096>,
+}
+
+impl Target {
+    /// A target equal to this one.
+    pub fn copy(&self) -> Result<Target, Refusal>
+        ensures { IsCopyOf result self.now }
+    {
+        Ok(Target {
+            kind: self.kind.copy()?,
+            values: self.values.copy()?,
+        })
+    }
+}
+
+impl TryClone for Target {
+    fn try_clone(&self) -> Result<Target, Refusal> {
+        self.copy()
+    }
+}
+
+impl Payload {
+    /// A payload equal to this one.
+    pub fn copy(&self) -> Result<Payload, Refusal>
+        ensures { IsCopyOf result self.now }
+    {
+        Ok(Payload {
+            kind: self.kind.copy()?,
+            values: self.values.copy()?,
+        })
+    }
+}
+
+impl TryClone for Payload {
+    fn try_clone(&self) -> Result<Payload, Refusal> {
+        self.copy()
+    }
+}
+
+impl Interval {
+    /// An interval equal to this one.
+    pub fn copy(&self) -> Result<Interval, Refusal>
+        ensures { IsCopyOf result self.now }
+    {
+        Ok(Interval {
+            id: self.id,
+            period: self.period,
+            payloads: self.payloads.copy()?,
+        })
+    }
+}
+
+impl TryClone for Interval {
+    fn try_clone(&self) -> Result<Interval, Refusal> {
+        self.copy()
+    }
+}
+
+impl Event {
+    /// An event equal to this one.
+    pub fn copy(&self) -> Result<Event, Refusal>
+        ensures { IsCopyOf result self.now }
+    {
+        Ok(Event {
+            id: self.id.copy()?,
+            program_id: self.program_id.copy()?,
+            event_name: self.event_name.try_clone()?,
+            priority: self.priority,
+            targets: self.targets.copy()?,
+            interval_period: self.interval_period,
+            intervals: self.intervals.copy()?,
+        })
+    }
+}
+
+impl TryClone for Event {
+    fn try_clone(&self) -> Result<Event, Refusal> {
+        self.copy()
+    }
+}

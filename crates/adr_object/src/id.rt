@@ -1,0 +1,99 @@
+ghost use Rattle.std.specs.Prelude.{◌≡◌, ◌↔◌, IsTrue, if◌then◌else◌};
+ghost use Rattle.std.specs.List.{list_all};
+ghost use Rattle.adr_value.specs.Answer.{Answers};
+ghost use Rattle.adr_value.specs.Copy.{IsCopyOf};
+ghost use Rattle.adr_object.specs.Id.{is_id_byte, is_id, id_named};
+
+use adr_value::{Refusal, Text, TryClone};
+use std::alloc::Global;
+use std::marker::Model;
+
+/// What an object is known by among those of its kind: 1 to 128 of `a-z A-Z 0-9 _ -` (OpenADR 3.0 Definition,
+/// objectID). Its copies share one memory.
+#[derive(Drop, Debug)]
+pub struct Id {
+    text: Text,
+}
+
+impl Model for Id {
+    ghost use Rattle.std.specs.Prelude.{ℕ, List, IsTrue};
+    ghost use Rattle.adr_object.specs.Id.{is_id};
+
+    ghost Value = { List ℕ };
+
+    ghost view = { λ id. id.text };
+
+    ghost invariant = { λ id. IsTrue (is_id id.text) };
+}
+
+fn is_id_byte(byte: u8) -> bool
+    ensures { result ≡ is_id_byte byte }
+{
+    matches!(byte, b'a'..=b'z' | b'A'..=b'Z' | b'0'..=b'9' | b'_' | b'-')
+}
+
+fn are_id_bytes(bytes: &[u8]) -> bool
+    ensures { result ≡ list_all is_id_byte bytes.now }
+{
+    bytes.iter().all(|byte| is_id_byte(*byte))
+}
+
+impl Id {
+    /// Whether a text has the form of an id.
+    pub fn fits(text: &str) -> bool
+        ensures { result ≡ is_id text.now }
+    {
+        let length = text.len();
+        1 <= length && length <= 128 && are_id_bytes(text.as_bytes())
+    }
+
+    /// The id that a word spells. `BadId` where it spells none, `NoMemory` where there is no room for it.
+    pub fn read(alloc: Global, text: &str) -> Result<Id, Refusal>
+        ensures { Answers result (id_named text.now) }
+    {
+        if !Id::fits(text) {
+            return Err(Refusal::BadId);
+        }
+        Id::new(alloc, text)
+    }
+
+    /// The id with these characters. `NoMemory` where there is no room for them.
+    pub fn new(alloc: Global, text: &str) -> Result<Id, Refusal>
+        requires { IsTrue (is_id text.now) }
+        ensures { IsCopyOf result text.now }
+    {
+        Ok(Id {
+            text: Text::new(alloc, text)?,
+        })
+    }
+
+    /// The id's characters.
+    pub fn text(&self) -> &str
+        ensures value { result.now ≡ self.now }
+        ensures form { IsTrue (is_id self.now) }
+    {
+        self.text.as_str()
+    }
+
+    /// Whether two ids are equal.
+    pub fn same(&self, other: &Id) -> bool
+        ensures { IsTrue result ↔ (self.now ≡ other.now) }
+    {
+        self.text() == other.text()
+    }
+
+    /// The same id, which takes no growth.
+    pub fn copy(&self) -> Result<Id, Refusal>
+        ensures { IsCopyOf result self.now }
+    {
+        Ok(Id {
+            text: self.text.copy()?,
+        })
+    }
+}
+
+impl TryClone for Id {
+    fn try_clone(&self) -> Result<Id, Refusal> {
+        self.copy()
+    }
+}

@@ -1,0 +1,70 @@
+ghost use Rattle.adr_value.specs.Copy.{IsCopyOf};
+
+use crate::event::Target;
+use crate::id::Id;
+use adr_value::{BoundedVec, Name, Refusal};
+
+/// What a group of events belongs to (OpenADR 3.0 Definition, program). Its targets bind all of its events.
+#[derive(Drop)]
+pub struct Program {
+    pub id: Id,
+    pub program_name: Name,
+    pub targets: BoundedVec<Target, 64>,
+}
+
+/// A client of the server (OpenADR 3.0 Definition, ven). Its targets count for all of its resources.
+#[derive(Drop)]
+pub struct Ven {
+    pub id: Id,
+    pub ven_name: Name,
+    pub targets: BoundedVec<Target, 64>,
+}
+
+/// A device or site of a ven (OpenADR 3.0 Definition, resource).
+#[derive(Drop)]
+pub struct Resource {
+    pub id: Id,
+    pub resource_name: Name,
+    pub ven_id: Id,
+    pub targets: BoundedVec<Target, 64>,
+}
+
+impl Program {
+    /// A program equal to this one.
+    pub fn copy(&self) -> Result<Program, Refusal>
+        ensures { IsCopyOf result self.now }
+    {
+        Ok(Program {
+            id: self.id.copy()?,
+            program_name: self.program_name.copy()?,
+            targets: self.targets.copy()?,
+        })
+    }
+}
+
+impl Ven {
+    /// A ven equal to this one.
+    pub fn copy(&self) -> Result<Ven, Refusal>
+        ensures { IsCopyOf result self.now }
+    {
+        Ok(Ven {
+            id: self.id.copy()?,
+            ven_name: self.ven_name.copy()?,
+            targets: self.targets.copy()?,
+        })
+    }
+}
+
+impl Resource {
+    /// A resource equal to this one.
+    pub fn copy(&self) -> Result<Resource, Refusal>
+        ensures { IsCopyOf result self.now }
+    {
+        Ok(Resource {
+            id: self.id.copy()?,
+            resource_name: self.resource_name.copy()?,
+            ven_id: self.ven_id.copy()?,
+            targets: self.targets.copy()?,
+        })
+    }
+}
