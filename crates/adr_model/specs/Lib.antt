@@ -1,0 +1,11 @@
+pub mod Answer
+pub mod Book
+pub mod Edits
+pub mod Entries
+pub mod Governor
+pub mod Layout
+pub mod Machine
+pub mod Matching
+pub mod Rank
+pub mod Timeline
+pub mod Touches
