@@ -1,5 +1,5 @@
 -- One read more.
-use Rattle.std.proofs.Common.{◌≡◌, ℕ, List, [], ◌++◌, sym, ap, ◌∙◌, subst, append-nil, Option}
+use Rattle.std.proofs.Common.{ℕ, List, [], ◌++◌, sym, subst, Option}
 use Rattle.std.specs.Io.KnownBytes.{Consumes, Appends, Keeps}
 use Rattle.std.proofs.KnownBytes.{Consumes-trans, Consumes-kept, Appends-trans}
 use Rattle.adr_script.specs.Lines.{complete_from, rest_from, last_line, all_lines}

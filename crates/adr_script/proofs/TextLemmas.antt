@@ -1,5 +1,5 @@
 -- What a machine tells that is a function.
-use Rattle.std.proofs.Common.{◌≡◌, ℕ, Bool, true, false, List, [], ◌∷◌, ◌++◌, length, Option, refl, ap, ◌∙◌, inl, inr, ltb, cond, IsTrue}
+use Rattle.std.proofs.Common.{◌≡◌, ℕ, Bool, true, false, List, [], ◌∷◌, ◌++◌, length, Option, refl, ap, ◌∙◌, inl, inr, ltb, cond}
 use Rattle.std.specs.Bool.{MatchBool}
 use Rattle.std.specs.Io.BufRead.{strip_last}
 use Rattle.adr_script.specs.Script.{Told, IsToldInPart, Moves, long_line, no_memory}
@@ -44,17 +44,29 @@ module _ {S : Type 0} (answers : S → List ℕ → List ℕ → S → Type 0) (
               left ∙ ap (λ u. state_but next marks u lines) e.1,
             )
         | inr h ↦ (
-            true ∷ marks,
-            is ∙ ap (λ r. r ++ rest) h.0 ∙ ap (λ r. no_memory ++ r) (same ∙ ap (λ u. text_but reply next marks u lines) h.1),
-            left ∙ ap (λ u. state_but next marks u lines) h.1,
-          )
+          true ∷ marks,
+          is ∙ ap (λ r. r ++ rest) h.0 ∙ ap (λ r. no_memory ++ r) (same ∙ ap (λ u. text_but reply next marks u lines) h.1),
+          left ∙ ap (λ u. state_but next marks u lines) h.1,
+        )
       ]
 
-  pub told_is_text : (s t : S) (lines : List (List ℕ)) (out : List ℕ) → Told answers s lines out t → IsText reply next s lines out
-  told_is_text s t lines out h = let (marks, same, left) = told_text s t lines out h in (marks, same)
+  -- a machine that begins as `start`
+  pub told_is_text : (start s t : S) (lines : List (List ℕ)) (out : List ℕ) → s ≡ start → Told answers s lines out t → IsText reply next start lines out
+  told_is_text start s t lines out same h =
+      let (marks, is, left) = told_text s t lines out h in (marks, is ∙ ap (λ u. text_but reply next marks u lines) same)
 
-  pub told_is_text_in_part : (s t : S) (lines : List (List ℕ)) (out : List ℕ) → IsToldInPart answers s lines out t → IsTextInPart reply next s lines out
-  told_is_text_in_part s t lines out (more, told) = (more, told_is_text s t lines (out ++ more) told)
+  pub told_is_text_in_part : (start s t : S) (lines : List (List ℕ)) (out : List ℕ) → s ≡ start → IsToldInPart answers s lines out t → IsTextInPart reply next start lines out
+  told_is_text_in_part start s t lines out same (more, told) = (more, told_is_text start s t lines (out ++ more) same told)
+
+  pub moves_text : (a b c d : Option (List ℕ)) (lines_of : List ℕ → List (List ℕ)) (start s t : S) → s ≡ start
+      → Moves a b c d (λ bytes out. Told answers s (lines_of bytes) out t) → Moves a b c d (λ bytes out. IsText reply next start (lines_of bytes) out)
+  moves_text a b c d lines_of start s t same (bytes, out, consumed, appended, told) =
+      (bytes, out, consumed, appended, told_is_text start s t (lines_of bytes) out same told)
+
+  pub moves_text_in_part : (a b c d : Option (List ℕ)) (lines_of : List ℕ → List (List ℕ)) (start s t : S) → s ≡ start
+      → Moves a b c d (λ bytes out. IsToldInPart answers s (lines_of bytes) out t) → Moves a b c d (λ bytes out. IsTextInPart reply next start (lines_of bytes) out)
+  moves_text_in_part a b c d lines_of start s t same (bytes, out, consumed, appended, told) =
+      (bytes, out, consumed, appended, told_is_text_in_part start s t (lines_of bytes) out same told)
 
 -- Two machines whose states are alike, and stay so while they reply the same, tell one text.
 module _ {S T : Type 0} (reply : S → List ℕ → List ℕ) (next : S → List ℕ → S) (other : T → List ℕ → List ℕ) (onward : T → List ℕ → T)

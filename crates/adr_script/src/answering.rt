@@ -78,7 +78,12 @@ fn make_reply<H: AllocGlobal + Threads + Wait, M: Machine>(
     match desk.begun.lost {
         Some(Lost::TooLong) => put(&mut desk.reply, LONG_LINE),
         Some(Lost::NoMemory) => put(&mut desk.reply, NO_MEMORY),
-        None => ask(rt, machine, without_return(&desk.begun.bytes), &mut desk.reply)?,
+        None => ask(
+            rt,
+            machine,
+            without_return(&desk.begun.bytes),
+            &mut desk.reply,
+        )?,
     }
     Ok(())
 }

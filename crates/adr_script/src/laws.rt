@@ -25,7 +25,7 @@ pub fn like_machines_tell_one_text<S, T>()
     ensures { (reply : S → List ℕ → List ℕ) (next : S → List ℕ → S) (other : T → List ℕ → List ℕ) (onward : T → List ℕ → T)
         (alike : S → T → Bool)
         → ((s : S) (t : T) (line : List ℕ) → IsTrue (alike s t)
-            → (reply s line ≡ other t line) × IsTrue (alike (next s line) (onward t line)))
+        → (reply s line ≡ other t line) × IsTrue (alike (next s line) (onward t line)))
         → (s : S) (t : T) → IsTrue (alike s t) → (marks : List Bool) (lines : List (List ℕ))
         → text_but reply next marks s lines ≡ text_but other onward marks t lines }
 {}

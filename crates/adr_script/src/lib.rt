@@ -23,5 +23,5 @@ pub use log::{ReadLog, WriteLog};
 pub use machine::{Machine, Unanswered};
 pub use reading::serve;
 
-
-
+#[cfg(test)]
+mod tests;

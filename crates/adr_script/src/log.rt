@@ -39,11 +39,7 @@ impl ReadLog {
     }
 
     /// One read. An interrupted one is no fault.
-    pub(crate) fn read<R: Read>(
-        &mut self,
-        reader: &mut R,
-        piece: &mut [u8],
-    ) -> Result<Given, Fault>
+    pub(crate) fn read<R: Read>(&mut self, reader: &mut R, piece: &mut [u8]) -> Result<Given, Fault>
         requires made { reads_made self.old < 2 ^ 32 }
         requires piece { 0 < length piece.old }
         ensures made { reads_made self.new ≡ reads_made self.old + 1 }

@@ -11,6 +11,6 @@ returns-in_err-answer_line-clause-err g c = let p = err_from_is_err_and c.from_r
     let some : 0 < length line = (c.if-has_byte.ensures line holds).0 refl in (
       part,
       written,
-      subst (λ ls. IsToldInPart g.M.Machine.answers c.args.machine.now ls part _) (sym (last_byte line some))
+      subst (λ ls. IsToldInPart g.M.Machine.answers c.args.machine.now ls part c.answer_line.new.machine) (sym (last_byte line some))
           (part-one g.M.Machine.answers _ _ line part more step),
     ))

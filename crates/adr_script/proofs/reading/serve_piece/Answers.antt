@@ -16,7 +16,7 @@ loop-end-preserved g c = record {
         front ++ (end ++ 10 ∷ []),
         out ++ reply,
         split_more _ front _ end _ split c.in-Some.ensures.found.0,
-        subst (Holds c.answer_line.new.begun) (sym (rest_more line front end)) c.answer_line.ensures.cleared,
+        subst (Holds c.answer_line.new.desk.begun) (sym (rest_more line front end)) c.in_ok-answer_line.ensures.cleared,
         Appends-trans _ _ _ _ _ appended more,
         told_more g.M.Machine.answers _ _ _ line front end out reply (plain _ c.in-Some.ensures.found.1) told step,
       );
