@@ -1,0 +1,192 @@
+// The read loop.
+ghost use Rattle.std.specs.Prelude.{◌≡◌, ◌⊎◌, ◌≤◌, ◌<◌, ◌^◌, ◌∷◌, ◌++◌, ◌≢◌, ℕ, List, [], true, OnOk, OnErr, IsErrOf, IfOk, IfErr, IfSome, IfNone, All, take, slice_index, vec_capacity, vec_len, length};
+ghost use Rattle.std.specs.Io.KnownBytes.{Appends, Keeps, IsAtEnd};
+ghost use Rattle.adr_script.specs.Begun.{Holds};
+ghost use Rattle.adr_script.specs.Logs.{reads_made, has_read_failed, has_ended, has_write_failed, IsReplyFault};
+ghost use Rattle.adr_script.specs.Lines.{all_lines, complete_lines, complete_from, rest_from, last_line};
+ghost use Rattle.adr_script.specs.Script.{Told, IsToldInPart, Moves};
+
+use crate::answering::{Desk, answer_line};
+use crate::log::Given;
+use crate::{Fault, Machine, ReadLog, WriteLog};
+use std::alloc::{AllocError, Global};
+use std::io::{Read, Write};
+use std::sync::Wait;
+use std::thread::Threads;
+
+const PIECE: usize = 65_536;
+
+const MAX_READS: u64 = 4_294_967_296;
+
+/// Reads lines to the end, and writes the machine's reply to each before the next read.
+///
+/// At most 4,294,967,296 reads of up to 65,536 bytes are made. An interrupted one is tried again. Beyond what the
+/// machine takes, it holds one line, one reply and one piece in memory.
+///
+/// # Errors
+///
+/// Each [`Fault`] once. `Runtime` comes before the first read where memory is refused to begin with, and amid the
+/// lines only from a machine that may halt.
+pub fn serve<H: AllocGlobal + Threads + Wait, R: Read, W: Write, M: Machine>(
+    rt: &H,
+    reader: &mut R,
+    reads: &mut ReadLog,
+    writer: &mut W,
+    writes: &mut WriteLog,
+    machine: &mut M,
+) -> Result<(), Fault>
+    requires { reads_made reads.old ≡ 0 }
+
+    // All was read, and each line was answered.
+    ensures ok { OnOk result (Moves (R.remaining reader.old) (R.remaining reader.new) (W.contents writer.old) (W.contents writer.new)
+        (λ bytes out. Told M.answers machine.old (all_lines bytes) out machine.new)) }
+    ensures end { OnOk result (IsAtEnd (R.remaining reader.new)) }
+
+    // The lines that were complete are answered, and the begun one isn't.
+    ensures reading { IsErrOf result Fault.Reading → Moves (R.remaining reader.old) (R.remaining reader.new) (W.contents writer.old) (W.contents writer.new)
+        (λ bytes out. Told M.answers machine.old (complete_lines bytes) out machine.new) }
+    ensures reads { IsErrOf result Fault.Reads → Moves (R.remaining reader.old) (R.remaining reader.new) (W.contents writer.old) (W.contents writer.new)
+        (λ bytes out. Told M.answers machine.old (complete_lines bytes) out machine.new) }
+
+    // The replies stop somewhere.
+    ensures writing { IsErrOf result Fault.Writing → Moves (R.remaining reader.old) (R.remaining reader.new) (W.contents writer.old) (W.contents writer.new)
+        (λ bytes out. IsToldInPart M.answers machine.old (all_lines bytes) out machine.new) }
+    ensures runtime { IsErrOf result Fault.Runtime → Moves (R.remaining reader.old) (R.remaining reader.new) (W.contents writer.old) (W.contents writer.new)
+        (λ bytes out. IsToldInPart M.answers machine.old (all_lines bytes) out machine.new) }
+
+    // Nothing was done, unless the machine may halt.
+    ensures start { IsErrOf result Fault.Runtime → (Keeps (R.remaining reader.old) (R.remaining reader.new)
+        × Keeps (W.contents writer.old) (W.contents writer.new) × (machine.new ≡ machine.old)) ⊎ M.halts }
+
+    // A fault has a cause: a read or a write that failed, or all the reads that there are; and `Ok` has the end.
+    ensures ended { OnOk result (has_ended reads.new ≡ true) }
+    ensures read_failed { IsErrOf result Fault.Reading → has_read_failed reads.new ≡ true }
+    ensures no_more_reads { IsErrOf result Fault.Reads → reads_made reads.new ≡ 2 ^ 32 }
+    ensures write_failed { IsErrOf result Fault.Writing → has_write_failed writes.new ≡ true }
+{
+    let (Ok(mut piece), Ok(mut desk)) = (zeros(rt.alloc(), PIECE), Desk::new(rt.alloc())) else {
+        return Err(Fault::Runtime);
+    };
+    serve_reads(
+        rt, reader, reads, writer, writes, machine, &mut piece, &mut desk,
+    )
+}
+
+fn zeros(alloc: Global, len: usize) -> Result<Vec<u8>, AllocError>
+    ensures { IfOk result (λ v. vec_len v ≡ len) }
+{
+    vec![in alloc; 0u8; len]
+}
+
+/// Reads piece by piece.
+fn serve_reads<H: AllocGlobal + Threads + Wait, R: Read, W: Write, M: Machine>(
+    rt: &H,
+    reader: &mut R,
+    reads: &mut ReadLog,
+    writer: &mut W,
+    writes: &mut WriteLog,
+    machine: &mut M,
+    piece: &mut [u8],
+    desk: &mut Desk,
+) -> Result<(), Fault>
+    requires piece { 0 < length piece.old }
+    requires begun { Holds desk.old.begun [] }
+    requires room { 64 ≤ vec_capacity desk.old.reply }
+    requires fresh { reads_made reads.old ≡ 0 }
+    ensures ok { OnOk result (Moves (R.remaining reader.old) (R.remaining reader.new) (W.contents writer.old) (W.contents writer.new)
+        (λ bytes out. Told M.answers machine.old (all_lines bytes) out machine.new)) }
+    ensures end { OnOk result (IsAtEnd (R.remaining reader.new)) }
+    ensures reading { IsErrOf result Fault.Reading → Moves (R.remaining reader.old) (R.remaining reader.new) (W.contents writer.old) (W.contents writer.new)
+        (λ bytes out. Told M.answers machine.old (complete_lines bytes) out machine.new) }
+    ensures reads { IsErrOf result Fault.Reads → Moves (R.remaining reader.old) (R.remaining reader.new) (W.contents writer.old) (W.contents writer.new)
+        (λ bytes out. Told M.answers machine.old (complete_lines bytes) out machine.new) }
+    ensures writing { IsErrOf result Fault.Writing → Moves (R.remaining reader.old) (R.remaining reader.new) (W.contents writer.old) (W.contents writer.new)
+        (λ bytes out. IsToldInPart M.answers machine.old (all_lines bytes) out machine.new) }
+    ensures runtime { IsErrOf result Fault.Runtime → Moves (R.remaining reader.old) (R.remaining reader.new) (W.contents writer.old) (W.contents writer.new)
+        (λ bytes out. IsToldInPart M.answers machine.old (all_lines bytes) out machine.new) }
+    ensures halted { IsErrOf result Fault.Runtime → M.halts }
+    ensures ended { OnOk result (has_ended reads.new ≡ true) }
+    ensures read_failed { IsErrOf result Fault.Reading → has_read_failed reads.new ≡ true }
+    ensures no_more_reads { IsErrOf result Fault.Reads → reads_made reads.new ≡ 2 ^ 32 }
+    ensures write_failed { IsErrOf result Fault.Writing → has_write_failed writes.new ≡ true }
+{
+    for _ in 0..MAX_READS {
+        match reads.read(reader, piece)? {
+            Given::Bytes(count) => serve_piece(rt, &piece[..count], writer, writes, machine, desk)?,
+            Given::End => return finish(rt, writer, writes, machine, desk),
+            Given::Nothing => {}
+        }
+    }
+    Err(Fault::Reads)
+}
+
+/// Answers a last line with no line feed, if it has a byte.
+fn finish<H: AllocGlobal + Threads + Wait, W: Write, M: Machine>(
+    rt: &H,
+    writer: &mut W,
+    writes: &mut WriteLog,
+    machine: &mut M,
+    desk: &mut Desk,
+) -> Result<(), Fault>
+    requires { 64 ≤ vec_capacity desk.old.reply }
+    ensures fault { IfErr result (IsReplyFault writes.new M.halts) }
+    ensures ok { OnOk result ((line : List ℕ) → Holds desk.old.begun line → (out : List ℕ)
+        × Appends (W.contents writer.old) (W.contents writer.new) out
+        × Told M.answers machine.old (last_line line) out machine.new) }
+    ensures err { OnErr result ((line : List ℕ) → Holds desk.old.begun line → (out : List ℕ)
+        × Appends (W.contents writer.old) (W.contents writer.new) out
+        × IsToldInPart M.answers machine.old (last_line line) out machine.new) }
+{
+    if desk.begun.has_byte() {
+        answer_line(rt, writer, writes, machine, desk)?;
+    }
+    Ok(())
+}
+
+/// Takes a piece of the input, and answers each line that is complete now.
+fn serve_piece<H: AllocGlobal + Threads + Wait, W: Write, M: Machine>(
+    rt: &H,
+    piece: &[u8],
+    writer: &mut W,
+    writes: &mut WriteLog,
+    machine: &mut M,
+    desk: &mut Desk,
+) -> Result<(), Fault>
+    requires { 64 ≤ vec_capacity desk.old.reply }
+    ensures room { 64 ≤ vec_capacity desk.new.reply }
+    ensures fault { IfErr result (IsReplyFault writes.new M.halts) }
+    ensures ok { OnOk result ((line : List ℕ) → Holds desk.old.begun line → Holds desk.new.begun (rest_from line piece.now)
+        × ((out : List ℕ) × Appends (W.contents writer.old) (W.contents writer.new) out
+        × Told M.answers machine.old (complete_from line piece.now) out machine.new)) }
+    ensures err { OnErr result ((line : List ℕ) → Holds desk.old.begun line → (out : List ℕ)
+        × Appends (W.contents writer.old) (W.contents writer.new) out
+        × IsToldInPart M.answers machine.old (complete_from line piece.now) out machine.new) }
+{
+    let mut rest = piece;
+    while let Some((end, behind)) = split_line(rest) {
+        desk.begun.add(end);
+        answer_line(rt, writer, writes, machine, desk)?;
+        rest = behind;
+    }
+    desk.begun.add(rest);
+    Ok(())
+}
+
+/// What stands before the first line feed, and behind it.
+fn split_line(bytes: &[u8]) -> Option<(&[u8], &[u8])>
+    ensures found { IfSome result (λ parts. (bytes.now ≡ parts.0.now ++ 10 ∷ parts.1.now) × All (λ byte. byte ≢ 10) parts.0.now) }
+    ensures none { IfNone result (All (λ byte. byte ≢ 10) bytes.now) }
+{
+    let at = first_feed(bytes)?;
+    let (line, behind) = bytes.split_at(at);
+    Some((line, &behind[1..]))
+}
+
+/// Where the first line feed stands.
+fn first_feed(bytes: &[u8]) -> Option<usize>
+    ensures found { IfSome result (λ at. (at < length bytes.now) × (slice_index bytes.now at ≡ 10)
+        × All (λ byte. byte ≢ 10) (take at bytes.now)) }
+    ensures none { IfNone result (All (λ byte. byte ≢ 10) bytes.now) }
+{
+    bytes.iter().position(|byte| *byte == b'\n')
+}
