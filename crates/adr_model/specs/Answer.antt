@@ -1,7 +1,7 @@
 -- What a query answers, from what governs alone, down to the bytes.
 use Rattle.std.specs.Prelude.{◌≡◌, ◌≢◌, ℕ, ◌/◌, ◌%◌, ◌+◌, ◌&&◌, ◌||◌, ◌==◌, nat_lt, ℤ, pos, ◌≤ℤ◌, ◌<ℤ◌, int_lt, int_le, unsigned_abs, Bool, true, false, not, List, [], ◌∷◌, ◌++◌, filter, flat_map, Option, Some, None, is_some, Result, Ok, Err, if◌then◌else◌, codes, find, slice_get}
 use Rattle.std.specs.Option.{option_and_then, option_map}
-use Rattle.std.specs.Fmt.{decimal, sign_text}
+use Rattle.std.specs.Fmt.{decimal, signed_decimal}
 use Rattle.adr_value.specs.Number.{Number as Decimal}
 use Rattle.adr_value.specs.Same.{same_type}
 use Rattle.adr_value.specs.Text.{number_text}
@@ -18,7 +18,7 @@ use Rattle.adr_model.specs.declared.entry.Entry.{Entry}
 use Rattle.adr_model.specs.declared.timeline.Winner.{Winner}
 use Rattle.adr_model.specs.declared.written.Written.{Written}
 use Rattle.adr_model.specs.Book.{Book, resource_by}
-use Rattle.adr_model.specs.Governor.{entries_for, governs}
+use Rattle.adr_model.specs.Governor.{entries_for, winner_at, governs}
 
 -- ---- until when
 
@@ -36,10 +36,9 @@ end_instants Endless = []
 abbrev pub bounds : List Entry → List ℤ
 bounds entries = flat_map (λ e. e.span.start ∷ end_instants e.span.end) entries
 
--- those after t at which another interval governs than at t
-abbrev pub changes : Book → List ℕ → PayloadType → ℤ → List ℤ
-changes book id kind t =
-    filter (λ u. int_lt t u && not (same_winner (governs book id kind u) (governs book id kind t))) (bounds (entries_for book id kind))
+-- those after t at which another entry wins than at t
+abbrev pub changes : List Entry → ℤ → List ℤ
+changes entries t = filter (λ u. int_lt t u && not (same_winner (winner_at entries u) (winner_at entries t))) (bounds entries)
 
 abbrev pub earlier_of : ℤ → End → End
 earlier_of t (At u) = if int_lt u t then At u else At t
@@ -52,7 +51,7 @@ earliest (t ∷ ts) = earlier_of t (earliest ts)
 
 -- the least later instant whose governor differs from that at t, or no end
 unfoldable pub until : Book → List ℕ → PayloadType → ℤ → End
-until book id kind t = earliest (changes book id kind t)
+until book id kind t = earliest (changes (entries_for book id kind) t)
 
 -- the same in other words, of any governor
 abbrev pub IsUntil : (ℤ → Option Winner) → ℤ → End → Type 0
@@ -120,14 +119,11 @@ abbrev pub end_text : End → List ℕ
 end_text (At t) = moment_text t
 end_text Endless = codes "end"
 
-abbrev pub int_text : ℤ → List ℕ
-int_text n = sign_text (int_lt n (pos 0)) ++ decimal (unsigned_abs n)
-
 -- `event e1 interval 0 until 2024-01-01T01:00:00Z values 17`, or `none until end`
 abbrev pub state_text : Option Shown → End → List ℕ
 state_text None end = codes "none until " ++ end_text end
 state_text (Some s) end =
-    codes "event " ++ s.event ++ codes " interval " ++ int_text s.interval ++ codes " until " ++ end_text end ++ codes " " ++ values_text s.values
+    codes "event " ++ s.event ++ codes " interval " ++ signed_decimal s.interval ++ codes " until " ++ end_text end ++ codes " " ++ values_text s.values
 
 -- `version 4 ` and the state at the instant, with a line feed
 abbrev pub at_text : Book → List ℕ → PayloadType → ℤ → List ℕ

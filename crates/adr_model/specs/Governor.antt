@@ -51,6 +51,10 @@ first_of (e ∷ es) = Some (option_map_or (λ f. if goes_before f.rank e.rank th
 abbrev pub winner_of : Entry → Winner
 winner_of e = record { written = e.rank.written; place = e.rank.place }
 
+-- of a list of entries, the winner at an instant
+abbrev pub winner_at : List Entry → ℤ → Option Winner
+winner_at entries t = option_map winner_of (first_of (filter (λ e. covers e.span t) entries))
+
 -- the candidate of least rank, or none where there is no candidate
 unfoldable pub governs : Book → List ℕ → PayloadType → ℤ → Option Winner
 governs book id kind t = option_map winner_of (first_of (candidates book id kind t))

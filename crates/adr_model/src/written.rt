@@ -1,8 +1,29 @@
-use adr_object::Event;
+ghost use Rattle.adr_value.specs.Copy.{IsCopyOf};
 
-/// An event, and the number of the edit that last wrote it.
+use adr_object::Event;
+use adr_value::{Refusal, TryClone};
+
+/// An event, and the number of the accepted edit that last wrote it.
 #[derive(Drop)]
 pub struct Written {
     pub event: Event,
     pub written: u64,
+}
+
+impl Written {
+    /// An event equal to this one, with its number.
+    pub fn copy(&self) -> Result<Written, Refusal>
+        ensures { IsCopyOf result self.now }
+    {
+        Ok(Written {
+            event: self.event.copy()?,
+            written: self.written,
+        })
+    }
+}
+
+impl TryClone for Written {
+    fn try_clone(&self) -> Result<Written, Refusal> {
+        self.copy()
+    }
 }

@@ -5,7 +5,7 @@ ghost use Rattle.adr_object.specs.Object.{kind_of, id_of};
 use crate::event::Event;
 use crate::id::Id;
 use crate::party::{Program, Resource, Ven};
-use adr_value::Refusal;
+use adr_value::{Refusal, TryClone};
 
 /// The kinds of object that a server holds.
 #[derive(Clone, Copy, Debug, PartialEq, Eq)]
@@ -81,5 +81,17 @@ impl Edit {
             Edit::Change(object) => Ok(Edit::Change(object.copy()?)),
             Edit::Remove(kind, id) => Ok(Edit::Remove(*kind, id.copy()?)),
         }
+    }
+}
+
+impl TryClone for Object {
+    fn try_clone(&self) -> Result<Object, Refusal> {
+        self.copy()
+    }
+}
+
+impl TryClone for Edit {
+    fn try_clone(&self) -> Result<Edit, Refusal> {
+        self.copy()
     }
 }

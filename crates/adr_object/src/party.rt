@@ -2,7 +2,7 @@ ghost use Rattle.adr_value.specs.Copy.{IsCopyOf};
 
 use crate::event::Target;
 use crate::id::Id;
-use adr_value::{BoundedVec, Name, Refusal};
+use adr_value::{BoundedVec, Name, Refusal, TryClone};
 
 /// What a group of events belongs to (OpenADR 3.0 Definition, program). Its targets bind all of its events.
 #[derive(Drop)]
@@ -42,6 +42,12 @@ impl Program {
     }
 }
 
+impl TryClone for Program {
+    fn try_clone(&self) -> Result<Program, Refusal> {
+        self.copy()
+    }
+}
+
 impl Ven {
     /// A ven equal to this one.
     pub fn copy(&self) -> Result<Ven, Refusal>
@@ -52,6 +58,12 @@ impl Ven {
             ven_name: self.ven_name.copy()?,
             targets: self.targets.copy()?,
         })
+    }
+}
+
+impl TryClone for Ven {
+    fn try_clone(&self) -> Result<Ven, Refusal> {
+        self.copy()
     }
 }
 
@@ -66,5 +78,11 @@ impl Resource {
             ven_id: self.ven_id.copy()?,
             targets: self.targets.copy()?,
         })
+    }
+}
+
+impl TryClone for Resource {
+    fn try_clone(&self) -> Result<Resource, Refusal> {
+        self.copy()
     }
 }
