@@ -36,9 +36,12 @@ end_instants Endless = []
 abbrev pub bounds : List Entry → List ℤ
 bounds entries = flat_map (λ e. e.span.start ∷ end_instants e.span.end) entries
 
--- those after t at which another entry wins than at t
+-- another entry wins at the later instant u than at t
+abbrev pub is_change : List Entry → ℤ → ℤ → Bool
+is_change entries t u = int_lt t u && not (same_winner (winner_at entries u) (winner_at entries t))
+
 abbrev pub changes : List Entry → ℤ → List ℤ
-changes entries t = filter (λ u. int_lt t u && not (same_winner (winner_at entries u) (winner_at entries t))) (bounds entries)
+changes entries t = filter (is_change entries t) (bounds entries)
 
 abbrev pub earlier_of : ℤ → End → End
 earlier_of t (At u) = if int_lt u t then At u else At t

@@ -1,0 +1,10 @@
+use Rattle.std.proofs.Common.{◌∙◌, rules}
+use Rattle.std.proofs.lemmas.Result.{on_ok_weaker}
+use Rattle.adr_plain.proofs.Placing.{added_entries}
+use Rattle.adr_plain.proofs.entries.add_entries.Goals as goal
+
+pub returns-clause-ok : goal.returns-clause-ok
+returns-clause-ok c =
+    on_ok_weaker c.add_placed.result
+    (added_entries _ _ c.args.kind.now c.args.written.now _ (c.as_slice.ensures.value ∙ c.in_ok-places.ensures.ok))
+    c.add_placed.ensures.ok

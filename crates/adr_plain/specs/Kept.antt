@@ -1,0 +1,9 @@
+-- What a clause sees of the plain machine.
+use Rattle.std.specs.Prelude.{ℕ}
+use Rattle.adr_model.specs.Book.{Book}
+
+-- the objects now, and those of the last publication with its number
+pub record Kept : Type 0 where
+  pub current : Book
+  pub published : Book
+  pub number : ℕ
