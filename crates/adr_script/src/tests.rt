@@ -13,7 +13,7 @@ use std::sync::Wait;
 use std::test::Fail;
 use std::thread::Threads;
 
-/// Gives a line back behind a sign, which is a plus and a minus in turn. It finds no memory for the line `none`.
+/// Gives a line back behind a sign, a plus and a minus in turn. It finds no memory for `none`.
 #[derive(Drop)]
 struct Signs {
     plus: bool,
@@ -28,7 +28,8 @@ impl Model for Signs {
 }
 
 impl Machine for Signs {
-    ghost answers = { AnswersBy (λ plus line. (if plus then 43 else 45) ∷ line ++ 10 ∷ []) (λ plus _. not plus) };
+    ghost answers = { AnswersBy (λ plus line. (if plus then 43 else 45) ∷ line ++ 10 ∷ [])
+        (λ plus _. not plus) };
 
     ghost halts = { ⊥ };
 
@@ -55,9 +56,12 @@ fn tell_signs<R: Read, W: Write>(
     reader: &mut R,
     writer: &mut W,
 ) -> Result<(), Fault>
-    ensures ok { OnOk result (Moves (R.remaining reader.old) (R.remaining reader.new) (W.contents writer.old) (W.contents writer.new)
-        (λ bytes out. IsText (λ plus line. (if plus then 43 else 45) ∷ line ++ 10 ∷ []) (λ plus _. not plus) true (all_lines bytes) out)) }
-    ensures runtime { IsErrOf result Fault.Runtime → Keeps (R.remaining reader.old) (R.remaining reader.new)
+    ensures ok { OnOk result (Moves (R.remaining reader.old)
+        (R.remaining reader.new) (W.contents writer.old) (W.contents writer.new)
+        (λ bytes out. IsText (λ plus line. (if plus then 43 else 45) ∷ line ++ 10 ∷ [])
+        (λ plus _. not plus) true (all_lines bytes) out)) }
+    ensures runtime { IsErrOf result Fault.Runtime
+        → Keeps (R.remaining reader.old) (R.remaining reader.new)
         × Keeps (W.contents writer.old) (W.contents writer.new) }
 {
     let mut signs = Signs { plus: true };
@@ -90,8 +94,8 @@ impl Machine for Halting {
     }
 }
 
-/// Gives its bytes in pieces, and then fails or ends. Where it is interrupted, each read that gives something comes
-/// behind one that doesn't.
+/// Gives its bytes in pieces, and then fails or ends. Where it is interrupted, each read that gives
+/// something comes behind one that doesn't.
 #[derive(Drop)]
 struct Pieces<'a> {
     rest: &'a [u8],

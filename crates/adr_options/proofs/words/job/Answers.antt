@@ -1,10 +1,10 @@
-use Rattle.std.proofs.Common.{◌≡◌, ℕ, List, Some, map, string_bytes, ap, ap₂, ◌∙◌, sym, [], true, refl, subst, arith, unwrap_or}
+use Rattle.std.proofs.Common.{◌≡◌, map, string_bytes, ap, ap₂, ◌∙◌, sym, true, refl, subst, arith, unwrap_or}
 use Rattle.std.specs.Str.Parse.{digits_value, without_leading_plus}
 use Rattle.adr_options.specs.declared.kind.Job.TheVariants.{Run}
 use Rattle.std.proofs.lemmas.Result.{err_from_is_err_and}
-use Rattle.clap.specs.Words.{App, HasKind, app_of, fault_of, is_simple, is_simple_and_free, subcommand_of}
+use Rattle.clap.specs.Words.{HasKind, app_of, fault_of, is_simple, is_simple_and_free, subcommand_of}
 use Rattle.clap.proofs.OnLiterals.{clap_on_literals}
-use Rattle.adr_options.specs.Grammar.{adr_grammar, workers_in, workers_text}
+use Rattle.adr_options.specs.Grammar.{adr_grammar, workers_in}
 use Rattle.adr_options.proofs.words.job.Goals as goal
 
 is_free : is_simple_and_free adr_grammar ≡ true
