@@ -53,7 +53,8 @@ pub(crate) fn answer_line<H: AllocGlobal + Threads + Wait, W: Write, M: Machine>
     ensures ok { OnOk result ((line : List ℕ) → Holds desk.old.begun line → (told : List ℕ)
         × LineStep M.answers machine.old line told machine.new
         × Appends (W.contents writer.old) (W.contents writer.new) told) }
-    ensures err { OnErr result ((line : List ℕ) → Holds desk.old.begun line → (part : List ℕ) × (more : List ℕ)
+    ensures err { OnErr result ((line : List ℕ) → Holds desk.old.begun line
+        → (part : List ℕ) × (more : List ℕ)
         × LineStep M.answers machine.old line (part ++ more) machine.new
         × Appends (W.contents writer.old) (W.contents writer.new) part) }
 {
@@ -70,7 +71,8 @@ fn make_reply<H: AllocGlobal + Threads + Wait, M: Machine>(
 ) -> Result<(), Fault>
     requires { 64 ≤ vec_capacity desk.old.reply }
     ensures room { 64 ≤ vec_capacity desk.new.reply }
-    ensures ok { OnOk result ((line : List ℕ) → Holds desk.old.begun line → LineStep M.answers machine.old line desk.new.reply.items machine.new) }
+    ensures ok { OnOk result ((line : List ℕ) → Holds desk.old.begun line
+        → LineStep M.answers machine.old line desk.new.reply.items machine.new) }
     ensures err { OnErr result (machine.new ≡ machine.old) }
     ensures fault { OnErr result ((result ≡ Err Fault.Runtime) × M.halts) }
 {

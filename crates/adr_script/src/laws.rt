@@ -16,13 +16,14 @@ pub fn no_other_lines_do()
 
 /// Where no line is refused for want of memory, it is the text.
 pub fn no_mark_is_the_text<S>()
-    ensures { (reply : S → List ℕ → List ℕ) (next : S → List ℕ → S) (state : S) (lines : List (List ℕ))
-        → text_but reply next [] state lines ≡ text reply next state lines }
+    ensures { (reply : S → List ℕ → List ℕ) (next : S → List ℕ → S) (s : S)
+        → (lines : List (List ℕ)) → text_but reply next [] s lines ≡ text reply next s lines }
 {}
 
 /// Machines whose states are alike, and stay so while they reply the same, tell one text.
 pub fn like_machines_tell_one_text<S, T>()
-    ensures { (reply : S → List ℕ → List ℕ) (next : S → List ℕ → S) (other : T → List ℕ → List ℕ) (onward : T → List ℕ → T)
+    ensures { (reply : S → List ℕ → List ℕ) (next : S → List ℕ → S)
+        (other : T → List ℕ → List ℕ) (onward : T → List ℕ → T)
         (alike : S → T → Bool)
         → ((s : S) (t : T) (line : List ℕ) → IsTrue (alike s t)
         → (reply s line ≡ other t line) × IsTrue (alike (next s line) (onward t line)))

@@ -1,5 +1,5 @@
-// What a run's reads and writes met. The fields are private here, so only a read or a write that was made can
-// set them.
+// What a run's reads and writes met. The fields are private here, so only a read or a write that
+// was made can set them.
 ghost use Rattle.std.specs.Prelude.{◌≡◌, ◌+◌, ◌^◌, ◌≤◌, ◌<◌, ℕ, true, false, length, take, IfOk, OnErr, []};
 ghost use Rattle.std.specs.Io.KnownBytes.{Appends, Keeps};
 ghost use Rattle.adr_script.specs.Logs.{reads_made, has_read_failed, has_ended, has_write_failed, Gives};
@@ -43,9 +43,11 @@ impl ReadLog {
         requires made { reads_made self.old < 2 ^ 32 }
         requires piece { 0 < length piece.old }
         ensures made { reads_made self.new ≡ reads_made self.old + 1 }
-        ensures ok { IfOk result (Gives (R.remaining reader.old) (R.remaining reader.new) piece.new self.new) }
+        ensures ok { IfOk result (Gives (R.remaining reader.old) (R.remaining reader.new)
+            piece.new self.new) }
         ensures kept { OnErr result (Keeps (R.remaining reader.old) (R.remaining reader.new)) }
-        ensures err { OnErr result ((has_read_failed self.new ≡ true) × (result ≡ Err Fault.Reading)) }
+        ensures err { OnErr result ((has_read_failed self.new ≡ true)
+            × (result ≡ Err Fault.Reading)) }
     {
         self.made += 1;
         match reader.read(piece) {

@@ -36,12 +36,12 @@ impl<T: Drop> From<AllocFailed<T>> for Unanswered {
 
 /// What answers a script's lines, one after the other.
 ///
-/// An implementer says by `answers` what a line may be replied and what that leaves, and keeps to it; has each
-/// `Err` change nothing, so whatever may fail comes before the first change, and the reply to a change fits the room
-/// that `reply` brings; and says by `halts` whether it ever answers [`Unanswered::NoRuntime`]. A machine that never
-/// does gives `⊥` for it.
+/// An implementer says by `answers` what a line may be replied and what that leaves, and by `halts`
+/// whether it ever finds [`Unanswered::NoRuntime`]: one that never does gives `⊥`. An `Err` changes
+/// nothing, so whatever may fail comes before the first change, and the reply to a change fits the
+/// room that `reply` brings.
 pub trait Machine {
-    // From the first machine, the line may be answered by these bytes, which leaves the second machine.
+    // The first machine may answer the line by these bytes, which leaves the second machine.
     ghost answers: { Self → List ℕ → List ℕ → Self → Type 0 };
 
     // The machine may find that there is no runtime.
@@ -49,7 +49,8 @@ pub trait Machine {
 
     /// Answers a line into `reply`, which is empty and has room for 64 bytes.
     ///
-    /// The line has at most 4,194,304 bytes and no line feed, and one carriage return at its end was dropped.
+    /// The line has at most 4,194,304 bytes and no line feed, and has lost one carriage return at
+    /// its end. The room is to stay: `reply` may be cleared and grown, but not replaced by less.
     fn answer<H: AllocGlobal + Threads + Wait>(
         &mut self,
         rt: &H,

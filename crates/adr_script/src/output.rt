@@ -15,7 +15,8 @@ pub(crate) fn write_fully<W: Write>(
     ensures ok { OnOk result (Appends (W.contents writer.old) (W.contents writer.new) bytes.now) }
     ensures err { OnErr result ((part : List ℕ) × (more : List ℕ) × (bytes.now ≡ part ++ more)
         × Appends (W.contents writer.old) (W.contents writer.new) part) }
-    ensures fault { OnErr result ((result ≡ Err Fault.Writing) × (has_write_failed log.new ≡ true)) }
+    ensures fault { OnErr result ((result ≡ Err Fault.Writing)
+        × (has_write_failed log.new ≡ true)) }
 {
     let mut rest = bytes;
     while !rest.is_empty() {

@@ -20,13 +20,13 @@ const MAX_READS: u64 = 4_294_967_296;
 
 /// Reads lines to the end, and writes the machine's reply to each before the next read.
 ///
-/// At most 4,294,967,296 reads of up to 65,536 bytes are made. An interrupted one is tried again. Beyond what the
-/// machine takes, it holds one line, one reply and one piece in memory.
+/// It makes at most 4,294,967,296 reads, of up to 65,536 bytes, and tries an interrupted one again.
+/// Beyond the machine's own, memory holds one line, one reply and one piece of the input.
 ///
 /// # Errors
 ///
-/// Each [`Fault`] once. `Runtime` comes before the first read where memory is refused to begin with, and amid the
-/// lines only from a machine that may halt.
+/// Each [`Fault`]. `Runtime` comes before the first read where memory is refused to begin with, and
+/// amid the lines only from a machine that may halt.
 pub fn serve<H: AllocGlobal + Threads + Wait, R: Read, W: Write, M: Machine>(
     rt: &H,
     reader: &mut R,
@@ -38,86 +38,60 @@ pub fn serve<H: AllocGlobal + Threads + Wait, R: Read, W: Write, M: Machine>(
     requires { reads_made reads.old ≡ 0 }
 
     // All was read, and each line was answered.
-    ensures ok { OnOk result (Moves (R.remaining reader.old) (R.remaining reader.new) (W.contents writer.old) (W.contents writer.new)
+    ensures ok { OnOk result (Moves (R.remaining reader.old)
+        (R.remaining reader.new) (W.contents writer.old) (W.contents writer.new)
         (λ bytes out. Told M.answers machine.old (all_lines bytes) out machine.new)) }
     ensures end { OnOk result (IsAtEnd (R.remaining reader.new)) }
 
     // The lines that were complete are answered, and the begun one isn't.
-    ensures reading { IsErrOf result Fault.Reading → Moves (R.remaining reader.old) (R.remaining reader.new) (W.contents writer.old) (W.contents writer.new)
+    ensures reading { IsErrOf result Fault.Reading → Moves (R.remaining reader.old)
+        (R.remaining reader.new) (W.contents writer.old) (W.contents writer.new)
         (λ bytes out. Told M.answers machine.old (complete_lines bytes) out machine.new) }
-    ensures reads { IsErrOf result Fault.Reads → Moves (R.remaining reader.old) (R.remaining reader.new) (W.contents writer.old) (W.contents writer.new)
+    ensures reads { IsErrOf result Fault.Reads → Moves (R.remaining reader.old)
+        (R.remaining reader.new) (W.contents writer.old) (W.contents writer.new)
         (λ bytes out. Told M.answers machine.old (complete_lines bytes) out machine.new) }
 
     // The replies stop somewhere.
-    ensures writing { IsErrOf result Fault.Writing → Moves (R.remaining reader.old) (R.remaining reader.new) (W.contents writer.old) (W.contents writer.new)
+    ensures writing { IsErrOf result Fault.Writing → Moves (R.remaining reader.old)
+        (R.remaining reader.new) (W.contents writer.old) (W.contents writer.new)
         (λ bytes out. IsToldInPart M.answers machine.old (all_lines bytes) out machine.new) }
-    ensures runtime { IsErrOf result Fault.Runtime → Moves (R.remaining reader.old) (R.remaining reader.new) (W.contents writer.old) (W.contents writer.new)
+    ensures runtime { IsErrOf result Fault.Runtime → Moves (R.remaining reader.old)
+        (R.remaining reader.new) (W.contents writer.old) (W.contents writer.new)
         (λ bytes out. IsToldInPart M.answers machine.old (all_lines bytes) out machine.new) }
 
     // Nothing was done, unless the machine may halt.
-    ensures start { IsErrOf result Fault.Runtime → (Keeps (R.remaining reader.old) (R.remaining reader.new)
-        × Keeps (W.contents writer.old) (W.contents writer.new) × (machine.new ≡ machine.old)) ⊎ M.halts }
+    ensures start { IsErrOf result Fault.Runtime
+        → (Keeps (R.remaining reader.old) (R.remaining reader.new)
+        × Keeps (W.contents writer.old) (W.contents writer.new)
+        × (machine.new ≡ machine.old)) ⊎ M.halts }
 
-    // A fault has a cause: a read or a write that failed, or all the reads that there are; and `Ok` has the end.
+    // A fault has a cause: a read or a write that failed, or all the reads that there are; and
+    // `Ok` has the end.
     ensures ended { OnOk result (has_ended reads.new ≡ true) }
     ensures read_failed { IsErrOf result Fault.Reading → has_read_failed reads.new ≡ true }
     ensures no_more_reads { IsErrOf result Fault.Reads → reads_made reads.new ≡ 2 ^ 32 }
     ensures write_failed { IsErrOf result Fault.Writing → has_write_failed writes.new ≡ true }
 {
-    let (Ok(mut piece), Ok(mut desk)) = (zeros(rt.alloc(), PIECE), Desk::new(rt.alloc())) else {
+    let (Ok(mut buffer), Ok(mut desk)) = (zeros(rt.alloc(), PIECE), Desk::new(rt.alloc())) else {
         return Err(Fault::Runtime);
     };
-    serve_reads(
-        rt, reader, reads, writer, writes, machine, &mut piece, &mut desk,
-    )
+    let piece = buffer.as_mut_slice();
+    for _ in 0..MAX_READS {
+        match reads.read(reader, piece)? {
+            Given::Bytes(count) => {
+                serve_piece(rt, &piece[..count], writer, writes, machine, &mut desk)?
+            }
+            Given::End => return finish(rt, writer, writes, machine, &mut desk),
+            Given::Nothing => {}
+        }
+    }
+    Err(Fault::Reads)
 }
 
 fn zeros(alloc: Global, len: usize) -> Result<Vec<u8>, AllocError>
     ensures { IfOk result (λ v. vec_len v ≡ len) }
 {
     vec![in alloc; 0u8; len]
-}
-
-/// Reads piece by piece.
-fn serve_reads<H: AllocGlobal + Threads + Wait, R: Read, W: Write, M: Machine>(
-    rt: &H,
-    reader: &mut R,
-    reads: &mut ReadLog,
-    writer: &mut W,
-    writes: &mut WriteLog,
-    machine: &mut M,
-    piece: &mut [u8],
-    desk: &mut Desk,
-) -> Result<(), Fault>
-    requires piece { 0 < length piece.old }
-    requires begun { Holds desk.old.begun [] }
-    requires room { 64 ≤ vec_capacity desk.old.reply }
-    requires fresh { reads_made reads.old ≡ 0 }
-    ensures ok { OnOk result (Moves (R.remaining reader.old) (R.remaining reader.new) (W.contents writer.old) (W.contents writer.new)
-        (λ bytes out. Told M.answers machine.old (all_lines bytes) out machine.new)) }
-    ensures end { OnOk result (IsAtEnd (R.remaining reader.new)) }
-    ensures reading { IsErrOf result Fault.Reading → Moves (R.remaining reader.old) (R.remaining reader.new) (W.contents writer.old) (W.contents writer.new)
-        (λ bytes out. Told M.answers machine.old (complete_lines bytes) out machine.new) }
-    ensures reads { IsErrOf result Fault.Reads → Moves (R.remaining reader.old) (R.remaining reader.new) (W.contents writer.old) (W.contents writer.new)
-        (λ bytes out. Told M.answers machine.old (complete_lines bytes) out machine.new) }
-    ensures writing { IsErrOf result Fault.Writing → Moves (R.remaining reader.old) (R.remaining reader.new) (W.contents writer.old) (W.contents writer.new)
-        (λ bytes out. IsToldInPart M.answers machine.old (all_lines bytes) out machine.new) }
-    ensures runtime { IsErrOf result Fault.Runtime → Moves (R.remaining reader.old) (R.remaining reader.new) (W.contents writer.old) (W.contents writer.new)
-        (λ bytes out. IsToldInPart M.answers machine.old (all_lines bytes) out machine.new) }
-    ensures halted { IsErrOf result Fault.Runtime → M.halts }
-    ensures ended { OnOk result (has_ended reads.new ≡ true) }
-    ensures read_failed { IsErrOf result Fault.Reading → has_read_failed reads.new ≡ true }
-    ensures no_more_reads { IsErrOf result Fault.Reads → reads_made reads.new ≡ 2 ^ 32 }
-    ensures write_failed { IsErrOf result Fault.Writing → has_write_failed writes.new ≡ true }
-{
-    for _ in 0..MAX_READS {
-        match reads.read(reader, piece)? {
-            Given::Bytes(count) => serve_piece(rt, &piece[..count], writer, writes, machine, desk)?,
-            Given::End => return finish(rt, writer, writes, machine, desk),
-            Given::Nothing => {}
-        }
-    }
-    Err(Fault::Reads)
 }
 
 /// Answers a last line with no line feed, if it has a byte.
@@ -155,7 +129,8 @@ fn serve_piece<H: AllocGlobal + Threads + Wait, W: Write, M: Machine>(
     requires { 64 ≤ vec_capacity desk.old.reply }
     ensures room { 64 ≤ vec_capacity desk.new.reply }
     ensures fault { IfErr result (IsReplyFault writes.new M.halts) }
-    ensures ok { OnOk result ((line : List ℕ) → Holds desk.old.begun line → Holds desk.new.begun (rest_from line piece.now)
+    ensures ok { OnOk result ((line : List ℕ) → Holds desk.old.begun line
+        → Holds desk.new.begun (rest_from line piece.now)
         × ((out : List ℕ) × Appends (W.contents writer.old) (W.contents writer.new) out
         × Told M.answers machine.old (complete_from line piece.now) out machine.new)) }
     ensures err { OnErr result ((line : List ℕ) → Holds desk.old.begun line → (out : List ℕ)
@@ -174,7 +149,8 @@ fn serve_piece<H: AllocGlobal + Threads + Wait, W: Write, M: Machine>(
 
 /// What stands before the first line feed, and behind it.
 fn split_line(bytes: &[u8]) -> Option<(&[u8], &[u8])>
-    ensures found { IfSome result (λ parts. (bytes.now ≡ parts.0.now ++ 10 ∷ parts.1.now) × All (λ byte. byte ≢ 10) parts.0.now) }
+    ensures found { IfSome result (λ parts. (bytes.now ≡ parts.0.now ++ 10 ∷ parts.1.now)
+        × All (λ byte. byte ≢ 10) parts.0.now) }
     ensures none { IfNone result (All (λ byte. byte ≢ 10) bytes.now) }
 {
     let at = first_feed(bytes)?;

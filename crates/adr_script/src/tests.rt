@@ -13,7 +13,7 @@ use std::sync::Wait;
 use std::test::Fail;
 use std::thread::Threads;
 
-/// Gives a line back behind a sign, which is a plus and a minus in turn. It finds no memory for the line `none`.
+/// Gives a line back behind a sign, a plus and a minus in turn. It finds no memory for `none`.
 #[derive(Drop)]
 struct Signs {
     plus: bool,
@@ -28,7 +28,8 @@ impl Model for Signs {
 }
 
 impl Machine for Signs {
-    ghost answers = { AnswersBy (λ plus line. (if plus then 43 else 45) ∷ line ++ 10 ∷ []) (λ plus _. not plus) };
+    ghost answers = { AnswersBy (λ plus line. (if plus then 43 else 45) ∷ line ++ 10 ∷ [])
+        (λ plus _. not plus) };
 
     ghost halts = { ⊥ };
 
@@ -55,13 +56,218 @@ fn tell_signs<R: Read, W: Write>(
     reader: &mut R,
     writer: &mut W,
 ) -> Result<(), Fault>
-    ensures ok { OnOk result (Moves (R.remaining reader.old) (R.remaining reader.new) (W.contents writer.old) (W.contents writer.new)
-        (λ bytes out. IsText (λ plus line. (if plus then 43 else 45) ∷ line ++ 10 ∷ []) (λ plus _. not plus) true (all_lines bytes) out)) }
-    ensures runtime { IsErrOf result Fault.Runtime → Keeps (R.remaining reader.old) (R.remaining reader.new)
+    ensures ok { OnOk result (Moves (R.remaining reader.old)
+        (R.remaining reader.new) (W.contents writer.old) (W.contents writer.new)
+        (λ bytes out. IsText (λ plus line. (if plus then 43 else 45) ∷ line ++ 10 ∷ [])
+        (λ plus _. not plus) true (all_lines bytes) out)) }
+    ensures runtime { IsErrOf result Fault.Runtime
+        → Keeps (R.remaining reader.old) (R.remaining reader.new)
         × Keeps (W.contents writer.old) (W.contents writer.new) }
 {
     let mut signs = Signs { plus: true };
     let mut reads = ReadLog::new();
     let mut writes = WriteLog::new();
     serve(rt, reader, &mut reads, writer, &mut writes, &mut signs)
+}
+
+/// Gives a line back, and finds no runtime for the line `gone`.
+#[derive(Drop)]
+struct Halting;
+
+impl Machine for Halting {
+    ghost answers = { λ _ line told _. told ≡ line ++ 10 ∷ [] };
+
+    ghost halts = { Unit {0} };
+
+    fn answer<H: AllocGlobal + Threads + Wait>(
+        &mut self,
+        _rt: &H,
+        line: &[u8],
+        reply: &mut Vec<u8>,
+    ) -> Result<(), Unanswered> {
+        if line == b"gone".as_slice() {
+            return Err(Unanswered::NoRuntime);
+        }
+        reply.extend_from_slice(line)?;
+        reply.push(b'\n')?;
+        Ok(())
+    }
+}
+
+/// Gives its bytes in pieces, and then fails or ends. Where it is interrupted, each read that gives
+/// something comes behind one that doesn't.
+#[derive(Drop)]
+struct Pieces<'a> {
+    rest: &'a [u8],
+    most: usize,
+    fails: bool,
+    interrupts: bool,
+    is_due: bool,
+}
+
+impl<'a> Pieces<'a> {
+    fn new(rest: &'a [u8], most: usize) -> Pieces<'a> {
+        Pieces {
+            rest,
+            most,
+            fails: false,
+            interrupts: false,
+            is_due: false,
+        }
+    }
+}
+
+impl Read for Pieces<'_> {
+    fn read(&mut self, buf: &mut [u8]) -> io::Result<usize> {
+        self.is_due = !self.is_due;
+        if self.interrupts && self.is_due {
+            return Err(io::Error::from(ErrorKind::Interrupted));
+        }
+        if self.rest.is_empty() && self.fails {
+            return Err(io::Error::from(ErrorKind::Other));
+        }
+        let count = self.rest.len().min(self.most).min(buf.len());
+        let (piece, rest) = self.rest.split_at(count);
+        for (to, from) in buf.iter_mut().zip(piece) {
+            *to = *from;
+        }
+        self.rest = rest;
+        Ok(count)
+    }
+}
+
+/// Takes at most so many bytes at a time, and so many in all; then it fails, or takes none.
+#[derive(Drop)]
+struct Sink {
+    taken: Vec<u8>,
+    most: usize,
+    room: usize,
+    fails: bool,
+}
+
+impl Sink {
+    fn new(rt: &impl AllocGlobal, most: usize, room: usize, fails: bool) -> Sink {
+        Sink {
+            taken: Vec::new(rt.alloc()),
+            most,
+            room,
+            fails,
+        }
+    }
+}
+
+impl Write for Sink {
+    fn write(&mut self, buf: &[u8]) -> io::Result<usize> {
+        let count = buf.len().min(self.most).min(self.room);
+        if count == 0 && self.fails {
+            return Err(io::Error::from(ErrorKind::Other));
+        }
+        self.taken.extend_from_slice(&buf[..count])?;
+        self.room -= count;
+        Ok(count)
+    }
+
+    fn flush(&mut self) -> io::Result<()> {
+        Ok(())
+    }
+}
+
+const SCRIPT: &[u8] = b"a\n\r\nb\r\r\nnone\nnone\r\ncd\n\n\re";
+
+const TEXT: &[u8] = b"+a\n-\n+b\r\nrefused 99 NoMemory\nrefused 99 NoMemory\n-cd\n+\n-\re\n";
+
+#[test]
+fn answers_in_any_pieces(rt: HostRuntime) -> Result<(), Fail> {
+    for most in [1, 3, 65_536] {
+        for interrupts in [false, true] {
+            let mut reader = Pieces::new(SCRIPT, most);
+            reader.interrupts = interrupts;
+            let mut writer = Sink::new(&rt, 1, 1000, false);
+            tell_signs(&rt, &mut reader, &mut writer)?;
+            assert!(rt; writer.taken.as_slice() == TEXT);
+        }
+    }
+    Ok(())
+}
+
+#[test]
+fn answers_complete_lines_before_a_fault(rt: HostRuntime) -> Result<(), Fail> {
+    let mut reader = Pieces::new(SCRIPT, 4);
+    reader.fails = true;
+    let mut writer = Sink::new(&rt, 100, 1000, false);
+    assert!(rt; tell_signs(&rt, &mut reader, &mut writer) == Err(Fault::Reading));
+    assert!(rt; TEXT.starts_with(writer.taken.as_slice()));
+    assert!(rt; writer.taken.len() + b"-\re\n".len() == TEXT.len());
+    Ok(())
+}
+
+#[test]
+fn stops_at_a_failed_write(rt: HostRuntime) -> Result<(), Fail> {
+    for room in 0..TEXT.len() {
+        for fails in [false, true] {
+            let mut reader = SCRIPT;
+            let mut writer = Sink::new(&rt, 7, room, fails);
+            assert!(rt; tell_signs(&rt, &mut reader, &mut writer) == Err(Fault::Writing));
+            assert!(rt; TEXT.starts_with(writer.taken.as_slice()));
+            assert!(rt; writer.taken.len() == room);
+        }
+    }
+    Ok(())
+}
+
+#[test]
+fn refuses_long_lines(rt: HostRuntime) -> Result<(), Fail> {
+    let alloc = rt.alloc();
+    let longest = vec![in alloc; b'x'; 4_194_304]?;
+    let mut script = longest.clone()?;
+    script.extend_from_slice(b"\n")?;
+    script.extend_from_slice(&longest)?;
+    script.extend_from_slice(b"\r\n")?;
+    script.extend_from_slice(&longest[1..])?;
+    script.extend_from_slice(b"\r\ny")?;
+    let mut text = Vec::new(alloc);
+    text.push(b'+')?;
+    text.extend_from_slice(&longest)?;
+    text.extend_from_slice(b"\nrefused 1 LongLine\n-")?;
+    text.extend_from_slice(&longest[1..])?;
+    text.extend_from_slice(b"\n+y\n")?;
+    let mut reader = script.as_slice();
+    let mut writer = Vec::new(alloc);
+    tell_signs(&rt, &mut reader, &mut writer)?;
+    assert!(rt; writer.as_slice() == text.as_slice());
+    Ok(())
+}
+
+#[test]
+fn ends_with_the_runtime(rt: HostRuntime) -> Result<(), Fail> {
+    let mut reader = Pieces::new(b"a\nb\ngone\nc\n", 65_536);
+    let mut writer = Sink::new(&rt, 100, 1000, false);
+    let mut reads = ReadLog::new();
+    let mut writes = WriteLog::new();
+    let outcome = serve(
+        &rt,
+        &mut reader,
+        &mut reads,
+        &mut writer,
+        &mut writes,
+        &mut Halting,
+    );
+    assert!(rt; outcome == Err(Fault::Runtime));
+    assert!(rt; writer.taken.as_slice() == b"a\nb\n".as_slice());
+    Ok(())
+}
+
+#[test]
+fn tells_faults(rt: HostRuntime) -> Result<(), Fail> {
+    assert!(rt; status(&Ok(())) == 0);
+    for (fault, text) in [
+        (Fault::Reading, "reading failed"),
+        (Fault::Reads, "too many reads"),
+        (Fault::Writing, "writing failed"),
+        (Fault::Runtime, "no runtime"),
+    ] {
+        assert!(rt; format!(in rt.alloc(); "{fault}")?.as_str() == text);
+        assert!(rt; status(&Err(fault)) == 1);
+    }
+    Ok(())
 }

@@ -4,8 +4,8 @@ use Rattle.std.proofs.lemmas.Result.{on_ok_weaker, IfErr-at_err}
 use Rattle.adr_script.specs.Begun.{Holds}
 use Rattle.adr_script.proofs.Cutting.{rest-append}
 use Rattle.adr_script.proofs.ReadsLemmas.{moves_all, moves_short, moves_cut, told_piece}
-use Rattle.adr_script.proofs.reading.serve_reads.Goals as goal
-use Rattle.adr_script.proofs.reading.serve_reads.Goals.{in-Bytes+in_ok-serve_piece-in-Bytes, in-Nothing}
+use Rattle.adr_script.proofs.reading.serve.Goals as goal
+use Rattle.adr_script.proofs.reading.serve.Goals.{in-Bytes+in_ok-serve_piece-in-Bytes, in-Nothing}
 
 pub returns-in_err-serve_piece-in-Bytes-clause-writing : goal.returns-in_err-serve_piece-in-Bytes-clause-writing
 returns-in_err-serve_piece-in-Bytes-clause-writing g c = λ _.

@@ -4,7 +4,7 @@ use Rattle.adr_script.specs.Begun.{Holds}
 use Rattle.adr_script.specs.Lines.{complete_from, rest_from}
 use Rattle.adr_script.specs.Logs.{reads_made}
 use Rattle.adr_script.specs.Script.{Told}
-use Rattle.adr_script.proofs.reading.serve_reads.Given as goal
+use Rattle.adr_script.proofs.reading.serve.Given as goal
 
 -- the lines that are complete so far are answered
 abbrev pub invariant-loop : goal.invariant-loop
