@@ -1,3 +1,4 @@
+pub mod BodyLemmas
 pub mod NumbersLemmas
 pub mod PowerLemmas
 pub mod ReadLemmas

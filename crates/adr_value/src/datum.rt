@@ -1,3 +1,4 @@
+//! Single values, and whether a payload's values have the shape of its type.
 ghost use Rattle.std.specs.Prelude.{◌≡◌, ◌↔◌, IsTrue, Ok, Err, if◌then◌else◌};
 ghost use Rattle.std.specs.List.{list_all};
 ghost use Rattle.adr_value.specs.Copy.{IsCopyOf};
@@ -37,7 +38,7 @@ impl Datum {
         }
     }
 
-    /// A value equal to this one, which takes no growth.
+    /// A value equal to this one, which takes no growth, as `Text::copy`.
     pub fn copy(&self) -> Result<Datum, Refusal>
         ensures { IsCopyOf result self.now }
     {
@@ -102,7 +103,7 @@ fn all_points(values: &[Datum]) -> bool
 }
 
 impl Shape {
-    /// Whether values have this shape.
+    /// Whether values have this shape. One pass over them.
     pub fn fits(self, values: &[Datum]) -> bool
         ensures { result ≡ has_shape self values.now }
     {
@@ -117,7 +118,7 @@ impl Shape {
 }
 
 impl PayloadType {
-    /// Whether values have the shape of the type: `BadShape` where they haven't.
+    /// Ok where values have the shape of the type, else `BadShape`.
     pub fn check(&self, values: &[Datum]) -> Result<(), Refusal>
         ensures { result ≡ (if has_shape (shape_of self.now) values.now then Ok tt else Err Refusal.BadShape) }
     {

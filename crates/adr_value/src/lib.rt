@@ -2,9 +2,9 @@
 //! forget the memory behind them.
 #![tactic(auto)]
 
-mod judging;
 mod datum;
 mod decimal;
+mod judging;
 mod list;
 mod parts;
 mod payload;
@@ -15,13 +15,13 @@ mod spelling;
 mod text;
 mod try_clone;
 
-pub use judging::{Faults, both};
 pub use datum::Datum;
 pub use decimal::Decimal;
+pub use judging::{Faults, both, fault_laws};
 pub use list::BoundedVec;
 pub use payload::{PayloadType, PrivateName, Shape, payload_laws};
 pub use refusal::{Refusal, refusal_laws};
-pub use shielding::shield;
+pub use shielding::{shield, shield_laws};
 pub use text::{Name, Text};
 pub use try_clone::TryClone;
 

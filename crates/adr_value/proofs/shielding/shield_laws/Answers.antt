@@ -1,0 +1,8 @@
+use Rattle.adr_value.proofs.BodyLemmas.{bodies_are_cut, pieces_are_shielded}
+use Rattle.adr_value.proofs.shielding.shield_laws.Goals as goal
+
+pub returns-clause-cut : goal.returns-clause-cut
+returns-clause-cut c = bodies_are_cut
+
+pub returns-clause-shielded : goal.returns-clause-shielded
+returns-clause-shielded c = pieces_are_shielded
