@@ -11,11 +11,8 @@ use Rattle.adr_value.specs.Body.{Letter, Plain, Escaped, letter_bytes, letters_b
 use Rattle.adr_value.specs.Shield.{longer, tells_nul, text_tail, split, names_member, quoted, starts_run, is_run_byte, first, first_text, first_run, shield_by, shield_of}
 use Rattle.adr_value.specs.Spelling.{◌>>=◌}
 use Rattle.adr_value.specs.Value.{number_of}
+use Rattle.adr_value.proofs.PrefixLemmas.{both_true, prefix_len-front}
 use Rattle.adr_value.proofs.ShieldLemmas.{shield_by-nil}
-
-both_true : (a b : Bool) → (a && b) ≡ true → (a ≡ true) × (b ≡ true)
-both_true true b e = (refl, e)
-both_true false b e = absurd cc
 
 not_true : (a : Bool) → not a ≡ true → a ≡ false
 not_true true e = absurd cc
@@ -124,14 +121,6 @@ first-of_text letters end rest good ends =
     (ap text_tail (append_assoc (letters_bytes letters) end rest) ∙ letters-tail (end ++ rest) (length end) t.0 t.1 letters good)
     ∙ chosen-text (has_nul letters) (length (letters_bytes letters) + length end) text rest (omega (arith, count))
 
-run-len : (run rest : List ℕ) → list_all is_run_byte run ≡ true → begins is_run_byte rest ≡ false → prefix_len is_run_byte (run ++ rest) ≡ length run
-run-len [] [] all stop = refl
-run-len [] (c ∷ rest) all stop = rw stop refl
-run-len (c ∷ run) rest all stop =
-    let p = both_true (is_run_byte c) (list_all is_run_byte run) all in
-    let next = run-len run rest p.1 stop in
-    rw p.0 (omega (arith, next))
-
 starts-no_quote : (c : ℕ) → starts_run c ≡ true → (c == 34) ≡ false
 starts-no_quote c e = elim (eqb_tells c 34) [
   | inl q ↦ absurd (let n : starts_run 34 ≡ true = sym (ap starts_run q.1) ∙ e in cc)
@@ -149,7 +138,7 @@ first-of_run (c ∷ run) rest starts all stop =
     let text = (c ∷ run) ++ rest in
     first-starts c (run ++ rest) starts
     ∙ ap (λ n. if is_none (number_of (take n text)) || names_member (drop n text) then None else Some (quoted (take n text), drop n text))
-    (run-len (c ∷ run) rest all stop)
+    (prefix_len-front is_run_byte (c ∷ run) rest all stop)
     ∙ ap (λ p. if is_none (number_of p.0) || names_member p.1 then None else Some (quoted p.0, p.1)) (split-seam (length (c ∷ run)) (c ∷ run) rest refl)
 
 first-of_other : (c : ℕ) (rest : List ℕ) → (c == 34) ≡ false → starts_run c ≡ false → first (c ∷ rest) ≡ Some (c ∷ [], rest)

@@ -19,6 +19,7 @@ pub use datum::Datum;
 pub use decimal::Decimal;
 pub use judging::{Faults, both, fault_laws};
 pub use list::BoundedVec;
+pub use print::decimal_laws;
 pub use payload::{PayloadType, PrivateName, Shape, payload_laws};
 pub use refusal::{Refusal, refusal_laws};
 pub use shielding::{shield, shield_laws};

@@ -1,4 +1,4 @@
-use crate::{Decimal, Refusal};
+use crate::{Decimal, Refusal, decimal_laws};
 use std::test::Fail;
 
 fn is(text: &str, coefficient: i128, scale: u8) -> bool {
@@ -114,5 +114,6 @@ fn decimals_are_printed(rt: HostRuntime) -> Result<(), Fail> {
         let shown = Decimal::read(text)?.to_string(rt.alloc())?;
         assert!(rt; shown.as_str() == want, "{text}");
     }
+    decimal_laws();
     Ok(())
 }
