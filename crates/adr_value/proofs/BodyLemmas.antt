@@ -1,20 +1,20 @@
 -- The shield goes along the pieces of a body.
-use Rattle.std.proofs.Common.{◌≡◌, ◌⊎◌, ◌∙◌, ℕ, zero, suc, ◌+◌, ◌<◌, ◌≤◌, ◌==◌, ◌&&◌, ◌||◌, not, Bool, true, false, List, [], ◌∷◌, ◌++◌, length, take, drop, refl, sym, ap, subst, arith, Option, Some, None, if◌then◌else◌, inl, inr, append-nil, append_assoc, length-append, length-drop}
+use Rattle.std.proofs.Common.{◌≡◌, ◌∙◌, ℕ, zero, suc, ◌+◌, ◌<◌, ◌≤◌, ◌==◌, ◌&&◌, ◌||◌, not, Bool, true, false, List, [], ◌∷◌, ◌++◌, length, take, drop, refl, sym, ap, subst, arith, Option, Some, None, if◌then◌else◌, inl, inr, append-nil, append_assoc, length-append, length-drop}
 use Rattle.std.proofs.Math.Seq.{take-append_seam, drop-append_seam}
 use Rattle.std.proofs.lemmas.List.{take-append-drop}
 use Rattle.std.proofs.lemmas.Bool.{cases_Bool}
 use Rattle.std.proofs.lemmas.Bool.Decides.{nat_tests, eqb_tells}
 use Rattle.std.specs.Prelude.{codes, is_none, nat_eq}
-use Rattle.std.specs.List.{flat_map, list_all, prefix_len, starts_with}
+use Rattle.std.specs.List.{list_all, prefix_len, starts_with}
 use Rattle.std.specs.Option.{option_map}
-use Rattle.adr_value.specs.Body.{Letter, Plain, Escaped, letter_bytes, letters_bytes, is_letter, has_nul, Piece, Text, Number, Other, piece_bytes, joined, EndsText, begins, IsPiece, ArePieces, IsCutInto, is_bad, some_bad, shielded_piece, shielded, BodiesAreCut, PiecesAreShielded}
+use Rattle.adr_value.specs.Body.{Letter, Plain, Escaped, letters_bytes, is_letter, has_nul, Piece, Text, Number, Other, piece_bytes, joined, EndsText, begins, IsPiece, ArePieces, IsCutInto, is_bad, some_bad, shielded_piece, shielded, BodiesAreCut, PiecesAreShielded}
 use Rattle.adr_value.specs.Shield.{longer, tells_nul, text_tail, split, names_member, quoted, starts_run, is_run_byte, first, first_text, first_run, shield_by, shield_of}
 use Rattle.adr_value.specs.Spelling.{◌>>=◌}
 use Rattle.adr_value.specs.Value.{number_of}
 use Rattle.adr_value.proofs.PrefixLemmas.{both_true, prefix_len-front}
 use Rattle.adr_value.proofs.ShieldLemmas.{shield_by-nil}
 
-not_true : (a : Bool) → not a ≡ true → a ≡ false
+pub not_true : (a : Bool) → not a ≡ true → a ≡ false
 not_true true e = absurd cc
 not_true false e = refl
 
@@ -121,7 +121,7 @@ first-of_text letters end rest good ends =
     (ap text_tail (append_assoc (letters_bytes letters) end rest) ∙ letters-tail (end ++ rest) (length end) t.0 t.1 letters good)
     ∙ chosen-text (has_nul letters) (length (letters_bytes letters) + length end) text rest (omega (arith, count))
 
-starts-no_quote : (c : ℕ) → starts_run c ≡ true → (c == 34) ≡ false
+pub starts-no_quote : (c : ℕ) → starts_run c ≡ true → (c == 34) ≡ false
 starts-no_quote c e = elim (eqb_tells c 34) [
   | inl q ↦ absurd (let n : starts_run 34 ≡ true = sym (ap starts_run q.1) ∙ e in cc)
   | inr nq ↦ nq.0
@@ -151,7 +151,7 @@ first-of_piece (Text letters end) rest h = first-of_text letters end rest h.0 h.
 first-of_piece (Number run) rest h = first-of_run run rest h.0 h.1 h.2
 first-of_piece (Other c) rest h = first-of_other c rest h.0 h.1
 
-some-bytes : (p : Piece) (rest : List ℕ) → IsPiece p rest → 0 < length (piece_bytes p)
+pub some-bytes : (p : Piece) (rest : List ℕ) → IsPiece p rest → 0 < length (piece_bytes p)
 some-bytes (Text letters end) rest h = omega arith
 some-bytes (Number []) rest h = absurd (let e = h.0 in cc)
 some-bytes (Number (c ∷ run)) rest h = omega arith

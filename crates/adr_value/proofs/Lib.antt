@@ -1,6 +1,7 @@
 pub mod BodyLemmas
 pub mod Judged
 pub mod NumbersLemmas
+pub mod OneCutLemmas
 pub mod PayloadTable
 pub mod PowerLemmas
 pub mod PrefixLemmas

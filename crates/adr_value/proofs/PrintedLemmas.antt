@@ -1,9 +1,9 @@
 -- The text of a decimal spells it.
-use Rattle.std.proofs.Common.{◌≡◌, ◌∙◌, ℕ, zero, suc, ◌+◌, ◌-◌, ◌*◌, ◌/◌, ◌%◌, ◌^◌, ◌<◌, ◌≤◌, ◌==◌, ◌&&◌, Bool, true, false, List, [], ◌∷◌, ◌++◌, length, take, drop, get_or, refl, sym, ap, subst, arith, Option, Some, None, if◌then◌else◌, inl, inr, ℤ, pos, append-nil, append_assoc, length-append, nat_lt}
+use Rattle.std.proofs.Common.{◌≡◌, ◌∙◌, ℕ, zero, suc, ◌+◌, ◌-◌, ◌*◌, ◌/◌, ◌%◌, ◌^◌, ◌<◌, ◌≤◌, ◌==◌, ◌&&◌, Bool, true, false, List, [], ◌∷◌, ◌++◌, length, get_or, refl, sym, ap, arith, Some, inl, inr, ℤ, pos, append-nil, append_assoc, length-append, nat_lt}
 use Rattle.std.specs.Prelude.{codes, unsigned_abs, int_lt, negsuc, replicate, slice_index}
 use Rattle.std.specs.Char.{is_ascii_digit}
 use Rattle.std.specs.Fmt.{decimal, sign_text}
-use Rattle.std.specs.List.{list_all, prefix_len}
+use Rattle.std.specs.List.{list_all}
 use Rattle.std.proofs.Math.Dec.{leb-suc-zero}
 use Rattle.std.proofs.Math.ListN.{get_or-append}
 use Rattle.std.proofs.Math.Nat.{div-le_self, mod-lt}
@@ -13,11 +13,12 @@ use Rattle.std.proofs.lemmas.Bool.Decides.{nat_tests, eqb_tells}
 use Rattle.std.proofs.lemmas.Fmt.{decimal_by_steps_wide, length-decimal-le_wide}
 use Rattle.std.proofs.lemmas.List.Folds.{list_all-append}
 use Rattle.std.proofs.lemmas.Nat.{div-add-mod'}
+use Rattle.std.proofs.lemmas.Option.{same_Some}
 use Rattle.adr_value.specs.Body.{begins}
 use Rattle.adr_value.specs.Number.{Number}
-use Rattle.adr_value.specs.Spelling.{Spelling, spelling, digits, minus, whole, fraction, exponent, full, ◌>>=◌}
-use Rattle.adr_value.specs.Text.{fraction_text, number_text, places_text}
-use Rattle.adr_value.specs.Value.{value_after, digits_value, up, down, signed, HasValue, IsCanonical, Spells, number_of}
+use Rattle.adr_value.specs.Spelling.{Spelling, spelling, digits, minus, whole, fraction}
+use Rattle.adr_value.specs.Text.{fraction_text, number_text, places_text, HasSameValue, TextsReadBack, ValuesHaveOneForm}
+use Rattle.adr_value.specs.Value.{value_after, digits_value, up, down, signed, IsCanonical, Spells}
 use Rattle.adr_value.proofs.PowerLemmas.{pow-positive}
 use Rattle.adr_value.proofs.PrefixLemmas.{both_true, prefix_len-front}
 use Rattle.adr_value.proofs.ReadLemmas.{spells-number}
@@ -185,8 +186,17 @@ value-printed size scale ds places w f count =
     value_after-append 0 ds places ∙ value_after-shift (digits_value ds) places
     ∙ rw (w, f, count) (div-add-mod' size (10 ^ scale))
 
-pub text-spells : (n : Number) → IsCanonical n → Spells (number_text n) n
-text-spells n canonical =
+-- the parts of a decimal's text, and what they come to
+record IsPrinted (n : Number) : Type 0 where
+  parts : Spelling
+  spelled : spelling (number_text n) ≡ Some parts
+  sign : parts.negative ≡ int_lt n.coefficient (pos 0)
+  power : up parts ≡ 0
+  places : down parts ≡ n.scale
+  size : digits_value (parts.whole ++ parts.fraction) ≡ unsigned_abs n.coefficient
+
+text-printed : (n : Number) → IsCanonical n → IsPrinted n
+text-printed n canonical =
     let size = unsigned_abs n.coefficient in
     let negative = int_lt n.coefficient (pos 0) in
     let below = div-le_self size (10 ^ n.scale) in
@@ -195,19 +205,36 @@ text-spells n canonical =
     let f = fraction-is n.scale size small in
     let ds = decimal (size / 10 ^ n.scale) in
     let rest = fraction_text n.scale size in
-    let value = value-printed size n.scale ds f.places w.value f.value f.count in
     record {
       parts = printed negative ds f.places;
       spelled = spelling-printed negative (ds ++ rest) ds f.places rest (number_text n)
           (ap minus (append_assoc (sign_text negative) ds rest) ∙ minus-sign negative (ds ++ rest) (begins-front ds rest w.some w.all))
           (whole-front (size / 10 ^ n.scale) ds rest w f.stop) f.read;
-      value = record {
-        sign = sign-back n.coefficient;
-        value = ap (λ k. size * 10 ^ k) (let e : length f.places + 0 ≡ 0 + n.scale = omega (arith, f.count) in e)
-            ∙ ap (λ v. v * 10 ^ (0 + n.scale)) (sym value);
-      };
-      canonical = canonical;
+      sign = refl;
+      power = refl;
+      places = omega (arith, f.count);
+      size = value-printed size n.scale ds f.places w.value f.value f.count;
     }
 
-pub texts_read_back : (n : Number) → IsCanonical n → number_of (number_text n) ≡ Some n
-texts_read_back n canonical = spells-number (number_text n) n (text-spells n canonical)
+-- the text of a decimal spells each canonical decimal of its value
+text-spells : (n m : Number) → IsCanonical n → IsCanonical m → HasSameValue n m → Spells (number_text n) m
+text-spells n m canonical other same =
+    let t = text-printed n canonical in
+    record {
+      parts = t.parts;
+      spelled = t.spelled;
+      value = record {
+        sign = sign-back m.coefficient ∙ ap (λ b. signed b (unsigned_abs m.coefficient)) (sym same.sign ∙ sym t.sign);
+        value = ap (λ k. unsigned_abs m.coefficient * 10 ^ k) t.places ∙ sym same.value
+            ∙ ap (λ v. v * 10 ^ m.scale) (sym t.size)
+            ∙ ap (λ k. digits_value (t.parts.whole ++ t.parts.fraction) * 10 ^ k) (let e : m.scale ≡ up t.parts + m.scale = omega (arith, t.power) in e);
+      };
+      canonical = other;
+    }
+
+pub texts_read_back : TextsReadBack
+texts_read_back n canonical = spells-number (number_text n) n (text-spells n n canonical canonical (record { sign = refl; value = refl }))
+
+pub values_have_one_form : ValuesHaveOneForm
+values_have_one_form n m canonical other same =
+    same_Some n m (sym (texts_read_back n canonical) ∙ spells-number (number_text n) m (text-spells n m canonical other same))

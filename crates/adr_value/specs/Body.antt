@@ -1,5 +1,5 @@
 -- A body as one sequence of pieces, and what the shield makes of each.
-use Rattle.std.specs.Prelude.{ℕ, ◌≡◌, ◌⊎◌, ◌&&◌, ◌||◌, ◌==◌, not, Bool, true, false, List, [], ◌∷◌, ◌++◌, Option, Some, None, is_none, if◌then◌else◌}
+use Rattle.std.specs.Prelude.{ℕ, ◌≡◌, ◌⊎◌, ◌&&◌, ◌||◌, ◌==◌, not, Bool, true, false, List, [], ◌∷◌, ◌++◌, Some, None, is_none, if◌then◌else◌}
 use Rattle.std.specs.List.{flat_map, list_all}
 use Rattle.adr_value.specs.Shield.{is_run_byte, names_member, quoted, shield_of, starts_run, tells_nul}
 use Rattle.adr_value.specs.Value.{number_of}
@@ -91,7 +91,11 @@ shielded pieces = flat_map shielded_piece pieces
 abbrev pub BodiesAreCut : Type 0
 BodiesAreCut = (body : List ℕ) → (pieces : List Piece) × IsCutInto body pieces
 
--- and whatever the pieces are, the shielded body is theirs, and it is refused just where one of them is bad
+-- and of one only
+abbrev pub CutsAreOne : Type 0
+CutsAreOne = (body : List ℕ) (ps qs : List Piece) → IsCutInto body ps → IsCutInto body qs → ps ≡ qs
+
+-- the shielded body is that of its pieces, and it is refused just where one of them is bad
 abbrev pub PiecesAreShielded : Type 0
 PiecesAreShielded = (body : List ℕ) (pieces : List Piece) → IsCutInto body pieces
     → shield_of body ≡ (if some_bad pieces then None else Some (shielded pieces))

@@ -15,8 +15,11 @@ use crate::try_clone::TryClone;
 /// One value of a payload or a target.
 #[derive(Drop, Debug)]
 pub enum Datum {
+    /// A number, by its exact value.
     Number(Decimal),
+    /// A text, perhaps empty.
     Text(Text),
+    /// A truth value.
     Truth(bool),
     /// A point of a curve: x, then y.
     Point(Decimal, Decimal),

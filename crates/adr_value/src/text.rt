@@ -26,7 +26,7 @@ impl Model for Text {
 }
 
 impl Text {
-    /// The text with these characters, in one growth. `NoMemory` where there is no room for them.
+    /// The text with these characters. `NoMemory` where there is no room for them.
     pub fn new(alloc: Global, text: &str) -> Result<Text, Refusal>
         ensures { IsCopyOf result text.now }
     {
@@ -42,7 +42,7 @@ impl Text {
         self.text.as_str()
     }
 
-    /// The same text, which takes no growth. `NoMemory` only where 2^63 copies or so share it already.
+    /// The same text, which takes no growth. `NoMemory` only where the count of its sharers is full.
     pub fn copy(&self) -> Result<Text, Refusal>
         ensures { IsCopyOf result self.now }
     {
@@ -91,7 +91,7 @@ impl Name {
         1 <= count && count <= 128
     }
 
-    /// The name with these characters, in one growth. `NoMemory` where there is no room for them.
+    /// The name with these characters. `NoMemory` where there is no room for them.
     pub fn new(alloc: Global, text: &str) -> Result<Name, Refusal>
         requires { IsTrue (is_name text.now) }
         ensures { IsCopyOf result text.now }
