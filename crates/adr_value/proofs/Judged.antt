@@ -1,5 +1,5 @@
 -- The least of a set of faults, by numbers and as a member.
-use Rattle.std.proofs.Common.{◌≡◌, ℕ, zero, suc, ◌<◌, ◌≤◌, min, List, [], ◌∷◌, ◌++◌, length, get_or, refl, sym, ap, ◌∙◌, arith, lit≤, ltb, leb, true, false, Bool, cond}
+use Rattle.std.proofs.Common.{◌≡◌, ℕ, zero, suc, ◌<◌, ◌≤◌, min, List, [], ◌∷◌, ◌++◌, length, get_or, refl, sym, ap, ◌∙◌, arith, lit≤, ltb, true, false, Bool, cond}
 use Rattle.std.proofs.Common.{inl, inr, subst}
 use Rattle.adr_value.proofs.Refusals.{number_of-injective}
 use Rattle.std.proofs.lemmas.Bool.{cases_lt}
@@ -7,7 +7,7 @@ use borrow.Author.Tests.{ltb-true}
 use Rattle.std.specs.Prelude.{All, Contains, Result, Ok, Err, Option, Some, None, ◌⊎◌, nat_le}
 use borrow.Author.Tests.{leb-true, leb-false}
 use Rattle.adr_value.specs.Answer.{Answers}
-use Rattle.adr_value.specs.Faults.{none, least, least_of, least_fault, lesser, lesser_of, unless_refused, judged, IsLeast, Gives, IsRefusedFor}
+use Rattle.adr_value.specs.Faults.{none, least, least_of, least_fault, lesser_of, unless_refused, judged, IsLeast, Gives, IsRefusedFor}
 use Rattle.adr_value.specs.Refusal.{number_of}
 use Rattle.adr_value.specs.declared.refusal.Refusal.{Refusal}
 use Rattle.adr_value.specs.declared.refusal.Refusal.TheVariants.{NoMemory}

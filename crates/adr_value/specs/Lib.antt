@@ -1,4 +1,5 @@
 pub mod Answer
+pub mod Body
 pub mod Copy
 pub mod Digits
 pub mod Faults

@@ -7,6 +7,7 @@ use Rattle.std.specs.Str.{chars}
 abbrev pub is_name : List ℕ → Bool
 is_name text = nat_le 1 (length (chars text)) && nat_le (length (chars text)) 128
 
+-- the names of the 34 types
 abbrev pub names : List (List ℕ)
 names =
     codes "SIMPLE" ∷
@@ -45,5 +46,6 @@ names =
     codes "CTA2045_SET_OVERRIDE_STATUS" ∷
     []
 
+-- the text is one of them
 abbrev pub is_table_name : List ℕ → Bool
 is_table_name text = list_any (bytes_eq text) names

@@ -8,6 +8,7 @@ use Rattle.adr_value.specs.declared.payload.Shape.TheVariants.{Whole, Amount, Po
 use Rattle.adr_value.specs.declared.payload.PayloadType.{PayloadType}
 use Rattle.adr_value.specs.declared.payload.PayloadType.TheVariants.{Simple, Price, ChargeStateSetpoint, DispatchSetpoint, DispatchSetpointRelative, ControlSetpoint, ExportPrice, Ghg, Curve, Ols, ImportCapacitySubscription, ImportCapacityReservation, ImportCapacityReservationFee, ImportCapacityAvailable, ImportCapacityAvailablePrice, ExportCapacitySubscription, ExportCapacityReservation, ExportCapacityReservationFee, ExportCapacityAvailable, ExportCapacityAvailablePrice, ImportCapacityLimit, ExportCapacityLimit, AlertGridEmergency, AlertBlackStart, AlertPossibleOutage, AlertFlexAlert, AlertFire, AlertFreezing, AlertWind, AlertTsunami, AlertAirQuality, AlertOther, Cta2045Reboot, Cta2045SetOverrideStatus, Private}
 
+-- a type with its place, its name and the shape of its values
 pub record Row : Type 0 where
   pub case : PayloadType
   pub code : ℕ
@@ -17,6 +18,7 @@ pub record Row : Type 0 where
 abbrev pub row : PayloadType → ℕ → List ℕ → Shape → Row
 row p c n s = record { case = p; code = c; name = n; shape = s }
 
+-- the 34 types of the profile
 abbrev pub table : List Row
 table =
     row Simple 0 (codes "SIMPLE") Whole ∷
@@ -63,9 +65,11 @@ type_of text = unwrap_or (option_map (λ r. r.case) (find (λ r. bytes_eq text r
 abbrev pub type_named : List ℕ → Result PayloadType Refusal
 type_named text = if is_name text then Ok (type_of text) else Err BadText
 
+-- the type at a place of the table
 abbrev pub of_code : ℕ → Option PayloadType
 of_code code = option_map (λ r. r.case) (find (λ r. code == r.code) table)
 
+-- the place of a type, or 34 for a private one
 abbrev pub code_of : PayloadType → ℕ
 code_of Simple = 0
 code_of Price = 1
@@ -107,6 +111,7 @@ code_of (Private text) = 34
 abbrev pub row_of : PayloadType → Option Row
 row_of p = find (λ r. code_of p == r.code) table
 
+-- the name of a type
 abbrev pub name_of : PayloadType → List ℕ
 name_of Simple = codes "SIMPLE"
 name_of Price = codes "PRICE"
@@ -144,6 +149,7 @@ name_of Cta2045Reboot = codes "CTA2045_REBOOT"
 name_of Cta2045SetOverrideStatus = codes "CTA2045_SET_OVERRIDE_STATUS"
 name_of (Private text) = text
 
+-- what a type's values must be: anything, for a private one
 abbrev pub shape_of : PayloadType → Shape
 shape_of Simple = Whole
 shape_of Price = Amount
@@ -191,9 +197,11 @@ row_again r = row r.case (code_of r.case) (name_of r.case) (shape_of r.case)
 abbrev pub RowsAgree : Type 0
 RowsAgree = map row_again table ≡ table
 
+-- the type of a name has that name
 abbrev pub NamesReturn : Type 0
 NamesReturn = (x : List ℕ) → name_of (type_of x) ≡ x
 
+-- the code of a type of the table gives back the type
 abbrev pub CodesReturn : Type 0
 CodesReturn = (p : PayloadType) → code_of p < 34 → of_code (code_of p) ≡ Some p
 

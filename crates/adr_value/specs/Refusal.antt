@@ -71,6 +71,7 @@ name_of UnknownResource = codes "UnknownResource"
 name_of NoRuntime = codes "NoRuntime"
 name_of NoMemory = codes "NoMemory"
 
+-- all of them
 abbrev pub refusals : List Refusal
 refusals =
     LongLine ∷

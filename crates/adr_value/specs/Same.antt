@@ -1,5 +1,5 @@
 -- When two values or two payload types are the same.
-use Rattle.std.specs.Prelude.{ℕ, ◌==◌, ◌&&◌, Bool, true, false, List}
+use Rattle.std.specs.Prelude.{◌==◌, ◌&&◌, Bool, true, false}
 use Rattle.std.specs.Ordering.{int_eq}
 use Rattle.std.specs.Str.{bytes_eq}
 use Rattle.adr_value.specs.Number.{Number as Decimal}
@@ -12,6 +12,7 @@ use Rattle.adr_value.specs.declared.payload.PayloadType.{PayloadType}
 abbrev pub same_type : PayloadType → PayloadType → Bool
 same_type a b = bytes_eq (name_of a) (name_of b)
 
+-- two decimals are the same where their forms are
 abbrev pub same_decimal : Decimal → Decimal → Bool
 same_decimal a b = int_eq a.coefficient b.coefficient && (a.scale == b.scale)
 

@@ -1,13 +1,12 @@
 -- What the values of a payload type must be.
-use Rattle.std.specs.Prelude.{ℕ, pos, ◌==◌, ◌&&◌, not, Bool, true, false, List, [], ◌∷◌, length}
-use Rattle.std.specs.Ordering.{int_eq}
-use Rattle.std.specs.Prelude.{int_le}
+use Rattle.std.specs.Prelude.{pos, int_le, ◌==◌, ◌&&◌, not, Bool, true, false, List, [], ◌∷◌, length}
 use Rattle.std.specs.List.{list_all}
 use Rattle.adr_value.specs.declared.datum.Datum.{Datum}
 use Rattle.adr_value.specs.declared.datum.Datum.TheVariants.{Number, Text, Truth, Point}
 use Rattle.adr_value.specs.declared.payload.Shape.{Shape}
 use Rattle.adr_value.specs.declared.payload.Shape.TheVariants.{Whole, Amount, Points, Notes, Any}
 
+-- which case a value is
 abbrev pub is_number : Datum → Bool
 is_number (Number n) = true
 is_number (Text t) = false
@@ -33,6 +32,7 @@ is_whole (Text t) = false
 is_whole (Truth b) = false
 is_whole (Point x y) = false
 
+-- there is a first value, and it is whole
 abbrev pub starts_whole : List Datum → Bool
 starts_whole [] = false
 starts_whole (v ∷ vs) = is_whole v

@@ -1,3 +1,4 @@
+//! Single values, and whether a payload's values have the shape of its type.
 ghost use Rattle.std.specs.Prelude.{◌≡◌, ◌↔◌, IsTrue, Ok, Err, if◌then◌else◌};
 ghost use Rattle.std.specs.List.{list_all};
 ghost use Rattle.adr_value.specs.Copy.{IsCopyOf};
@@ -14,8 +15,11 @@ use crate::try_clone::TryClone;
 /// One value of a payload or a target.
 #[derive(Drop, Debug)]
 pub enum Datum {
+    /// A number, by its exact value.
     Number(Decimal),
+    /// A text, perhaps empty.
     Text(Text),
+    /// A truth value.
     Truth(bool),
     /// A point of a curve: x, then y.
     Point(Decimal, Decimal),
@@ -37,7 +41,7 @@ impl Datum {
         }
     }
 
-    /// A value equal to this one, which takes no growth.
+    /// A value equal to this one, which takes no growth, as `Text::copy`.
     pub fn copy(&self) -> Result<Datum, Refusal>
         ensures { IsCopyOf result self.now }
     {
@@ -102,7 +106,7 @@ fn all_points(values: &[Datum]) -> bool
 }
 
 impl Shape {
-    /// Whether values have this shape.
+    /// Whether values have this shape. One pass over them.
     pub fn fits(self, values: &[Datum]) -> bool
         ensures { result ≡ has_shape self values.now }
     {
@@ -117,7 +121,7 @@ impl Shape {
 }
 
 impl PayloadType {
-    /// Whether values have the shape of the type: `BadShape` where they haven't.
+    /// Ok where values have the shape of the type, else `BadShape`.
     pub fn check(&self, values: &[Datum]) -> Result<(), Refusal>
         ensures { result ≡ (if has_shape (shape_of self.now) values.now then Ok tt else Err Refusal.BadShape) }
     {

@@ -1,12 +1,28 @@
+//! The least of a set of faults.
+//!
+//! Where several things are wrong with one input, the fault of the least number is answered, so a reader
+//! looks at every part before it answers. It keeps each part as a `Result` of its own, and joins them by
+//! `both` in place of leaving at the first `?`:
+//!
+//! ```text
+//! let name = read_name(body);
+//! let targets = read_targets(body);
+//! let (name, targets) = both(name, targets)?;
+//! ```
+//!
+//! Where the parts are elements of a list, it makes a `Faults`, passes it each fault by `note`, and ends
+//! with `answer`. Want of memory is no fault of the input: both hand it on at once.
 ghost use Rattle.std.specs.Prelude.{◌≡◌, ◌≢◌, List, ◌++◌, IfOk, IfErr, OnOk, ℕ, min};
-ghost use Rattle.adr_value.specs.Faults.{Gives, IsRefusedFor, none, least};
+ghost use Rattle.adr_value.specs.Faults.{Gives, IsRefusedFor, LeastIsLeast, NoneIsNone, none, least};
 ghost use Rattle.adr_value.specs.Refusal.{number_of};
 ghost use Rattle.adr_value.specs.declared.refusal.Refusal.{Refusal};
 
-use std::marker::Model;
 use crate::refusal::Refusal;
+use std::marker::Model;
 
-/// The least fault so far: contracts see its number, or 100 where there is none.
+/// The least of the faults that were noted so far.
+///
+/// Contracts see its number, or 100 where there is none.
 pub struct Faults {
     least: Option<Refusal>,
 }
@@ -27,13 +43,14 @@ impl Drop for Faults {
 }
 
 impl Faults {
+    /// No faults yet.
     pub fn new() -> Faults
         ensures { result ≡ none }
     {
         Faults { least: None }
     }
 
-    /// Want of memory is no fault: it is handed back.
+    /// Adds a fault. `NoMemory` is none: it is handed back, for the caller's `?`, and nothing is noted.
     pub fn note(&mut self, refusal: Refusal) -> Result<(), Refusal>
         ensures noted { OnOk result (self.new ≡ min self.old (number_of refusal)) }
         ensures fault { OnOk result (number_of refusal ≢ 99) }
@@ -49,7 +66,7 @@ impl Faults {
         Ok(())
     }
 
-    /// The value where there is no fault, else the least.
+    /// The value where no fault was noted, else the least fault.
     pub fn answer<T: Drop>(self, value: T) -> Result<T, Refusal>
         ensures value { IfOk result (λ v. (v ≡ value) × (self ≡ none)) }
         ensures refused { IfErr result (λ f. number_of f ≡ self) }
@@ -61,7 +78,7 @@ impl Faults {
     }
 }
 
-/// The lesser of two refusals. Want of memory goes before each fault.
+// The lesser of two refusals. Want of memory goes before each fault.
 fn lesser(first: Refusal, second: Refusal) -> Refusal
     ensures { (m n : ℕ) → IsRefusedFor first m → IsRefusedFor second n
         → IsRefusedFor result (min m n) }
@@ -75,7 +92,10 @@ fn lesser(first: Refusal, second: Refusal) -> Refusal
     }
 }
 
-/// Both values, or the lesser of the two refusals.
+/// Both values, or the refusal of the lesser number; `NoMemory` goes before each other.
+///
+/// If each part answers its value or the least of its own faults, the whole answers both values or the least
+/// of all the faults.
 pub fn both<A: Drop, B: Drop>(
     first: Result<A, Refusal>,
     second: Result<B, Refusal>,
@@ -94,3 +114,10 @@ pub fn both<A: Drop, B: Drop>(
     };
     Ok((first, second?))
 }
+
+/// The laws of the least fault: `least_fault` answers a member of the list that is no greater than any other,
+/// and nothing only for the empty list.
+pub fn fault_laws()
+    ensures least { LeastIsLeast }
+    ensures none { NoneIsNone }
+{}

@@ -1,10 +1,10 @@
-//! What every layer shares: refusals, exact decimals, payload types, and texts and lists whose contracts
-//! forget the memory behind them.
+//! What every layer shares: refusals, exact decimals, the shield that keeps numbers exact through a reader of
+//! JSON, payload types and their values, and texts and lists whose contracts forget the memory behind them.
 #![tactic(auto)]
 
-mod judging;
 mod datum;
 mod decimal;
+mod judging;
 mod list;
 mod parts;
 mod payload;
@@ -15,13 +15,14 @@ mod spelling;
 mod text;
 mod try_clone;
 
-pub use judging::{Faults, both};
 pub use datum::Datum;
 pub use decimal::Decimal;
+pub use judging::{Faults, both, fault_laws};
 pub use list::BoundedVec;
 pub use payload::{PayloadType, PrivateName, Shape, payload_laws};
+pub use print::decimal_laws;
 pub use refusal::{Refusal, refusal_laws};
-pub use shielding::shield;
+pub use shielding::{shield, shield_laws};
 pub use text::{Name, Text};
 pub use try_clone::TryClone;
 

@@ -1,8 +1,10 @@
-ghost use Rattle.std.specs.Prelude.{◌≡◌, ◌≤◌, length};
+//! Lists with a limit on their length.
+ghost use Rattle.std.specs.Prelude.{◌≡◌, ◌≤◌, ◌==◌, [], length};
 ghost use Rattle.adr_value.specs.Copy.{IsCopyOf};
 
 use crate::refusal::Refusal;
 use crate::try_clone::TryClone;
+use std::alloc::Global;
 use std::marker::Model;
 
 /// A list of at most `LIMIT` elements, which contracts see as its elements in order.
@@ -22,6 +24,15 @@ impl<T, const LIMIT: usize> Model for BoundedVec<T, LIMIT> {
 }
 
 impl<T, const LIMIT: usize> BoundedVec<T, LIMIT> {
+    /// The empty list. It takes no memory before it is added to.
+    pub fn new(alloc: Global) -> BoundedVec<T, LIMIT>
+        ensures { result ≡ [] }
+    {
+        BoundedVec {
+            items: Vec::new(alloc),
+        }
+    }
+
     /// The list of these elements, with no memory taken.
     pub fn from_vec(items: Vec<T>) -> BoundedVec<T, LIMIT>
         requires { length items.items ≤ LIMIT }
@@ -30,7 +41,7 @@ impl<T, const LIMIT: usize> BoundedVec<T, LIMIT> {
         BoundedVec { items }
     }
 
-    /// The elements.
+    /// The elements, in order.
     pub fn as_slice(&self) -> &[T]
         ensures value { result.now ≡ self.now }
         ensures limit { length self.now ≤ LIMIT }
@@ -46,7 +57,14 @@ impl<T, const LIMIT: usize> BoundedVec<T, LIMIT> {
         self.items.len()
     }
 
-    /// The vector itself, with no memory taken.
+    /// Whether there are no elements.
+    pub fn is_empty(&self) -> bool
+        ensures { result ≡ (length self.now == 0) }
+    {
+        self.items.is_empty()
+    }
+
+    /// The vector of the elements, with no memory taken.
     pub fn into_vec(self) -> Vec<T>
         ensures { result.items ≡ self }
     {
@@ -55,7 +73,8 @@ impl<T, const LIMIT: usize> BoundedVec<T, LIMIT> {
 }
 
 impl<T: TryClone, const LIMIT: usize> BoundedVec<T, LIMIT> {
-    /// A list equal to this one.
+    /// A list equal to this one, with a copy of each element. `NoMemory` where there is no room for it: one
+    /// growth for the list, and what the copies of the elements take.
     pub fn copy(&self) -> Result<BoundedVec<T, LIMIT>, Refusal>
         ensures { IsCopyOf result self.now }
     {

@@ -1,3 +1,4 @@
+//! The types of payloads, and the one table that their names, codes and shapes come from.
 ghost use Rattle.std.specs.Prelude.{◌≡◌, IfOk, IfErr, false, true, IsTrue, Result, Ok, Err, not, ◌&&◌, cond};
 ghost use Rattle.std.specs.List.{list_all};
 ghost use Rattle.adr_value.specs.Answer.{Answers};
@@ -11,7 +12,7 @@ use crate::try_clone::TryClone;
 use std::alloc::Global;
 use std::marker::Model;
 
-/// What the values of a payload type must be.
+/// What the values of a payload type must be. `Shape::fits` is the test.
 #[derive(Clone, Copy, Debug, PartialEq, Eq)]
 pub enum Shape {
     /// At least one value, the first a whole number of at least 0.
@@ -63,7 +64,7 @@ impl PrivateName {
         self.name.as_str()
     }
 
-    /// The same name, which takes no growth.
+    /// The same name, which takes no growth, as `Text::copy`.
     pub fn copy(&self) -> Result<PrivateName, Refusal>
         ensures { IsCopyOf result self.now }
     {
@@ -73,7 +74,7 @@ impl PrivateName {
     }
 }
 
-/// The type of a payload: one of the table, or a private one.
+/// The type of a payload: one of the 34 of the table, in the table's order, or a private one.
 #[derive(Drop, Debug)]
 pub enum PayloadType {
     Simple,
@@ -110,6 +111,7 @@ pub enum PayloadType {
     AlertOther,
     Cta2045Reboot,
     Cta2045SetOverrideStatus,
+    /// A type with a name that the table hasn't.
     Private(PrivateName),
 }
 
@@ -195,8 +197,8 @@ macro_rules! payload_table {
 impl PayloadType {
     ghost use Rattle.adr_value.specs.Payload.{name_of, code_of, of_code, shape_of};
 
-    /// The type of a name. `BadText` for a name that has not 1 to 128 characters, `NoMemory` where there is no
-    /// room for a private one.
+    /// The type of a name; case counts. `BadText` for a name that has not 1 to 128 characters, `NoMemory` where
+    /// there is no room for a private one.
     pub fn type_of(alloc: Global, text: &str) -> Result<PayloadType, Refusal>
         ensures { Answers result (type_named text.now) }
     {
@@ -213,7 +215,7 @@ impl PayloadType {
         payload_table!(type_of(text, other, private(alloc, other)))
     }
 
-    /// The name that bodies and scripts know the type by.
+    /// The name that bodies and scripts know the type by, which `type_of` reads back.
     pub fn name(&self) -> &str
         ensures { result.now ≡ name_of self.now }
     {
@@ -241,7 +243,7 @@ impl PayloadType {
         payload_table!(shape(self))
     }
 
-    /// The same type, which takes no growth.
+    /// The same type, which takes no growth, as `Text::copy`.
     pub fn copy(&self) -> Result<PayloadType, Refusal>
         ensures { IsCopyOf result self.now }
     {

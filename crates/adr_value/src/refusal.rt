@@ -1,3 +1,4 @@
+//! Why a call is refused.
 ghost use Rattle.std.specs.Prelude.{◌≡◌, Some};
 ghost use Rattle.adr_value.specs.Refusal.{number_of, name_of, of_number};
 ghost use Rattle.adr_value.specs.declared.refusal.Refusal.{Refusal as AnyRefusal};
@@ -6,7 +7,10 @@ use std::alloc::{AllocError, AllocFailed};
 use std::fmt;
 use std::fmt::{Display, Formatter, Write};
 
-/// Why a line, an edit or a call is refused. Where several hold, the one of the least number is answered.
+/// Why a line, an edit or a call is refused.
+///
+/// Where several of 1 to 29 hold, the one of the least number is answered. 98 and 99 are no faults of the
+/// input: the same call may do better later.
 #[derive(Clone, Copy, Debug, PartialEq, Eq)]
 pub enum Refusal {
     /// A line of more than 4,194,304 bytes, its line feed not counted.
@@ -81,7 +85,7 @@ impl Refusal {
         self as u8
     }
 
-    /// The name that is printed beside the number.
+    /// The name that is printed beside the number, as `BadText`.
     pub fn name(self) -> &'static str
         ensures { result.now ≡ name_of self }
     {
@@ -126,21 +130,19 @@ impl Display for Refusal {
 
     ghost output = { λ r. Some (decimal (number_of r) ++ codes " " ++ name_of r) };
 
-    /// `12 BadText`
+    /// The number and the name, as `12 BadText`.
     fn fmt<W: Write>(&self, f: &mut Formatter<W>) -> fmt::Result {
         write!(f, "{} {}", self.number(), self.name())
     }
 }
 
-/// No two refusals have one number.
+/// The law of the numbers: each gives back its refusal, so no two refusals have one.
 pub fn refusal_laws()
     ensures { (r : AnyRefusal) → of_number (number_of r) ≡ Some r }
 {}
 
 impl From<AllocError> for Refusal {
-    ghost use Rattle.std.specs.Prelude.{◌≡◌, Some};
-ghost use Rattle.adr_value.specs.Refusal.{number_of, name_of, of_number};
-ghost use Rattle.adr_value.specs.declared.refusal.Refusal.{Refusal as AnyRefusal};
+    ghost use Rattle.std.specs.Prelude.{◌≡◌};
     ghost use Rattle.adr_value.specs.declared.refusal.Refusal.TheVariants.{NoMemory};
 
     ghost from_gives = { λ _ e. e ≡ NoMemory };
@@ -151,9 +153,7 @@ ghost use Rattle.adr_value.specs.declared.refusal.Refusal.{Refusal as AnyRefusal
 }
 
 impl<T: Drop> From<AllocFailed<T>> for Refusal {
-    ghost use Rattle.std.specs.Prelude.{◌≡◌, Some};
-ghost use Rattle.adr_value.specs.Refusal.{number_of, name_of, of_number};
-ghost use Rattle.adr_value.specs.declared.refusal.Refusal.{Refusal as AnyRefusal};
+    ghost use Rattle.std.specs.Prelude.{◌≡◌};
     ghost use Rattle.adr_value.specs.declared.refusal.Refusal.TheVariants.{NoMemory};
 
     ghost from_gives = { λ _ e. e ≡ NoMemory };

@@ -1,3 +1,4 @@
+//! Texts that share their memory with their copies.
 ghost use Rattle.std.specs.Prelude.{◌≡◌, IfOk, IfErr, IsTrue, ◌↔◌, length};
 ghost use Rattle.std.specs.Str.{chars};
 ghost use Rattle.adr_value.specs.Copy.{IsCopyOf};
@@ -9,7 +10,7 @@ use std::alloc::Global;
 use std::marker::Model;
 use std::sync::ArcStr;
 
-/// A text that contracts see as its bytes. Its copies share one memory.
+/// A text of any length, which contracts see as its UTF-8 bytes. Its copies share one memory.
 #[derive(Drop, Debug)]
 pub struct Text {
     text: ArcStr,
@@ -34,14 +35,14 @@ impl Text {
         })
     }
 
-    /// The text's characters.
+    /// The characters.
     pub fn as_str(&self) -> &str
         ensures { result.now ≡ self.now }
     {
         self.text.as_str()
     }
 
-    /// The same text, which takes no growth.
+    /// The same text, which takes no growth. `NoMemory` only where the count of its sharers is full.
     pub fn copy(&self) -> Result<Text, Refusal>
         ensures { IsCopyOf result self.now }
     {
@@ -57,14 +58,14 @@ impl TryClone for Text {
     }
 }
 
-/// How many Unicode scalar values a text has.
+// How many Unicode scalar values a text has.
 fn char_count(text: &str) -> usize
     ensures { result ≡ length (chars text.now) }
 {
     text.chars().count()
 }
 
-/// A text of 1 to 128 characters. Its copies share one memory.
+/// A text of 1 to 128 characters (Unicode scalar values). Its copies share one memory.
 #[derive(Drop, Debug)]
 pub struct Name {
     text: Text,
@@ -82,7 +83,7 @@ impl Model for Name {
 }
 
 impl Name {
-    /// Whether a text has 1 to 128 characters.
+    /// Whether a text has 1 to 128 characters, as `new` requires.
     pub fn fits(text: &str) -> bool
         ensures { result ≡ is_name text.now }
     {
@@ -100,7 +101,7 @@ impl Name {
         })
     }
 
-    /// The name's characters.
+    /// The characters.
     pub fn as_str(&self) -> &str
         ensures value { result.now ≡ self.now }
         ensures limit { IsTrue (is_name self.now) }
@@ -108,7 +109,7 @@ impl Name {
         self.text.as_str()
     }
 
-    /// The same name, which takes no growth.
+    /// The same name, which takes no growth, as `Text::copy`.
     pub fn copy(&self) -> Result<Name, Refusal>
         ensures { IsCopyOf result self.now }
     {
