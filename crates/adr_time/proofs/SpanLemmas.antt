@@ -6,7 +6,7 @@ use Rattle.jiff_core.proofs.SignedLemmas.{signed_arith}
 use Rattle.adr_time.specs.declared.span.End.{End}
 use Rattle.adr_time.specs.declared.span.End.TheVariants.{At, Endless}
 use Rattle.adr_time.specs.declared.span.Span.{Span}
-use Rattle.adr_time.specs.Spans.{IsBefore, is_before, Covers, Meets, meets}
+use Rattle.adr_time.specs.Spans.{IsBefore, is_before, Meets, meets}
 
 is_before-true : (t : ℤ) (e : End) → is_before t e ≡ true → IsBefore t e
 is_before-true t (At end) h = grind (arith, ints)
