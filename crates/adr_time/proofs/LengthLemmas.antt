@@ -1,11 +1,15 @@
 -- The span of a list of magnitudes is the span that was read.
-use Rattle.std.proofs.Common.{◌≡◌, ◌≤◌, ◌<◌, ◌+◌, false, IsTrue, sym}
+use Rattle.std.proofs.Common.{◌≡◌, ℕ, ◌≤◌, ◌<◌, ◌+◌, Bool, true, false, if◌then◌else◌, IsTrue, List, Result, Ok, Err, IfOk, refl, sym}
 use Rattle.std.proofs.Props.{props}
 use Rattle.std.proofs.Math.Nat.{min-eq_left}
 use mathlib.Core.HLevel.{is_prop→PathP}
 use Rattle.jiff_core.specs.declared.span.Span.{Span}
+use Rattle.jiff_core.specs.declared.error.Error.{Error}
+use Rattle.jiff_fmt.specs.Temporal.{parse_span}
 use Rattle.jiff_fmt.specs.Units.{signed_magnitudes}
-use Rattle.adr_time.specs.Lengths.{span_of}
+use Rattle.adr_value.specs.declared.refusal.Refusal.TheVariants.{NegativeDuration}
+use Rattle.adr_time.specs.declared.length.Length.TheVariants.{Of, Endless}
+use Rattle.adr_time.specs.Lengths.{IsForward, NamesForward, length_named, length_of_read, span_of}
 
 -- a span that is not below zero is that of its magnitudes
 pub span_of_magnitudes : (s : Span) → s.negative ≡ false → span_of (signed_magnitudes s) ≡ s
@@ -47,3 +51,19 @@ span_of_magnitudes s up =
       nanoseconds_in = is_prop→PathP (λ j. nanoseconds j ≤ 9_223_372_036_854_775_807) (λ j. hlevel props) made.nanoseconds_in s.nanoseconds_in i;
       zero_has_no_sign = is_prop→PathP (λ j. IsTrue (negative j) → 0 < years j + months j + weeks j + days j + hours j + minutes j + seconds j + milliseconds j + microseconds j + nanoseconds j) (λ j. hlevel props) made.zero_has_no_sign s.zero_has_no_sign i;
     }
+
+forward_chosen : (below endless : Bool) (parts : List ℕ)
+    → IfOk (if below then Err NegativeDuration else (if endless then Ok Endless else Ok (Of (span_of parts)))) IsForward
+unfolding span_of
+forward_chosen true endless parts = tt
+forward_chosen false true parts = tt
+forward_chosen false false parts = refl
+
+forward_read : (r : Result (List ℕ) Error) → IfOk (length_of_read r) IsForward
+forward_read (Ok parts) = forward_chosen _ _ parts
+forward_read (Err e) = tt
+
+-- what a text names is not below zero
+pub names_forward : NamesForward
+unfolding length_named
+names_forward text = forward_read (parse_span text)

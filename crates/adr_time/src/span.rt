@@ -2,32 +2,39 @@
 ghost use Rattle.std.specs.Prelude.{◌≡◌, ◌↔◌, IsTrue, false};
 ghost use Rattle.adr_time.specs.Calendar.{is_in_range_sum, is_moment, sum_in_utc};
 ghost use Rattle.adr_time.specs.Ends.{NeedsOnlyItsSum, end_after, moment_after};
-ghost use Rattle.adr_time.specs.Spans.{Covers, covers as span_covers, meets as span_meets};
+ghost use Rattle.adr_time.specs.Spans.{Covers, Meets, covers as span_covers, meets as span_meets};
 
 use crate::{Length, Moment};
 use adr_value::Refusal;
 use jiff::tz::TimeZone;
 
-/// When something ends.
+/// When something ends: at a moment, which is no longer part of it, or never.
 #[derive(Clone, Copy, PartialEq, Eq, Debug)]
 pub enum End {
+    /// At this moment.
     At(Moment),
+    /// Never.
     Endless,
 }
 
-/// From the start, up to but not including the end.
+/// The time from a start, which it covers, up to an end, which it does not.
+///
+/// A span whose end is not after its start covers nothing.
 #[derive(Clone, Copy, PartialEq, Eq, Debug)]
 pub struct Span {
+    /// The first moment that is covered.
     pub start: Moment,
+    /// The end, which is not covered.
     pub end: End,
 }
 
 impl Moment {
-    ghost use Rattle.adr_time.specs.Spans.{is_before as lies_before};
+    ghost use Rattle.adr_time.specs.Spans.{IsBefore, is_before as lies_before};
 
     /// Whether the moment comes before the end.
     pub fn is_before(self, end: End) -> bool
-        ensures { result ≡ lies_before self end }
+        ensures test { result ≡ lies_before self end }
+        ensures meaning { IsTrue result ↔ IsBefore self end }
     {
         match end {
             End::At(end) => self < end,
@@ -44,9 +51,11 @@ pub fn covers(span: &Span, moment: Moment) -> bool
     span.start <= moment && moment.is_before(span.end)
 }
 
-/// Whether some instant is covered by both spans.
+/// Whether some moment lies in both spans. Spans that only touch share none.
+#[tactic(auto, using(crate::proofs::SpanLemmas::meets_meaning))]
 pub fn meets(a: &Span, b: &Span) -> bool
-    ensures { result ≡ span_meets a.now b.now }
+    ensures test { result ≡ span_meets a.now b.now }
+    ensures meaning { IsTrue result ↔ Meets a.now b.now }
 {
     a.start.is_before(a.end)
         && b.start.is_before(b.end)
@@ -66,8 +75,11 @@ fn after(start: Moment, span: jiff::Span) -> Result<Moment, Refusal>
     }
 }
 
-/// The end of what starts then and lasts that long: the sum in UTC, where a day has 24 hours and
-/// a month that lacks the day takes its last.
+/// The end of what starts then and lasts that long: the sum on the calendar of UTC (ISO 8601,
+/// proleptic Gregorian), `TimeRange` outside the range of a `Moment`.
+///
+/// Years and months come first, and a month that has no such day takes its last; then weeks and
+/// days, of 24 hours each; then the rest.
 pub fn end_of(start: Moment, length: &Length) -> Result<End, Refusal>
     ensures value { result ≡ end_after start length.now }
     ensures forward { NeedsOnlyItsSum start length.now }
