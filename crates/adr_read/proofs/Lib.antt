@@ -1,0 +1,3 @@
+pub mod Reading
+pub mod ListLemmas
+pub mod TextLemmas
