@@ -7,6 +7,7 @@ mod kinds;
 mod lists;
 mod member;
 mod object;
+mod period;
 mod read;
 
-pub use read::{read_program, read_resource, read_ven};
+pub use read::{read_event, read_program, read_resource, read_ven};

@@ -53,7 +53,7 @@ fn typed_values<K: Read>(
 ) -> Result<(K, Values), Refusal>
     ensures { let d = view value.now in Gives result
         (of_object d (required K.faults (member_at (codes "type") d)
-            ++ required (list_faults 256 datum_faults) (member_at (codes "values") d)))
+        ++ required (list_faults 256 datum_faults) (member_at (codes "values") d)))
         (K.stands_for context.now (the (codes "type") d), values_in d) }
 {
     if !value.is_object() {
