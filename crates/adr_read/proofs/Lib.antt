@@ -1,0 +1,4 @@
+pub mod Reading
+pub mod ListLemmas
+pub mod TextLemmas
+pub mod StartLemmas

@@ -1,0 +1,13 @@
+//! Objects from JSON bodies: the object that a body spells, or the least of its faults.
+#![tactic(auto)]
+
+mod body;
+mod element;
+mod kinds;
+mod lists;
+mod member;
+mod object;
+mod period;
+mod read;
+
+pub use read::{read_event, read_program, read_resource, read_ven};
