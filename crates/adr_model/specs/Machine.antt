@@ -1,5 +1,5 @@
 -- The machine of one editor and many readers.
-use Rattle.std.specs.Prelude.{◌≡◌, ℕ, ◌+◌, ◌-◌, ◌≤◌, max, List, [], ◌∷◌, ◌++◌, length, Result, Ok, Err, Option, Some, None, slice_index, slice_set, if◌then◌else◌, nat_lt}
+use Rattle.std.specs.Prelude.{◌≡◌, ℕ, ◌+◌, ◌-◌, ◌≤◌, max, List, [], ◌∷◌, ◌++◌, length, Result, Ok, Err, Option, Some, None, slice_index, get_or, slice_set, if◌then◌else◌, nat_lt}
 use Rattle.adr_value.specs.declared.refusal.Refusal.{Refusal}
 use Rattle.adr_value.specs.declared.refusal.Refusal.TheVariants.{Full}
 use Rattle.adr_object.specs.declared.object.Edit.{Edit}
@@ -18,6 +18,10 @@ start seen = record { journal = []; published = [] ∷ []; seen = seen }
 
 abbrev pub last_number : State → ℕ
 last_number s = length s.published - 1
+
+-- the journal that was published last
+abbrev pub last_journal : State → List Edit
+last_journal s = get_or s.published (last_number s) []
 
 abbrev pub most_publications : ℕ
 most_publications = 1000000
