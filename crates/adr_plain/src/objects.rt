@@ -1,4 +1,4 @@
-ghost use Rattle.std.specs.Prelude.{◌≡◌, ◌++◌, ◌∷◌, [], ◌<◌, ◌^◌, OnOk, OnErr, IfErr, length, is_some};
+ghost use Rattle.std.specs.Prelude.{◌≡◌, ◌++◌, ◌∷◌, [], ◌<◌, ◌≤◌, ◌^◌, OnOk, OnErr, IfErr, length, is_some};
 ghost use Rattle.std.specs.Option.{option_copied};
 ghost use Rattle.adr_value.specs.Answer.{result_map};
 ghost use Rattle.adr_value.specs.Copy.{IsCopyOf};
@@ -23,11 +23,14 @@ pub struct Objects {
 }
 
 impl Model for Objects {
+    ghost use Rattle.std.specs.Prelude.{◌≤◌};
     ghost use Rattle.adr_model.specs.Book.{Book};
 
     ghost Value = { Book };
 
     ghost view = { λ o. record { version = o.version; programs = o.programs.items; vens = o.vens.items; resources = o.resources.items; events = o.events.items } };
+
+    ghost invariant = { λ o. o.version ≤ 1000000 };
 }
 
 fn copy_all<T: TryClone>(items: &Vec<T>) -> Result<Vec<T>, Refusal>
@@ -69,7 +72,8 @@ impl Objects {
 
     /// The number of accepted edits.
     pub fn version(&self) -> u64
-        ensures { result ≡ self.now.version }
+        ensures value { result ≡ self.now.version }
+        ensures bound { result ≤ 1000000 }
     {
         self.version
     }

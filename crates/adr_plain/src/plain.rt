@@ -2,7 +2,7 @@ ghost use Rattle.std.specs.Prelude.{◌≡◌, ◌+◌, ◌++◌, ◌⊎◌, ◌
 ghost use Rattle.adr_value.specs.Answer.{Answers, result_map};
 ghost use Rattle.adr_value.specs.declared.refusal.Refusal.TheVariants.{NoMemory, Full};
 ghost use Rattle.adr_object.specs.declared.object.Edit.TheVariants.{Create};
-ghost use Rattle.adr_model.specs.Book.{empty};
+ghost use Rattle.adr_plain.specs.Kept.{kept_start};
 ghost use Rattle.adr_model.specs.Edits.{step};
 ghost use Rattle.adr_model.specs.Answer.{at, at_text, shown, until};
 ghost use Rattle.adr_model.specs.Machine.{most_publications};
@@ -48,9 +48,7 @@ impl Model for Plain {
 impl Plain {
     /// No objects, published as number 0.
     pub fn new(alloc: Global) -> Plain
-        ensures current { result.current ≡ empty }
-        ensures published { result.published ≡ empty }
-        ensures number { result.number ≡ 0 }
+        ensures { result ≡ kept_start }
     {
         Plain {
             current: Objects::new(alloc),
@@ -65,6 +63,7 @@ impl Plain {
     /// `Exists`, `NoProgram`, `NoVen`, `Full`. `NoMemory` may come in place of any answer. A refusal changes nothing.
     pub fn create(&mut self, object: Object) -> Result<u64, Refusal>
         ensures ok { IfOk result (λ version. (step self.old.current (Create object) ≡ Ok self.new.current) × (version ≡ self.new.current.version)) }
+        ensures bound { IfOk result (λ version. version ≤ 1000000) }
         ensures kept { OnOk result ((self.new.published ≡ self.old.published) × (self.new.number ≡ self.old.number)) }
         ensures refused { IfErr result (λ refusal. (refusal ≡ NoMemory) ⊎ (step self.old.current (Create object) ≡ Err refusal)) }
         ensures unchanged { OnErr result (self.new ≡ self.old) }
@@ -79,6 +78,7 @@ impl Plain {
     pub fn publish(&mut self) -> Result<Published, Refusal>
         ensures ok { OnOk result ((self.old.number < most_publications)
             × (self.new ≡ record { current = self.old.current; published = self.old.current; number = self.old.number + 1 })) }
+        ensures bound { IfOk result (λ p. (p.number ≤ 1000000) × (p.version ≤ 1000000)) }
         ensures answer { IfOk result (λ p. (p.number ≡ self.old.number + 1) × (p.version ≡ self.old.current.version)) }
         ensures refused { IfErr result (λ refusal. (refusal ≡ NoMemory) ⊎ ((refusal ≡ Full) × (most_publications ≤ self.old.number))) }
         ensures unchanged { OnErr result (self.new ≡ self.old) }

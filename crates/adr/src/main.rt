@@ -1,0 +1,10 @@
+//! Answers a script from standard input on standard output: `adr run < script`.
+#![tactic(auto)]
+
+use adr_start::start_program;
+use std::io;
+use std::process::ExitCode;
+
+fn main(rt: HostRuntime) -> io::Result<ExitCode> {
+    start_program(&rt)
+}

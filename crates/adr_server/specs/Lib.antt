@@ -1,0 +1,5 @@
+pub mod Fields
+pub mod Kept
+pub mod Line
+pub mod Text
+pub mod Views

@@ -1,0 +1,12 @@
+use adr_object::{Edit, Id};
+use adr_time::Moment;
+use adr_value::PayloadType;
+
+/// What a line of the script asks for.
+#[derive(Drop)]
+pub enum Command {
+    Edit(Edit),
+    Publish,
+    /// What governs a resource for a payload type at a moment.
+    At(Id, PayloadType, Moment),
+}

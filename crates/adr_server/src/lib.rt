@@ -1,0 +1,15 @@
+#![tactic(auto)]
+//! The script: lines to commands, commands to replies, and a whole run over any reader and writer.
+
+mod command;
+mod fields;
+mod line;
+mod machine;
+mod program;
+mod replies;
+
+pub use adr_options::{Job, job};
+pub use adr_script::{Fault, status};
+pub use command::Command;
+pub use line::parse_line;
+pub use program::run;
