@@ -13,7 +13,7 @@
 //! Where the parts are elements of a list, it makes a `Faults`, passes it each fault by `note`, and ends
 //! with `answer`. Want of memory is no fault of the input: both hand it on at once.
 ghost use Rattle.std.specs.Prelude.{◌≡◌, ◌≢◌, List, ◌++◌, IfOk, IfErr, OnOk, ℕ, min};
-ghost use Rattle.adr_value.specs.Faults.{Gives, IsRefusedFor, LeastIsLeast, NoneIsNone, none, least};
+ghost use Rattle.adr_value.specs.Faults.{Gives, IsRefusedFor, LeastIsLeast, NoneIsNone, none};
 ghost use Rattle.adr_value.specs.Refusal.{number_of};
 ghost use Rattle.adr_value.specs.declared.refusal.Refusal.{Refusal};
 
@@ -23,6 +23,7 @@ use std::marker::Model;
 /// The least of the faults that were noted so far.
 ///
 /// Contracts see its number, or 100 where there is none.
+#[derive(Drop, Debug)]
 pub struct Faults {
     least: Option<Refusal>,
 }
@@ -34,12 +35,6 @@ impl Model for Faults {
     ghost Value = { ℕ };
 
     ghost view = { λ f. least_of f.least };
-}
-
-impl Drop for Faults {
-    fn drop(self) {
-        let Faults { least: _ } = self;
-    }
 }
 
 impl Faults {

@@ -1,6 +1,5 @@
 //! The types of payloads, and the one table that their names, codes and shapes come from.
-ghost use Rattle.std.specs.Prelude.{◌≡◌, IfOk, IfErr, false, true, IsTrue, Result, Ok, Err, not, ◌&&◌, cond};
-ghost use Rattle.std.specs.List.{list_all};
+ghost use Rattle.std.specs.Prelude.{◌≡◌, false, IsTrue};
 ghost use Rattle.adr_value.specs.Answer.{Answers};
 ghost use Rattle.adr_value.specs.Copy.{IsCopyOf};
 ghost use Rattle.adr_value.specs.Names.{is_name, is_table_name};
