@@ -22,6 +22,15 @@ pub(crate) struct Context {
     pub(crate) place: i64,
 }
 
+impl Context {
+    /// The whole body of an edit at that moment.
+    pub(crate) fn at(moment: Moment) -> Context
+        ensures { result.moment ≡ moment }
+    {
+        Context { moment, place: 0 }
+    }
+}
+
 /// What is read from a JSON value. A reading looks at the whole value and keeps its least fault; only want of memory
 /// ends it early.
 pub(crate) trait Read: Sized + Drop {

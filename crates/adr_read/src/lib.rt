@@ -9,5 +9,7 @@ mod member;
 mod object;
 mod period;
 mod read;
+#[cfg(test)]
+mod tests;
 
 pub use read::{read_event, read_program, read_resource, read_ven};

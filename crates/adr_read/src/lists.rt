@@ -11,7 +11,7 @@ use adr_value::{BoundedVec, Datum, Faults, Name, PayloadType, Refusal, both};
 use serde_json::Value;
 use std::alloc::Global;
 
-pub(crate) type Values = BoundedVec<Datum, 256>;
+type Values = BoundedVec<Datum, 256>;
 
 impl<T: Read, const LIMIT: usize> Read for BoundedVec<T, LIMIT> {
     ghost faults = { list_faults LIMIT T.faults };

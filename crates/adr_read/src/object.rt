@@ -14,9 +14,9 @@ use adr_value::{BoundedVec, Name, Refusal, Text, both};
 use serde_json::Value;
 use std::alloc::Global;
 
-pub(crate) type Targets = BoundedVec<Target, 64>;
+type Targets = BoundedVec<Target, 64>;
 
-pub(crate) type Intervals = BoundedVec<Interval, 4096>;
+type Intervals = BoundedVec<Interval, 4096>;
 
 /// A text member that has to be the wanted one where it is there.
 fn equal_at(object: &Value, name: &str, wanted: &str, refusal: Refusal) -> Result<(), Refusal>
@@ -33,7 +33,7 @@ fn equal_at(object: &Value, name: &str, wanted: &str, refusal: Refusal) -> Resul
 }
 
 /// The kind and the id that a body may name, which have to be those of its line.
-pub(crate) fn common(object: &Value, kind: &str, id: &Id) -> Result<(), Refusal>
+fn common(object: &Value, kind: &str, id: &Id) -> Result<(), Refusal>
     ensures { Gives result (common_faults kind.now id.now (view object.now)) tt }
 {
     let kind = equal_at(object, "objectType", kind, Refusal::WrongKind);
@@ -43,7 +43,7 @@ pub(crate) fn common(object: &Value, kind: &str, id: &Id) -> Result<(), Refusal>
 }
 
 /// The targets of an object, which may have none.
-pub(crate) fn targets(alloc: Global, context: &Context, object: &Value) -> Result<Targets, Refusal>
+fn targets(alloc: Global, context: &Context, object: &Value) -> Result<Targets, Refusal>
     ensures { Gives result (own_targets_faults (view object.now)) (own_targets (view object.now)) }
 {
     let targets = optional_at::<Targets>(alloc, context, object, "targets")?;

@@ -42,7 +42,7 @@ impl Read for Length {
     }
 }
 
-/// The start, the duration and the random part of a period.
+/// The start, the duration and the randomization of a period.
 fn period_members(
     alloc: Global,
     context: &Context,

@@ -20,15 +20,7 @@ pub fn read_program(alloc: Global, body: &[u8], id: &Id, now: Moment) -> Result<
     ensures { Answers result (program_named body.now id.now) }
 {
     let object = object_of(alloc, body)?;
-    program(
-        alloc,
-        &Context {
-            moment: now,
-            place: 0,
-        },
-        id,
-        &object,
-    )
+    program(alloc, &Context::at(now), id, &object)
 }
 
 /// The event (OpenADR 3.0 Definition, event) of a body on a line that names this id, in an edit at this moment, which a
@@ -38,15 +30,7 @@ pub fn read_event(alloc: Global, body: &[u8], id: &Id, now: Moment) -> Result<Ev
     ensures { Answers result (event_named now body.now id.now) }
 {
     let object = object_of(alloc, body)?;
-    event(
-        alloc,
-        &Context {
-            moment: now,
-            place: 0,
-        },
-        id,
-        &object,
-    )
+    event(alloc, &Context::at(now), id, &object)
 }
 
 /// The ven (OpenADR 3.0 Definition, ven) of a body on a line that names this id. The refusals are those of a program.
@@ -54,15 +38,7 @@ pub fn read_ven(alloc: Global, body: &[u8], id: &Id, now: Moment) -> Result<Ven,
     ensures { Answers result (ven_named body.now id.now) }
 {
     let object = object_of(alloc, body)?;
-    ven(
-        alloc,
-        &Context {
-            moment: now,
-            place: 0,
-        },
-        id,
-        &object,
-    )
+    ven(alloc, &Context::at(now), id, &object)
 }
 
 /// The resource (OpenADR 3.0 Definition, resource) of a body on a line that names this id. The refusals are those of a
@@ -71,13 +47,5 @@ pub fn read_resource(alloc: Global, body: &[u8], id: &Id, now: Moment) -> Result
     ensures { Answers result (resource_named body.now id.now) }
 {
     let object = object_of(alloc, body)?;
-    resource(
-        alloc,
-        &Context {
-            moment: now,
-            place: 0,
-        },
-        id,
-        &object,
-    )
+    resource(alloc, &Context::at(now), id, &object)
 }

@@ -9,7 +9,7 @@ use Rattle.adr_read.proofs.read.read_event.Goals as goal
 
 pub returns : goal.returns
 unfolding event_named
-returns c = object_answers c.event.result (object_named c.args.body.now) (view c.in_ok-object.object) (event_faults c.args.id.now) (event_in c.args.now c.args.id.now) c.in_ok-object.ensures c.event.ensures
+returns c = object_answers c.event.result (object_named c.args.body.now) (view c.in_ok-object.object) (event_faults c.args.id.now) (event_in c.args.now c.args.id.now) c.in_ok-object.ensures (rw c.at.ensures at c.event.ensures)
 
 pub returns-in_err-object : goal.returns-in_err-object
 unfolding event_named
