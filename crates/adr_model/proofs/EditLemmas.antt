@@ -1,5 +1,6 @@
 -- What an accepted and a refused edit do, and the book after one more edit.
-use Rattle.std.proofs.Common.{◌≡◌, ◌++◌, ◌∷◌, [], List, Option, Some, None, Result, Ok, Err, refl, ap, sym, ◌∙◌}
+use Rattle.std.proofs.Common.{◌≡◌, ◌++◌, ◌∷◌, [], List, Option, Some, None, Ok, fold, refl, ap, ◌∙◌}
+use Rattle.std.specs.Prelude.{⊤}
 use Rattle.std.proofs.lemmas.List.Sums.{fold_push}
 use Rattle.std.specs.Result.{result_unwrap_or}
 use Rattle.adr_value.specs.Faults.{least_fault, unless_refused, judged}
@@ -32,3 +33,25 @@ after_push edits x old new e s =
     after_one_more edits x
     ∙ ap (λ book. result_unwrap_or (step book x) book) e
     ∙ ap (λ r. result_unwrap_or r old) s
+
+-- a list of edits of which each meets no fault
+
+abbrev pub AllAccepted : Book → List Edit → Type 0
+AllAccepted book [] = ⊤
+AllAccepted book (x ∷ xs) = (faults book x ≡ []) × AllAccepted (made book x) xs
+
+step_faultless : (book : Book) (x : Edit) → faults book x ≡ [] → step book x ≡ Ok (made book x)
+unfolding step least_fault
+step_faultless book x h = ap (λ fs. judged fs (made book x)) h
+
+fold_faultless : (edits : List Edit) (book : Book) → AllAccepted book edits
+    → fold (λ b x. result_unwrap_or (step b x) b) book edits ≡ fold made book edits
+fold_faultless [] book h = refl
+fold_faultless (x ∷ xs) book h =
+    ap (λ r. fold (λ b y. result_unwrap_or (step b y) b) (result_unwrap_or r book) xs) (step_faultless book x h.0)
+    ∙ fold_faultless xs (made book x) h.1
+
+-- leaves the book with each made in turn
+pub after_all : (edits : List Edit) → AllAccepted empty edits → after edits ≡ fold made empty edits
+unfolding after
+after_all edits h = fold_faultless edits empty h
