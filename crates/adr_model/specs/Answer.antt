@@ -1,8 +1,7 @@
 -- What a query answers, from what governs alone, down to the bytes.
-use Rattle.std.specs.Prelude.{◌≡◌, ◌≢◌, ℕ, ◌/◌, ◌%◌, ◌+◌, ◌&&◌, ◌||◌, ◌==◌, nat_lt, ℤ, pos, ◌≤ℤ◌, ◌<ℤ◌, int_lt, int_le, unsigned_abs, Bool, true, false, not, List, [], ◌∷◌, ◌++◌, filter, flat_map, Option, Some, None, is_some, Result, Ok, Err, if◌then◌else◌, codes, find, slice_get}
+use Rattle.std.specs.Prelude.{◌≡◌, ◌≢◌, ℕ, ◌/◌, ◌%◌, ◌+◌, ◌&&◌, ◌||◌, ◌==◌, nat_lt, ℤ, ◌≤ℤ◌, ◌<ℤ◌, int_lt, Bool, true, false, not, List, [], ◌∷◌, ◌++◌, filter, flat_map, Option, Some, None, is_some, Result, Ok, Err, if◌then◌else◌, codes, find, slice_get}
 use Rattle.std.specs.Option.{option_and_then, option_map}
 use Rattle.std.specs.Fmt.{decimal, signed_decimal}
-use Rattle.adr_value.specs.Number.{Number as Decimal}
 use Rattle.adr_value.specs.Same.{same_type}
 use Rattle.adr_value.specs.Text.{number_text}
 use Rattle.adr_value.specs.declared.datum.Datum.{Datum}
@@ -78,8 +77,8 @@ first_payload kind payloads = find (λ p. same_type p.kind kind) payloads
 abbrev pub shown_in : PayloadType → ℕ → Written → Option Shown
 shown_in kind place w =
     option_and_then (λ i. option_map
-      (λ p. record { event = w.event.id; interval = i.id; values = p.values })
-      (first_payload kind i.payloads))
+    (λ p. record { event = w.event.id; interval = i.id; values = p.values })
+    (first_payload kind i.payloads))
     (slice_get w.event.intervals place)
 
 -- what a winner shows of the type

@@ -1,5 +1,5 @@
 -- The objects that the accepted edits left, each kind in order of creation.
-use Rattle.std.specs.Prelude.{ℕ, Bool, List, [], Option, Some, None, find}
+use Rattle.std.specs.Prelude.{ℕ, List, [], Option, find}
 use Rattle.std.specs.Option.{option_and_then, option_map}
 use Rattle.std.specs.Str.{bytes_eq}
 use Rattle.adr_object.specs.declared.event.Event.{Event}
@@ -36,6 +36,6 @@ event_by book id = find (λ w. bytes_eq id w.event.id) book.events
 abbrev pub scene_of : Book → Event → Resource → Option Scene
 scene_of book event resource =
     option_and_then (λ program. option_map
-      (λ ven. record { program = program; event = event; ven = ven; resource = resource })
-      (ven_by book resource.ven_id))
+    (λ ven. record { program = program; event = event; ven = ven; resource = resource })
+    (ven_by book resource.ven_id))
     (program_by book event.program_id)

@@ -1,20 +1,15 @@
 -- What an edit does to the book, and which refusal it meets.
-use Rattle.std.specs.Prelude.{ℕ, ◌+◌, ◌==◌, nat_lt, nat_le, Bool, true, false, not, ◌&&◌, ◌||◌, List, [], ◌∷◌, ◌++◌, map, filter, fold, length, Option, Some, None, is_some, Result, Ok, Err, if◌then◌else◌, sum_by}
+use Rattle.std.specs.Prelude.{ℕ, ◌+◌, nat_lt, nat_le, Bool, true, false, not, ◌||◌, List, [], ◌∷◌, ◌++◌, map, filter, fold, length, is_some, Result, if◌then◌else◌, sum_by}
 use Rattle.std.specs.List.{list_any}
 use Rattle.std.specs.Str.{bytes_eq}
 use Rattle.std.specs.Result.{result_unwrap_or, result_err}
 use Rattle.std.specs.Option.{option_map_or}
 use Rattle.adr_value.specs.Faults.{judged}
 use Rattle.adr_value.specs.Same.{same_type}
-use Rattle.adr_value.specs.declared.payload.PayloadType.{PayloadType}
 use Rattle.adr_value.specs.declared.refusal.Refusal.{Refusal}
 use Rattle.adr_value.specs.declared.refusal.Refusal.TheVariants.{Exists, NotThere, NoProgram, NoVen, InUse, Full}
 use Rattle.adr_object.specs.declared.event.Event.{Event}
-use Rattle.adr_object.specs.declared.event.Interval.{Interval}
 use Rattle.adr_object.specs.declared.event.Payload.{Payload}
-use Rattle.adr_object.specs.declared.party.Program.{Program}
-use Rattle.adr_object.specs.declared.party.Ven.{Ven}
-use Rattle.adr_object.specs.declared.party.Resource.{Resource}
 use Rattle.adr_object.specs.declared.object.Object.{Object}
 use Rattle.adr_object.specs.declared.object.Object.TheVariants.{Program as program, Event as event, Ven as ven, Resource as resource}
 use Rattle.adr_object.specs.declared.object.Kind.{Kind}
@@ -23,7 +18,6 @@ use Rattle.adr_object.specs.declared.object.Edit.{Edit}
 use Rattle.adr_object.specs.declared.object.Edit.TheVariants.{Create, Change, Remove}
 use Rattle.adr_object.specs.Object.{kind_of, id_of}
 use Rattle.adr_model.specs.Layout.{layout}
-use Rattle.adr_model.specs.declared.written.Written.{Written}
 use Rattle.adr_model.specs.Book.{Book, empty, program_by, ven_by, resource_by, event_by}
 
 -- ---- the limits

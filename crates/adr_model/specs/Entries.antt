@@ -1,5 +1,5 @@
 -- What an index of entries answers, as the plain list of them.
-use Rattle.std.specs.Prelude.{◌≡◌, ℕ, ℤ, ◌==◌, ◌&&◌, ◌||◌, nat_lt, int_lt, Bool, List, length, IsTrue, filter}
+use Rattle.std.specs.Prelude.{ℤ, ◌==◌, ◌&&◌, ◌||◌, nat_lt, int_lt, Bool, List, length, IsTrue, filter}
 use Rattle.std.specs.Ordering.{int_eq}
 use Rattle.std.specs.List.{AllAdjacentBelow}
 use Rattle.adr_time.specs.Spans.{covers, meets}

@@ -1,5 +1,5 @@
 -- Which interval governs a resource and a payload type at an instant.
-use Rattle.std.specs.Prelude.{◌≡◌, ◌≢◌, ◌⊎◌, ◌↔◌, ℕ, ℤ, Bool, false, ◌&&◌, List, [], ◌∷◌, Option, Some, None, if◌then◌else◌, IsTrue, map, filter, flat_map, filter_map, All, Contains}
+use Rattle.std.specs.Prelude.{◌↔◌, ℕ, ℤ, Bool, false, List, [], ◌∷◌, Option, Some, None, if◌then◌else◌, map, filter, flat_map, filter_map, Contains}
 use Rattle.std.specs.List.{enumerate_from, zip}
 use Rattle.std.specs.Bool.{then_some}
 use Rattle.std.specs.Option.{option_map_or, option_map}
@@ -7,8 +7,6 @@ use Rattle.std.specs.Result.{result_unwrap_or}
 use Rattle.adr_value.specs.declared.payload.PayloadType.{PayloadType}
 use Rattle.adr_time.specs.Spans.{covers}
 use Rattle.adr_time.specs.declared.span.Span.{Span}
-use Rattle.adr_object.specs.declared.event.Event.{Event}
-use Rattle.adr_object.specs.declared.event.Interval.{Interval}
 use Rattle.adr_object.specs.declared.party.Resource.{Resource}
 use Rattle.adr_model.specs.declared.entry.Entry.{Entry}
 use Rattle.adr_model.specs.declared.entry.Rank.{Rank}
@@ -63,5 +61,5 @@ governs book id kind t = option_map winner_of (first_of (candidates book id kind
 abbrev pub Disturbed : Book → Book → List ℕ → PayloadType → ℤ → Type 0
 Disturbed old new id kind t =
     ((rank : Rank) →
-      Contains (map (λ e. e.rank) (candidates old id kind t)) rank ↔ Contains (map (λ e. e.rank) (candidates new id kind t)) rank)
+    Contains (map (λ e. e.rank) (candidates old id kind t)) rank ↔ Contains (map (λ e. e.rank) (candidates new id kind t)) rank)
     → ⊥

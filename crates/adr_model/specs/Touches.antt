@@ -1,5 +1,5 @@
 -- Where an edit changes who competes.
-use Rattle.std.specs.Prelude.{ℕ, ◌==◌, Bool, true, false, not, List, [], ◌∷◌, ◌++◌, map, Option, Some, None, if◌then◌else◌, filter, flat_map}
+use Rattle.std.specs.Prelude.{ℕ, ◌==◌, not, List, [], ◌∷◌, ◌++◌, map, Option, Some, None, if◌then◌else◌, filter, flat_map}
 use Rattle.std.specs.List.{list_any, zip}
 use Rattle.std.specs.Str.{bytes_eq}
 use Rattle.std.specs.Bool.{then_some}
@@ -8,16 +8,12 @@ use Rattle.std.specs.Result.{result_unwrap_or}
 use Rattle.adr_value.specs.Same.{same_type}
 use Rattle.adr_value.specs.declared.payload.PayloadType.{PayloadType}
 use Rattle.adr_time.specs.Spans.{is_before}
-use Rattle.adr_time.specs.declared.span.Span.{Span}
-use Rattle.adr_object.specs.declared.event.Interval.{Interval}
 use Rattle.adr_object.specs.declared.event.Payload.{Payload}
-use Rattle.adr_object.specs.declared.object.Edit.{Edit}
 use Rattle.adr_model.specs.declared.touch.Touch.{Touch}
 use Rattle.adr_model.specs.Layout.{layout}
 use Rattle.adr_model.specs.declared.written.Written.{Written}
 use Rattle.adr_model.specs.Book.{Book, resource_by, event_by}
 use Rattle.adr_model.specs.Governor.{applies_to}
-use Rattle.adr_model.specs.Edits.{edited}
 
 -- the ids of the first list, then those that the second adds
 abbrev pub ids_of_both : List (List ℕ) → List (List ℕ) → List (List ℕ)
@@ -53,6 +49,6 @@ unfoldable pub touches : Book → Book → List Touch
 touches old new =
     flat_map
     (λ r. flat_map
-      (λ e. touches_between r (applying old r e) (applying new r e))
-      (ids_of_both (map (λ w. w.event.id) old.events) (map (λ w. w.event.id) new.events)))
+    (λ e. touches_between r (applying old r e) (applying new r e))
+    (ids_of_both (map (λ w. w.event.id) old.events) (map (λ w. w.event.id) new.events)))
     (ids_of_both (map (λ r. r.id) old.resources) (map (λ r. r.id) new.resources))

@@ -1,0 +1,16 @@
+pub mod Lists
+pub mod Keyed
+pub mod Windows
+pub mod Candidates
+pub mod Succession
+pub mod Outside
+pub mod Inside
+pub mod Events
+pub mod Steps
+pub mod Laws
+pub mod Whole
+pub mod Repaired
+pub mod Marks
+pub mod Lookups
+pub mod Table
+pub mod Least

@@ -1,0 +1,6 @@
+pub mod Laws
+pub mod Lists
+pub mod Ranks
+pub mod Table
+pub mod Whole
+pub mod Windows

@@ -1,0 +1,57 @@
+#![tactic(auto)]
+//! Why it is enough to repair timelines inside the windows of an edit: the laws of local repair, of the
+//! definitions alone. Each function's clause is a law, and its body does nothing.
+//!
+//! An edit's windows are the spans of the events that it brings in, takes away or lets apply otherwise, each with
+//! a resource and a payload type.
+
+ghost use Rattle.adr_repair.specs.Laws.{AtEachEdit, CandidatesStay, GovernorStays, RepairsAll, WindowsAreDisturbed};
+ghost use Rattle.adr_repair.specs.Ranks.{EntriesAreApart, GovernsTheLeast, IntervalsAreApart, LeastIsOne};
+ghost use Rattle.adr_repair.specs.Table.{TouchesAreTheTable};
+ghost use Rattle.adr_repair.specs.Whole.{BooksAreWhole, StepsKeepWhole};
+
+/// Outside the windows of an accepted edit everything stays: at an instant that no window covers, the same
+/// intervals compete as before, and the same one governs.
+pub fn stays_outside_windows()
+    ensures candidates { AtEachEdit CandidatesStay }
+    ensures governor { AtEachEdit GovernorStays }
+{}
+
+/// No window is too wide: at each instant of a window other intervals compete than before the edit, and at no
+/// other instant.
+pub fn disturbed_inside_windows()
+    ensures { AtEachEdit WindowsAreDisturbed }
+{}
+
+/// To repair inside the windows is to repair all: take what governs now inside them and what governed before
+/// outside, and you have what governs now.
+pub fn repaired_inside_windows()
+    ensures { AtEachEdit RepairsAll }
+{}
+
+/// The windows by the kind of the edit: an event that is written or removed touches its old and its new spans,
+/// a changed program, ven or resource the spans of the events whose targets now say otherwise, and so on.
+pub fn touches_are_the_table()
+    ensures { TouchesAreTheTable }
+{}
+
+/// Every book that accepted edits leave is whole: ids are distinct, each event has a number of its own that is
+/// at most the version, each program and ven that is named is there, and every event can be laid out.
+pub fn books_are_whole()
+    ensures step { StepsKeepWhole }
+    ensures after { BooksAreWhole }
+{}
+
+/// There are no ties: no two intervals of one book have one rank, and no two entries of one resource and payload
+/// type are of one write and one place.
+pub fn ranks_are_apart()
+    ensures intervals { IntervalsAreApart }
+    ensures entries { EntriesAreApart }
+{}
+
+/// What governs is the candidate of least rank, and nothing governs just where there is no candidate. Where
+/// marks are distinct, as in every book of accepted edits, there is one such.
+pub fn governor_is_the_least()
+    ensures least { GovernsTheLeast }
+    ensures one { LeastIsOne }
+{}
