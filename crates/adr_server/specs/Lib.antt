@@ -1,5 +1,6 @@
 pub mod Fields
 pub mod Kept
+pub mod Laws
 pub mod Line
 pub mod Text
 pub mod Views

@@ -3,6 +3,7 @@
 
 mod command;
 mod fields;
+mod laws;
 mod line;
 mod machine;
 mod program;
@@ -11,5 +12,9 @@ mod replies;
 pub use adr_options::{Job, job};
 pub use adr_script::{Fault, status};
 pub use command::Command;
+pub use laws::least_matching_interval_governs;
 pub use line::parse_line;
 pub use program::run;
+
+#[cfg(test)]
+mod tests;

@@ -1,0 +1,32 @@
+use Rattle.std.proofs.Common.{◌≡◌, refl, ap}
+use Rattle.std.specs.Prelude.{Result}
+use Rattle.adr_value.specs.declared.refusal.Refusal.{Refusal}
+use Rattle.adr_model.specs.Book.{Book}
+use Rattle.adr_model.specs.Edits.{after}
+use Rattle.adr_model.specs.Machine.{after_edit, last_journal}
+use Rattle.adr_repair.proofs.Least.{governor_is_least}
+use Rattle.adr_server.specs.declared.command.Command.{Command}
+use Rattle.adr_server.specs.Text.{reply_line, command_reply, command_next, reply_or, next_or}
+use Rattle.adr_server.proofs.laws.least_matching_interval_governs.Goals as goal
+
+pub returns-clause-governs : goal.returns-clause-governs
+returns-clause-governs c = λ s id kind t. governor_is_least (after (last_journal s)) id kind t
+
+pub returns-clause-refused_lines : goal.returns-clause-refused_lines
+returns-clause-refused_lines c = λ s line f e. (ap (reply_or (command_reply s)) e, ap (next_or s (command_next s)) e)
+
+pub returns-clause-refused_edits : goal.returns-clause-refused_edits
+returns-clause-refused_edits c = λ s x f e. (
+  ap (λ (r : Result Book Refusal). reply_line (after_edit s x r).0) e,
+  ap (λ (r : Result Book Refusal). (after_edit s x r).1) e,
+)
+
+pub returns-clause-accepted_edits : goal.returns-clause-accepted_edits
+returns-clause-accepted_edits c = λ s x book e. (
+  ap (λ (r : Result Book Refusal). reply_line (after_edit s x r).0) e,
+  ap (λ (r : Result Book Refusal). (after_edit s x r).1.journal) e,
+  ap (λ (r : Result Book Refusal). (after_edit s x r).1.published) e,
+)
+
+pub returns-clause-queries : goal.returns-clause-queries
+returns-clause-queries c = λ s id kind t. refl
