@@ -1,5 +1,5 @@
 -- Values and payloads, from their parts.
-use Rattle.std.proofs.Common.{◌≡◌, List, [], ◌++◌, codes, refl, ap, subst, inl, inr, Bool, true, false}
+use Rattle.std.proofs.Common.{◌≡◌, List, ◌++◌, codes, refl, ap, subst, inl, inr, Bool, true, false}
 use Rattle.std.specs.Prelude.{◌⊎◌, Option, Some, None, is_some, Result, Ok, Err, if◌then◌else◌}
 use Rattle.serde_json.specs.Data.{Data, Members, object}
 use Rattle.serde_json.specs.Find.{as_object}
@@ -9,7 +9,6 @@ use Rattle.adr_value.specs.Faults.{least, none, Gives, judged}
 use Rattle.adr_value.specs.Number.{Number as Decimal}
 use Rattle.adr_value.specs.Payload.{shape_of}
 use Rattle.adr_value.specs.Shapes.{has_shape}
-use Rattle.adr_value.specs.declared.datum.Datum.{Datum}
 use Rattle.adr_value.specs.declared.datum.Datum.TheVariants.{Point}
 use Rattle.adr_value.specs.declared.refusal.Refusal.{Refusal}
 use Rattle.adr_value.specs.declared.refusal.Refusal.TheVariants.{BadShape, NoMemory}

@@ -19,6 +19,7 @@ use Rattle.adr_read.specs.Objects.{program_faults, program_in, ven_faults, ven_i
 abbrev pub value_of : List ℕ → Option Data
 value_of bytes = if is_utf8 bytes then read bytes else None
 
+-- what is no JSON, and what is no object
 abbrev pub object_or : Option Data → Result Data Refusal
 object_or None = Err BadJson
 object_or (Some d) = if is_some (as_object d) then Ok d else Err NotObject
@@ -32,7 +33,7 @@ object_of_shielded (Some shielded) = object_or (value_of shielded)
 unfoldable pub object_named : List ℕ → Result Data Refusal
 object_named body = object_of_shielded (shield_of body)
 
--- the program, ven, resource or event of a body on a line with that id
+-- the program, ven, resource or event of a body on a line with that id, or the least of the body's faults
 unfoldable pub program_named : List ℕ → List ℕ → Result Program Refusal
 program_named body id = result_and_then (λ d. judged (program_faults id d) (program_in id d)) (object_named body)
 

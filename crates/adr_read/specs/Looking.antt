@@ -5,6 +5,7 @@ use Rattle.serde_json.specs.Find.{get, as_null, as_str}
 use Rattle.adr_value.specs.Number.{Number}
 use Rattle.adr_value.specs.Value.{number_of}
 
+-- the elements of an array in order
 abbrev pub elements : Items → List Data
 elements no_items = []
 elements (item d ds) = d ∷ elements ds
@@ -28,6 +29,7 @@ after_nul [] = None
 after_nul (zero ∷ bs) = Some bs
 after_nul (suc b ∷ bs) = None
 
+-- a text that is no number
 abbrev pub plain : List ℕ → Option (List ℕ)
 plain bs = if is_some (after_nul bs) then None else Some bs
 

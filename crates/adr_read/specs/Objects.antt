@@ -59,10 +59,12 @@ resource_in id d = record {
 
 -- ---- events
 
+-- a program, and perhaps a name and a priority
 abbrev pub event_head_faults : List ℕ → Data → List Refusal
 event_head_faults id d =
     common_faults (codes "EVENT") id d ++ required id_faults (member_at (codes "programID") d) ++ optional text_faults (member_at (codes "eventName") d) ++ optional priority_faults (member_at (codes "priority") d)
 
+-- perhaps targets and a default period, and at most 4,096 intervals
 abbrev pub event_tail_faults : Data → List Refusal
 event_tail_faults d =
     own_targets_faults d ++ optional period_faults (member_at (codes "intervalPeriod") d) ++ required (list_faults 4096 interval_faults) (member_at (codes "intervals") d)

@@ -1,5 +1,5 @@
 -- Starts, lengths, periods and intervals: what is wrong with each, and what it stands for.
-use Rattle.std.specs.Prelude.{ℕ, ℤ, pos, List, ◌++◌, codes, option_map, unwrap_or}
+use Rattle.std.specs.Prelude.{ℤ, pos, List, ◌++◌, codes, option_map, unwrap_or}
 use Rattle.serde_json.specs.Data.{Data}
 use Rattle.adr_value.specs.declared.refusal.Refusal.{Refusal}
 use Rattle.adr_time.specs.Lengths.{length_named}
@@ -12,6 +12,8 @@ use Rattle.adr_read.specs.Looking.{member_at, the, text_of}
 use Rattle.adr_read.specs.Sets.{faults_of, given, of_kind, of_object, required, optional, list_faults, list_in}
 use Rattle.adr_read.specs.Values.{text_in, interval_id_faults, interval_id_in, payload_faults, payload_in}
 
+-- ---- starts and lengths
+
 -- whether a start is read is the same at each moment of an edit
 abbrev pub start_faults : Data → List Refusal
 start_faults d = of_kind (text_of d) (λ t. faults_of (start_named (pos 0) t))
@@ -20,12 +22,16 @@ start_faults d = of_kind (text_of d) (λ t. faults_of (start_named (pos 0) t))
 abbrev pub start_in : ℤ → Data → ℤ
 start_in now d = given now (start_named now (text_in d))
 
+-- a duration in ISO 8601, not below zero
 abbrev pub length_faults : Data → List Refusal
 length_faults d = of_kind (text_of d) (λ t. faults_of (length_named t))
 
 abbrev pub length_in : Data → Length
 length_in d = given Endless (length_named (text_in d))
 
+-- ---- periods
+
+-- a start, and perhaps a duration and a randomization
 unfoldable pub period_faults : Data → List Refusal
 period_faults d =
     of_object d (required start_faults (member_at (codes "start") d) ++ optional length_faults (member_at (codes "duration") d) ++ optional length_faults (member_at (codes "randomizeStart") d))
@@ -37,6 +43,9 @@ period_in now d = record {
   randomize = option_map length_in (member_at (codes "randomizeStart") d);
 }
 
+-- ---- intervals
+
+-- perhaps an id and a period of its own, and at most 64 payloads
 unfoldable pub interval_faults : Data → List Refusal
 interval_faults d =
     of_object d (optional interval_id_faults (member_at (codes "id") d) ++ optional period_faults (member_at (codes "intervalPeriod") d) ++ required (list_faults 64 payload_faults) (member_at (codes "payloads") d))

@@ -7,6 +7,7 @@ use Rattle.adr_value.specs.declared.refusal.Refusal.{Refusal}
 use Rattle.adr_value.specs.declared.refusal.Refusal.TheVariants.{Missing, WrongType, TooMany}
 use Rattle.adr_read.specs.Looking.{elements}
 
+-- the fault, where the test fails
 abbrev pub unless : Bool → Refusal → List Refusal
 unless true f = []
 unless false f = f ∷ []
@@ -26,13 +27,16 @@ abbrev pub of_kind : {A : Type 0} → Option A → (A → List Refusal) → List
 of_kind None faults = WrongType ∷ []
 of_kind (Some x) faults = faults x
 
+-- the same of what has to be an object
 abbrev pub of_object : Data → List Refusal → List Refusal
 of_object d faults = of_kind (as_object d) (λ _. faults)
 
+-- a required member that is absent or null is missing
 abbrev pub required : (Data → List Refusal) → Option Data → List Refusal
 required faults None = Missing ∷ []
 required faults (Some d) = faults d
 
+-- a member that may be absent or null
 abbrev pub optional : (Data → List Refusal) → Option Data → List Refusal
 optional faults None = []
 optional faults (Some d) = faults d
@@ -52,5 +56,6 @@ abbrev pub at_places : {X A : Type 0} → (ℕ → X → A) → ℕ → List X �
 at_places read_as n [] = []
 at_places read_as n (x ∷ xs) = read_as n x ∷ at_places read_as (n + 1) xs
 
+-- the elements in order, each told its place
 abbrev pub list_in : {A : Type 0} → (ℕ → Data → A) → Data → List A
 list_in read_as d = unwrap_or (option_map (λ ds. at_places read_as 0 (elements ds)) (as_array d)) []

@@ -19,6 +19,7 @@ use Rattle.adr_read.specs.Sets.{unless, of_kind, of_object, required, if_none, l
 
 -- ---- texts
 
+-- any text, also an empty one
 abbrev pub text_faults : Data → List Refusal
 text_faults d = of_kind (text_of d) (λ _. [])
 
@@ -37,6 +38,7 @@ equal_faults wanted refusal d = of_kind (text_of d) (λ t. unless (bytes_eq t wa
 abbrev pub text_in : Data → List ℕ
 text_in d = unwrap_or (text_of d) []
 
+-- a type of the payload table, or a private one
 abbrev pub type_in : Data → PayloadType
 type_in d = type_of (text_in d)
 
@@ -71,6 +73,7 @@ interval_id_in d = (number_in d).coefficient
 
 -- ---- values
 
+-- a number, a text, a truth value or a point, which is an object with the numbers `x` and `y`
 abbrev pub datum_faults : Data → List Refusal
 datum_faults null = WrongType ∷ []
 datum_faults (boolean b) = []
@@ -101,6 +104,7 @@ values_in d = list_in (λ _. datum_in) (the (codes "values") d)
 abbrev pub target_in : Data → Target
 target_in d = record { kind = text_in (the (codes "type") d); values = values_in d }
 
+-- at most 64 values maps
 abbrev pub targets_faults : Data → List Refusal
 targets_faults d = list_faults 64 map_faults d
 
@@ -112,6 +116,7 @@ targets_in d = list_in (λ _. target_in) d
 abbrev pub payload_in : Data → Payload
 payload_in d = record { kind = type_in (the (codes "type") d); values = values_in d }
 
+-- values that don't have the shape of their type
 abbrev pub shape_faults : Payload → List Refusal
 shape_faults p = unless (has_shape (shape_of p.kind) p.values) BadShape
 

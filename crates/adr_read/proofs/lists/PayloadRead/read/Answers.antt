@@ -1,9 +1,7 @@
-use Rattle.std.proofs.Common.{◌≡◌, ◌∙◌, ap, codes}
-use Rattle.std.specs.Prelude.{List, Ok, Err, Result, if◌then◌else◌}
+use Rattle.std.proofs.Common.{ap}
+use Rattle.std.specs.Prelude.{List}
 use Rattle.std.proofs.lemmas.Result.{err_from_is_err_and}
 use Rattle.serde_json.specs.View.{view}
-use Rattle.adr_value.specs.Payload.{shape_of}
-use Rattle.adr_value.specs.Shapes.{has_shape}
 use Rattle.adr_value.specs.declared.datum.Datum.{Datum}
 use Rattle.adr_value.specs.declared.payload.PayloadType.{PayloadType}
 use Rattle.adr_object.specs.declared.event.Payload.{Payload}

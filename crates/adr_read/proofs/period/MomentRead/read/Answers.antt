@@ -1,4 +1,4 @@
-use Rattle.std.proofs.Common.{◌≡◌, Some, rules}
+use Rattle.std.proofs.Common.{◌≡◌, Some}
 use Rattle.serde_json.specs.View.{view}
 use Rattle.adr_read.specs.Looking.{text_of}
 use Rattle.adr_read.proofs.StartLemmas.{start_gives}
