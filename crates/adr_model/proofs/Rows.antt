@@ -60,28 +60,28 @@ taken_id = rw one_event-after refl
 
 -- ---- a lower number goes first, and an absent one goes last
 
-abbrev none_two_hours : Event
+abbrev pub none_two_hours : Event
 none_two_hours = one_price (codes "e1") None (half_hours 0) (Some (hours 2)) 10 []
 
-abbrev five_later : Event
+abbrev pub five_later : Event
 five_later = one_price (codes "e2") (Some 5) (half_hours 2) (Some (hours 2)) 20 []
 
-abbrev zero_last : Event
+abbrev pub zero_last : Event
 zero_last = one_price (codes "e3") (Some 0) (half_hours 4) (Some (hours 2)) 30 []
 
-abbrev by_priority : List Edit
+abbrev pub by_priority : List Edit
 by_priority = setting ++ Create (event none_two_hours) ∷ Create (event five_later) ∷ Create (event zero_last) ∷ []
 
-none_two_hours-layout : layout none_two_hours ≡ Ok (span_between 0 4 ∷ [])
+pub none_two_hours-layout : layout none_two_hours ≡ Ok (span_between 0 4 ∷ [])
 none_two_hours-layout = one_price-layout _ _ _ _ _ _ _ midnight_and_2
 
-five_later-layout : layout five_later ≡ Ok (span_between 2 6 ∷ [])
+pub five_later-layout : layout five_later ≡ Ok (span_between 2 6 ∷ [])
 five_later-layout = one_price-layout _ _ _ _ _ _ _ one_and_2
 
-zero_last-layout : layout zero_last ≡ Ok (span_between 4 8 ∷ [])
+pub zero_last-layout : layout zero_last ≡ Ok (span_between 4 8 ∷ [])
 zero_last-layout = one_price-layout _ _ _ _ _ _ _ two_and_2
 
-by_priority-after : after by_priority ≡ fold made empty by_priority
+pub by_priority-after : after by_priority ≡ fold made empty by_priority
 by_priority-after =
     after_all by_priority (refl, (refl, (refl, (rw none_two_hours-layout refl, (rw five_later-layout refl, (rw zero_last-layout refl, tt))))))
 

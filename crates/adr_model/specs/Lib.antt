@@ -6,6 +6,7 @@ pub mod Governor
 pub mod Layout
 pub mod Machine
 pub mod Matching
+pub mod Queries
 pub mod Rank
 pub mod Timeline
 pub mod Touches
