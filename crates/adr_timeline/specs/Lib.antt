@@ -1,0 +1,5 @@
+pub mod Build
+pub mod Open
+pub mod Parts
+pub mod Segments
+pub mod Steps

@@ -1,0 +1,74 @@
+-- The least rank from instant to instant.
+use Rattle.std.specs.Prelude.{ℤ, ◌≤ℤ◌, int_le, int_lt, ⊤, Bool, true, false, List, [], ◌∷◌, Option, Some, None, if◌then◌else◌, filter}
+use Rattle.std.specs.Option.{option_map}
+use Rattle.adr_time.specs.Spans.{covers, is_before}
+use Rattle.adr_time.specs.declared.span.End.{End}
+use Rattle.adr_time.specs.declared.span.End.TheVariants.{At, Endless}
+use Rattle.adr_model.specs.declared.entry.Entry.{Entry}
+use Rattle.adr_model.specs.declared.entry.Rank.{Rank}
+use Rattle.adr_model.specs.declared.timeline.Winner.{Winner}
+use Rattle.adr_model.specs.declared.timeline.Segment.{Segment}
+use Rattle.adr_model.specs.Rank.{goes_before}
+use Rattle.adr_model.specs.Governor.{first_of}
+use Rattle.adr_timeline.specs.declared.step.Step.{Step}
+
+-- the rank that goes before the other, where there are two
+abbrev pub lesser : Option Rank → Option Rank → Option Rank
+lesser None b = b
+lesser (Some a) None = Some a
+lesser (Some a) (Some b) = Some (if goes_before b a then b else a)
+
+-- the least rank among the entries that cover the instant
+abbrev pub rank_at : List Entry → ℤ → Option Rank
+rank_at entries t = option_map (λ e. e.rank) (first_of (filter (λ e. covers e.span t) entries))
+
+-- the rank of the last step by the instant, where that before the first step is given
+abbrev pub rank_from : Option Rank → List Step → ℤ → Option Rank
+rank_from rank [] t = rank
+rank_from rank (s ∷ ss) t = if int_lt t s.from then rank else rank_from s.rank ss t
+
+-- the steps are in order, the first at the instant or later
+abbrev pub IsFrom : ℤ → List Step → Type 0
+IsFrom t [] = ⊤
+IsFrom t (s ∷ ss) = (t ≤ℤ s.from) × IsFrom s.from ss
+
+-- the steps are in order
+abbrev pub IsInOrder : List Step → Type 0
+IsInOrder [] = ⊤
+IsInOrder (s ∷ ss) = IsFrom s.from ss
+
+-- the next step of two lists is the left one's
+abbrev pub goes_left : List Step → List Step → Bool
+goes_left left [] = true
+goes_left [] (s ∷ right) = false
+goes_left (r ∷ left) (s ∷ right) = int_le r.from s.from
+
+-- down at the end, where there is one
+abbrev pub down_at : End → List Step
+down_at (At t) = record { from = t; rank = None } ∷ []
+down_at Endless = []
+
+-- up at the entry's start and down at its end, or none where it covers no instant
+abbrev pub steps_of : Entry → List Step
+steps_of e =
+    if is_before e.span.start e.span.end
+    then record { from = e.span.start; rank = Some e.rank } ∷ down_at e.span.end
+    else []
+
+-- where the first of the steps begins
+abbrev pub first_from : List Step → End
+first_from [] = Endless
+first_from (s ∷ ss) = At s.from
+
+abbrev pub winner_of_rank : Rank → Winner
+winner_of_rank rank = record { written = rank.written; place = rank.place }
+
+-- the segment up to an end, where there is a rank
+abbrev pub piece : ℤ → End → Option Rank → List Segment → List Segment
+piece from until None rest = rest
+piece from until (Some rank) rest = record { start = from; end = until; winner = winner_of_rank rank } ∷ rest
+
+-- a segment from each step up to the next
+abbrev pub pieces : List Step → List Segment
+pieces [] = []
+pieces (s ∷ ss) = piece s.from (first_from ss) s.rank (pieces ss)
