@@ -118,11 +118,11 @@ fn put_spaced(out: &mut Vec<u8>, datum: &Datum) -> Result<(), Refusal>
     put_datum(out, datum)
 }
 
-fn put_data(out: &mut Vec<u8>, data: &[Datum]) -> Result<(), Refusal>
-    ensures ok { OnOk result (out.new.items ≡ out.old.items ++ flat_map (λ v. codes " " ++ datum_text v) data.now) }
+fn put_data(out: &mut Vec<u8>, values: &[Datum]) -> Result<(), Refusal>
+    ensures ok { OnOk result (out.new.items ≡ out.old.items ++ flat_map (λ v. codes " " ++ datum_text v) values.now) }
     ensures memory { IfErr result (λ refusal. refusal ≡ Refusal.NoMemory) }
 {
-    for datum in data {
+    for datum in values {
         put_spaced(out, datum)?;
     }
     Ok(())

@@ -3,7 +3,9 @@ use crate::{Fault, parse_line, run, status};
 use adr_value::Refusal;
 use std::io;
 use std::io::{ErrorKind, Read, Write};
+use std::sync::Wait;
 use std::test::Fail;
+use std::thread::Threads;
 
 /// Gives its bytes in pieces, and then fails or ends.
 #[derive(Drop)]
@@ -73,7 +75,11 @@ fn sink(rt: &impl AllocGlobal, most: usize, room: usize, fails: bool) -> Sink {
 }
 
 /// Whether the script, behind the first one, has that reply behind the first one's.
-fn goes_on(rt: &HostRuntime, script: &[u8], replies: &[u8]) -> Result<bool, Fail> {
+fn goes_on(
+    rt: &(impl AllocGlobal + Threads + Wait),
+    script: &[u8],
+    replies: &[u8],
+) -> Result<bool, Fail> {
     let mut input = Vec::new(rt.alloc());
     input.extend_from_slice(SCRIPT)?;
     input.extend_from_slice(script)?;
@@ -87,7 +93,11 @@ fn goes_on(rt: &HostRuntime, script: &[u8], replies: &[u8]) -> Result<bool, Fail
 }
 
 /// Whether the script alone has those replies.
-fn answers(rt: &HostRuntime, script: &[u8], replies: &[u8]) -> Result<bool, Fail> {
+fn answers(
+    rt: &(impl AllocGlobal + Threads + Wait),
+    script: &[u8],
+    replies: &[u8],
+) -> Result<bool, Fail> {
     let mut reader = script;
     let mut writer = Vec::new(rt.alloc());
     run(rt, &mut reader, &mut writer, 64)?;
