@@ -65,7 +65,7 @@ at r1 PRICE 2024-01-01T00:30:00Z\n";
 const TEXT: &[u8] = b"ok 1\nok 2\nok 3\nok 4\npublished 1 version 4\n\
 version 4 event e1 interval 0 until 2024-01-01T01:00:00Z values 17\n";
 
-fn sink(rt: &impl AllocGlobal, most: usize, room: usize, fails: bool) -> Sink {
+fn empty_sink(rt: &impl AllocGlobal, most: usize, room: usize, fails: bool) -> Sink {
     Sink {
         taken: Vec::new(rt.alloc()),
         most,
@@ -112,7 +112,7 @@ fn answers_in_any_pieces(rt: HostRuntime) -> Result<(), Fail> {
             most,
             fails: false,
         };
-        let mut writer = sink(&rt, 1, 10_000, false);
+        let mut writer = empty_sink(&rt, 1, 10_000, false);
         run(&rt, &mut reader, &mut writer, 1)?;
         assert!(rt; writer.taken.as_slice() == TEXT);
     }
@@ -128,7 +128,7 @@ fn answers_complete_lines_before_a_fault(rt: HostRuntime) -> Result<(), Fail> {
             most: 50,
             fails: true,
         };
-        let mut writer = sink(&rt, 100, 10_000, false);
+        let mut writer = empty_sink(&rt, 100, 10_000, false);
         let outcome = run(&rt, &mut reader, &mut writer, 1);
         assert!(rt; status(&outcome) == 1);
         assert!(rt; outcome == Err(Fault::Reading));
@@ -144,7 +144,7 @@ fn stops_at_a_failed_write(rt: HostRuntime) -> Result<(), Fail> {
     for room in 0..TEXT.len() {
         for fails in [false, true] {
             let mut reader = SCRIPT;
-            let mut writer = sink(&rt, 7, room, fails);
+            let mut writer = empty_sink(&rt, 7, room, fails);
             assert!(rt; run(&rt, &mut reader, &mut writer, 1) == Err(Fault::Writing));
             assert!(rt; TEXT.starts_with(writer.taken.as_slice()));
             assert!(rt; writer.taken.len() == room);
