@@ -1,0 +1,4 @@
+pub mod Grown
+pub mod Listed
+pub mod Looks
+pub mod Search

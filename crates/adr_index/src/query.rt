@@ -1,0 +1,41 @@
+//! What an entry is asked for.
+ghost use Rattle.std.specs.Prelude.{◌≡◌};
+ghost use Rattle.adr_index.specs.Query.{begins, is_hit as is_a_hit};
+
+use adr_model::Entry;
+use adr_time::{End, Moment};
+
+/// How late an entry may start.
+#[derive(Clone, Copy)]
+pub(crate) enum Latest {
+    /// Before this end.
+    Before(End),
+    /// At this moment, or earlier.
+    By(Moment),
+}
+
+/// Entries that cover some moment, end after `from`, and start in time.
+#[derive(Clone, Copy)]
+pub(crate) struct Query {
+    pub(crate) from: Moment,
+    pub(crate) latest: Latest,
+}
+
+/// Whether the entry starts in time.
+pub(crate) fn starts_in_time(entry: &Entry, query: &Query) -> bool
+    ensures { result ≡ begins query.now.latest entry.now.span.start }
+{
+    match &query.latest {
+        Latest::Before(end) => entry.span.start.is_before(*end),
+        Latest::By(at) => entry.span.start <= *at,
+    }
+}
+
+/// Whether the entry is asked for.
+pub(crate) fn is_hit(entry: &Entry, query: &Query) -> bool
+    ensures { result ≡ is_a_hit query.now entry.now }
+{
+    entry.span.start.is_before(entry.span.end)
+        && query.from.is_before(entry.span.end)
+        && starts_in_time(entry, query)
+}
