@@ -106,7 +106,7 @@ latest_has P t v le p (b ∷ bs) h = by (int_lt (latest t v bs) b && int_le b v)
 
 -- ---- the earliest change
 
-winner_from_same : (a b : Option Winner) → same_winner a b ≡ true → a ≡ b
+pub winner_from_same : (a b : Option Winner) → same_winner a b ≡ true → a ≡ b
 winner_from_same None None h = refl
 winner_from_same None (Some b) h = absurd (false≢true h)
 winner_from_same (Some a) None h = absurd (false≢true h)

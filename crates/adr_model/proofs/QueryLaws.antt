@@ -1,5 +1,6 @@
 -- Where the lines of a list begin, and which types are listed.
-use Rattle.std.proofs.Common.{◌≡◌, ◌⊎◌, inl, inr, ℤ, pos, ◌-ℤ◌, ◌≤ℤ◌, ◌<ℤ◌, Bool, true, false, not, ◌&&◌, ◌||◌, cond, List, [], ◌∷◌, refl, sym, ap, subst, ◌∙◌, filter, is_some, arith}
+use Rattle.std.proofs.Common.{◌≡◌, ◌⊎◌, inl, inr, ℤ, pos, ◌-ℤ◌, ◌≤ℤ◌, ◌<ℤ◌, Bool, true, false, not, ◌&&◌, ◌||◌, cond, List, [], ◌∷◌, refl, sym, ap, subst, ◌∙◌, filter, is_some, arith, ℕ, zero, suc, ◌+ℤ◌}
+use Rattle.std.specs.Prelude.{unsigned_abs}
 use Rattle.std.specs.Prelude.{int_le, int_lt}
 use Rattle.std.specs.List.{AllByRecursion, list_any}
 use Rattle.std.specs.Option.{option_map}
@@ -13,11 +14,11 @@ use Rattle.adr_time.specs.declared.span.End.{End}
 use Rattle.adr_time.specs.declared.span.End.TheVariants.{At, Endless}
 use Rattle.adr_time.specs.declared.span.Span.{Span}
 use Rattle.adr_model.specs.declared.entry.Entry.{Entry}
-use Rattle.adr_model.specs.Answer.{bounds, same_winner, until}
+use Rattle.adr_model.specs.Answer.{IsUntil, bounds, same_winner, until}
 use Rattle.adr_model.specs.Governor.{candidates, entries_for, first_of, governs, winner_at, winner_of}
-use Rattle.adr_model.specs.Laws.{IsAscending, SegmentsAreInOrder, SegmentsBeginAtChanges, SegmentsShowOne, TypesGovernSometime}
+use Rattle.adr_model.specs.Laws.{IsAscending, SegmentsAreApart, SegmentsAreInOrder, SegmentsBeginAtChanges, SegmentsCoverAll, SegmentsShowOne, TypesGovernSometime}
 use Rattle.adr_model.specs.Queries.{beginnings, end_within, in_order, put_in_order}
-use Rattle.adr_model.proofs.AnswerLaws.{next, same_before_next, same_from_winner, winner_same}
+use Rattle.adr_model.proofs.AnswerLaws.{next, next_is_until, same_before_next, same_from_winner, winner_from_same, winner_same}
 
 -- ---- lists in order
 
@@ -189,6 +190,152 @@ pub segments_show_one : SegmentsShowOne
 unfolding governs candidates until
 segments_show_one book id kind to u v le h =
     same_before_next (entries_for book id kind) u v le (before_end (next (entries_for book id kind) u) to v h)
+
+-- from an instant that is governed back to where its segment begins
+abbrev Begun : List Entry → ℤ → ℤ → Type 0
+Begun es from v =
+    (u : ℤ) × (from ≤ℤ u) × (u ≤ℤ v) × ((is_some (winner_at es u) && (int_eq u from || not (same_winner (winner_at es (u -ℤ pos 1)) (winner_at es u)))) ≡ true)
+    × ((w : ℤ) → u ≤ℤ w → w ≤ℤ v → winner_at es w ≡ winner_at es v)
+
+both_true : (a b : Bool) → a ≡ true → b ≡ true → (a && b) ≡ true
+both_true a b p q = rw (p, q) refl
+
+second_true : (a b : Bool) → b ≡ true → (a || b) ≡ true
+second_true true b q = refl
+second_true false b q = q
+
+first_true : (a b : Bool) → a ≡ true → (a || b) ≡ true
+first_true a b p = rw p refl
+
+begun : (es : List Entry) (from : ℤ) (n : ℕ) (v : ℤ) → v ≡ from +ℤ pos n → is_some (winner_at es v) ≡ true → Begun es from v
+begun es from zero v e h =
+    let same : int_eq v from ≡ true = grind (arith, ints) in (
+      v,
+      grind (arith, ints),
+      grind (arith, ints),
+      both_true (is_some (winner_at es v)) _ h (first_true (int_eq v from) _ same),
+      λ w low high. ap (winner_at es) (between v w low high),
+    )
+  where
+    between : (a w : ℤ) → a ≤ℤ w → w ≤ℤ a → w ≡ a
+    between a w low high = grind (arith, ints)
+begun es from (suc n) v e h = by (same_winner (winner_at es (v -ℤ pos 1)) (winner_at es v)) refl (begun es from n (v -ℤ pos 1) (stepped n v e))
+  where
+    stepped : (n : ℕ) (v : ℤ) → v ≡ from +ℤ pos (suc n) → (v -ℤ pos 1) ≡ from +ℤ pos n
+    stepped n v e = grind (arith, ints)
+
+    between : (a w : ℤ) → a ≤ℤ w → w ≤ℤ a → w ≡ a
+    between a w low high = grind (arith, ints)
+
+    not_below : (w : ℤ) → int_le w (v -ℤ pos 1) ≡ false → w ≤ℤ v → w ≡ v
+    not_below w f high = grind (arith, ints)
+
+    by : (c : Bool) → same_winner (winner_at es (v -ℤ pos 1)) (winner_at es v) ≡ c
+        → (is_some (winner_at es (v -ℤ pos 1)) ≡ true → Begun es from (v -ℤ pos 1)) → Begun es from v
+    by true same earlier =
+        let one : winner_at es (v -ℤ pos 1) ≡ winner_at es v = winner_from_same (winner_at es (v -ℤ pos 1)) (winner_at es v) same in
+        let (u, low, high, begins, constant) = earlier (ap is_some one ∙ h) in
+        (u, low, grind (arith, ints), begins, λ w a b. split w a b one constant (int_le w (v -ℤ pos 1)) refl)
+      where
+        split : {u : ℤ} (w : ℤ) → u ≤ℤ w → w ≤ℤ v → winner_at es (v -ℤ pos 1) ≡ winner_at es v
+            → ((x : ℤ) → u ≤ℤ x → x ≤ℤ (v -ℤ pos 1) → winner_at es x ≡ winner_at es (v -ℤ pos 1))
+            → (c : Bool) → int_le w (v -ℤ pos 1) ≡ c → winner_at es w ≡ winner_at es v
+        split w a b one constant true f = constant w a (grind (arith, ints)) ∙ one
+        split w a b one constant false f = ap (winner_at es) (not_below w f b)
+    by false apart earlier = (
+      v,
+      after_from v n e,
+      grind (arith, ints),
+      both_true (is_some (winner_at es v)) _ h (second_true (int_eq v from) _ (ap not apart)),
+      λ w low high. ap (winner_at es) (between v w low high),
+    )
+      where
+        after_from : (v : ℤ) (n : ℕ) → v ≡ from +ℤ pos (suc n) → from ≤ℤ v
+        after_from v n e = grind (arith, ints)
+
+-- an instant up to which nothing changes comes before the next change
+constant_before : (es : List Entry) (u v : ℤ) (e : End) → IsUntil (winner_at es) u e → u ≤ℤ v → ((w : ℤ) → u ≤ℤ w → w ≤ℤ v → winner_at es w ≡ winner_at es v) → is_before v e ≡ true
+constant_before es u v (At t) h le constant = by (int_lt v t) refl
+  where
+    within : int_lt v t ≡ false → u <ℤ t → (u ≤ℤ t) × (t ≤ℤ v)
+    within f less = (grind (arith, ints), grind (arith, ints))
+
+    self : (x : ℤ) → x ≤ℤ x
+    self x = grind (arith, ints)
+
+    by : (c : Bool) → int_lt v t ≡ c → c ≡ true
+    by true f = refl
+    by false f =
+        let place = within f h.0 in
+        absurd (h.1 (constant t place.0 place.1 ∙ sym (constant u (self u) le)))
+constant_before es u v Endless h le constant = refl
+
+inside_end : (e : End) (to v : ℤ) → v <ℤ to → is_before v e ≡ true → v <ℤ end_within to e
+inside_end (At t) to v a b = by (int_lt t to) b
+  where
+    by : (c : Bool) → int_lt v t ≡ true → v <ℤ (cond c t to)
+    by true k = grind (arith, ints)
+    by false k = a
+inside_end Endless to v a b = a
+
+distance : (from v : ℤ) → from ≤ℤ v → (n : ℕ) × (v ≡ from +ℤ pos n)
+distance from v le = (unsigned_abs (v -ℤ from), grind (arith, ints))
+
+cover_all : (es : List Entry) (from to v : ℤ) → from ≤ℤ v → v <ℤ to → is_some (winner_at es v) ≡ true
+    → (u : ℤ) × (passes es from to u ≡ true) × (u ≤ℤ v) × (v <ℤ end_within to (next es u))
+cover_all es from to v le less h =
+    let d = distance from v le in
+    let (u, low, high, begins, constant) = begun es from d.0 v d.1 h in
+    let from_test : int_le from u ≡ true = grind (arith, ints) in
+    let to_test : int_lt u to ≡ true = grind (arith, ints) in (
+      u,
+      both_true (int_le from u) _ from_test (both_true (int_lt u to) _ to_test begins),
+      high,
+      inside_end (next es u) to v less (constant_before es u v (next es u) (next_is_until es u) high constant),
+    )
+
+pub segments_cover_all : SegmentsCoverAll
+unfolding beginnings governs candidates until
+segments_cover_all book id kind from to v le less h =
+    let es = entries_for book id kind in
+    let (u, p, high, inside) = cover_all es from to v le less h in
+    (u, begin_at_changes es from to u ∙ p, high, inside)
+
+-- a later beginning does not lie on the line of an earlier one
+apart : (es : List Entry) (from to u w : ℤ) → passes es from to u ≡ true → passes es from to w ≡ true → u <ℤ w → end_within to (next es u) ≤ℤ w
+apart es from to u w p q less = by (int_lt w (end_within to (next es u))) refl
+  where
+    order : (a b : ℤ) → a <ℤ b → (a ≤ℤ (b -ℤ pos 1)) × (a ≤ℤ b) × ((b -ℤ pos 1) <ℤ b)
+    order a b h = (grind (arith, ints), grind (arith, ints), grind (arith, ints))
+
+    before : (e : End) (x y : ℤ) → x <ℤ y → is_before y e ≡ true → is_before x e ≡ true
+    before (At t) x y h k = let late : int_lt y t ≡ true = k in grind (arith, ints)
+    before Endless x y h k = refl
+
+    not_first : int_le from u ≡ true → int_eq w from ≡ false
+    not_first a = grind (arith, ints)
+
+    by : (c : Bool) → int_lt w (end_within to (next es u)) ≡ c → end_within to (next es u) ≤ℤ w
+    by false f = grind (arith, ints)
+    by true f =
+        let places = order u w less in
+        let inside = before_end (next es u) to w (grind (arith, ints)) in
+        let here = same_before_next es u w places.1 inside in
+        let there = same_before_next es u (w -ℤ pos 1) places.0 (before (next es u) (w -ℤ pos 1) w places.2 inside) in
+        let same = same_from_winner (winner_at es (w -ℤ pos 1)) (winner_at es w) (there ∙ sym here) in
+        let begins = (and_parts (is_some (winner_at es w)) _ (and_parts (int_lt w to) _ (and_parts (int_le from w) _ q).1).1).1 in
+        let differs : not (same_winner (winner_at es (w -ℤ pos 1)) (winner_at es w)) ≡ true = left_out (int_eq w from) _ (not_first (and_parts (int_le from u) _ p).0) begins in
+        absurd (both_ways (not (same_winner (winner_at es (w -ℤ pos 1)) (winner_at es w))) (ap not same) differs)
+      where
+        left_out : (a b : Bool) → a ≡ false → (a || b) ≡ true → b ≡ true
+        left_out true b n k = absurd (false≢true (sym n))
+        left_out false b n k = k
+
+pub segments_are_apart : SegmentsAreApart
+unfolding beginnings governs candidates until
+segments_are_apart book id kind from to u w p q less =
+    let es = entries_for book id kind in
+    apart es from to u w (sym (begin_at_changes es from to u) ∙ p) (sym (begin_at_changes es from to w) ∙ q) less
 
 -- ---- types
 

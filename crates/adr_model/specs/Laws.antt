@@ -68,6 +68,19 @@ SegmentsShowOne =
     (book : Book) (id : List ℕ) (kind : PayloadType) (to u v : ℤ)
     → u ≤ℤ v → v <ℤ end_within to (until book id kind u) → governs book id kind v ≡ governs book id kind u
 
+-- each governed instant of the window lies on a line
+abbrev pub SegmentsCoverAll : Type 0
+SegmentsCoverAll =
+    (book : Book) (id : List ℕ) (kind : PayloadType) (from to v : ℤ) → from ≤ℤ v → v <ℤ to → is_some (governs book id kind v) ≡ true
+    → (u : ℤ) × (list_any (int_eq u) (beginnings book id kind from to) ≡ true) × (u ≤ℤ v) × (v <ℤ end_within to (until book id kind u))
+
+-- and on no two: a line ends before the next one begins, or where it does
+abbrev pub SegmentsAreApart : Type 0
+SegmentsAreApart =
+    (book : Book) (id : List ℕ) (kind : PayloadType) (from to u w : ℤ)
+    → list_any (int_eq u) (beginnings book id kind from to) ≡ true → list_any (int_eq w) (beginnings book id kind from to) ≡ true
+    → u <ℤ w → end_within to (until book id kind u) ≤ℤ w
+
 -- a type is listed just where something of it governs at some instant
 abbrev pub TypesGovernSometime : Type 0
 TypesGovernSometime =
