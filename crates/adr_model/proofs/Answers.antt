@@ -49,11 +49,11 @@ load_answer = rw two_resources-after (rw (price_and_load-layout, new_year) refl)
 abbrev listed : Book → PayloadType → ℤ → ℤ → List Entry → Result (List ℕ) Refusal
 listed book kind from to es =
     Ok (in_lines book
-      (flat_map
-        (λ u. option_map_or (segment_text u (end_within to (earliest (changes es u)))) (option_and_then (shown_of book kind) (winner_at es u)) [])
-        (filter
-          (λ u. int_le from u && (int_lt u to && (is_some (winner_at es u) && (int_eq u from || not (same_winner (winner_at es (u -ℤ pos 1)) (winner_at es u))))))
-          (in_order int_cmp (from ∷ bounds es)))))
+    (flat_map
+    (λ u. option_map_or (segment_text u (end_within to (earliest (changes es u)))) (option_and_then (shown_of book kind) (winner_at es u)) [])
+    (filter
+    (λ u. int_le from u && (int_lt u to && (is_some (winner_at es u) && (int_eq u from || not (same_winner (winner_at es (u -ℤ pos 1)) (winner_at es u))))))
+    (in_order int_cmp (from ∷ bounds es)))))
 
 list_from : (book : Book) (id : List ℕ) (kind : PayloadType) (from to : ℤ) (es : List Entry) → int_lt from to ≡ true → is_some (resource_by book id) ≡ true
     → entries_for book id kind ≡ es → list book id kind from to ≡ listed book kind from to es

@@ -1,7 +1,17 @@
 -- What an accepted and a refused edit do, and the book after one more edit.
 use Rattle.std.proofs.Common.{◌≡◌, ◌++◌, ◌∷◌, [], List, Option, Some, None, Ok, fold, refl, ap, ◌∙◌}
 use Rattle.std.specs.Prelude.{⊤}
-use Rattle.std.proofs.lemmas.List.Sums.{fold_push}
+use Rattle.std.proofs.Common.{Result, Err, ◌+◌, ◌≤◌, Bool, true, false, ◌||◌, length, sym, arith}
+use Rattle.std.proofs.lemmas.Bool.{false≢true}
+use Rattle.std.proofs.lemmas.List.Sums.{fold_push, fold-append}
+use Rattle.std.proofs.lemmas.Slice.Eq.{bytes_eq-Decides}
+use Rattle.std.specs.List.{list_any}
+use Rattle.std.specs.Str.{bytes_eq}
+use Rattle.adr_value.specs.Payload.{name_of}
+use Rattle.adr_value.specs.Same.{same_type}
+use Rattle.adr_value.specs.declared.payload.PayloadType.{PayloadType}
+use Rattle.adr_object.specs.declared.event.Payload.{Payload}
+use Rattle.adr_model.specs.Laws.{AcceptedEditsCount, JournalsGoOn, RefusedEditsChangeNothing, RepeatsAreOneEntry, VersionsAreEdits}
 use Rattle.std.specs.Result.{result_unwrap_or}
 use Rattle.adr_value.specs.Faults.{least_fault, unless_refused, judged}
 use Rattle.adr_value.specs.declared.refusal.Refusal.{Refusal}
@@ -55,3 +65,52 @@ fold_faultless (x ∷ xs) book h =
 pub after_all : (edits : List Edit) → AllAccepted empty edits → after edits ≡ fold made empty edits
 unfolding after
 after_all edits h = fold_faultless edits empty h
+
+-- ---- laws of edits
+
+pub refused_edits_change_nothing : RefusedEditsChangeNothing
+refused_edits_change_nothing edits x fault h = after_one_more edits x ∙ ap (λ r. result_unwrap_or r (after edits)) h
+
+pub accepted_edits_count : AcceptedEditsCount
+accepted_edits_count old new x h = sym (ap (λ (b : Book). b.version) (accepted old new x h).1)
+
+pub journals_go_on : JournalsGoOn
+unfolding after
+journals_go_on edits more = fold-append (λ book x. result_unwrap_or (step book x) book) empty edits more
+
+fold_version : (edits : List Edit) (book : Book) → (fold (λ b x. result_unwrap_or (step b x) b) book edits).version ≤ book.version + length edits
+fold_version [] book = omega arith
+fold_version (x ∷ xs) book = by (step book x) refl (fold_version xs)
+  where
+    by : (r : Result Book Refusal) → step book x ≡ r
+        → ((b : Book) → (fold (λ c y. result_unwrap_or (step c y) c) b xs).version ≤ b.version + length xs)
+        → (fold (λ c y. result_unwrap_or (step c y) c) (result_unwrap_or r book) xs).version ≤ book.version + length (x ∷ xs)
+    by (Ok new) e rest = let more = accepted_edits_count book new x e in let h = rest new in omega (arith, more, h)
+    by (Err fault) e rest = let h = rest book in omega (arith, h)
+
+pub versions_are_edits : VersionsAreEdits
+unfolding after
+versions_are_edits edits = let h = fold_version edits empty in omega (arith, h)
+
+-- a type's payloads are found under each name of it
+same_types : (p q k : PayloadType) → same_type q p ≡ true → same_type p k ≡ same_type q k
+same_types p q k h = let same : name_of q ≡ name_of p = (bytes_eq-Decides (name_of q) (name_of p)).0 h in ap (λ n. bytes_eq n (name_of k)) (sym same)
+
+or_true : (b : Bool) → (b || true) ≡ true
+or_true true = refl
+or_true false = refl
+
+found_too : (ps : List Payload) (p k : PayloadType) → list_any (λ q. same_type q.kind p) ps ≡ true → same_type p k ≡ true → list_any (λ q. same_type q.kind k) ps ≡ true
+found_too [] p k h t = absurd (false≢true h)
+found_too (q ∷ ps) p k h t = by (same_type q.kind p) refl (λ n. found_too ps p k n t) h
+  where
+    by : (b : Bool) → same_type q.kind p ≡ b → (list_any (λ r. same_type r.kind p) ps ≡ true → list_any (λ r. same_type r.kind k) ps ≡ true) → (b || list_any (λ r. same_type r.kind p) ps) ≡ true → (same_type q.kind k || list_any (λ r. same_type r.kind k) ps) ≡ true
+    by true e rest n = let u : same_type q.kind k ≡ true = sym (same_types p q.kind k e) ∙ t in rw u refl
+    by false e rest n = let u = rest n in rw u (or_true (same_type q.kind k))
+
+pub repeats_are_one_entry : RepeatsAreOneEntry
+repeats_are_one_entry i p h = (λ kind. by kind (same_type p.kind kind) refl, rw h refl)
+  where
+    by : (kind : PayloadType) (b : Bool) → same_type p.kind kind ≡ b → (b || list_any (λ q. same_type q.kind kind) i.payloads) ≡ list_any (λ q. same_type q.kind kind) i.payloads
+    by kind true e = sym (found_too i.payloads p.kind kind h e)
+    by kind false e = refl

@@ -1,4 +1,7 @@
 pub mod EditLemmas
+pub mod MachineLaws
+pub mod AnswerLaws
+pub mod QueryLaws
 pub mod Times
 pub mod Scripts
 pub mod Rows

@@ -3,6 +3,7 @@ pub mod Book
 pub mod Edits
 pub mod Entries
 pub mod Governor
+pub mod Laws
 pub mod Layout
 pub mod Machine
 pub mod Matching

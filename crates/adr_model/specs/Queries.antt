@@ -1,5 +1,5 @@
 -- What `list`, `roll` and `types` answer, from what governs alone, down to the bytes.
-use Rattle.std.specs.Prelude.{ℕ, ℤ, pos, ◌-ℤ◌, ◌&&◌, ◌||◌, ◌==◌, nat_le, int_lt, int_le, Bool, not, List, [], ◌∷◌, ◌++◌, map, filter, flat_map, Option, is_some, Result, Ok, Err, if◌then◌else◌, codes}
+use Rattle.std.specs.Prelude.{ℕ, ℤ, pos, ◌-ℤ◌, ◌&&◌, ◌||◌, ◌==◌, nat_le, int_lt, int_le, Bool, not, List, [], ◌∷◌, ◌++◌, map, filter, flat_map, is_some, Result, Ok, Err, if◌then◌else◌, codes}
 use Rattle.std.specs.Ordering.{int_eq, int_cmp, nat_cmp, is_eq, is_lt}
 use Rattle.std.specs.declared.cmp.Ordering.{Ordering}
 use Rattle.std.specs.Cmp.Lexicographic.{slice_cmp}

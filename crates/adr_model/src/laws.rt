@@ -1,0 +1,42 @@
+//! What follows from the definitions. Each function's clause is a law, and its body does nothing.
+ghost use Rattle.adr_model.specs.Laws.{AcceptedEditsCount, JournalsGoOn, JournalsGrow, LooksShowNoEarlier, PublicationsStay, RefusedEditsChangeNothing, RepeatsAreOneEntry, SeenNeverFalls, SegmentsAreApart, SegmentsAreInOrder, SegmentsBeginAtChanges, SegmentsCoverAll, SegmentsShowOne, TypesGovernSometime, UntilIsTheNextChange, VersionsAreEdits};
+
+/// The laws of edits: one that is refused changes nothing, one that is accepted makes the version one more, and
+/// the book after a journal is where the rest of the journal goes on. A version is at most the number of edits.
+#[tactic(auto, using(crate::proofs::EditLemmas::refused_edits_change_nothing, crate::proofs::EditLemmas::accepted_edits_count, crate::proofs::EditLemmas::journals_go_on, crate::proofs::EditLemmas::versions_are_edits))]
+pub fn edit_laws()
+    ensures refused { RefusedEditsChangeNothing }
+    ensures accepted { AcceptedEditsCount }
+    ensures journals { JournalsGoOn }
+    ensures versions { VersionsAreEdits }
+{}
+
+/// The law of entries: two payloads of one type in an interval count once, and compete once.
+#[tactic(auto, using(crate::proofs::EditLemmas::repeats_are_one_entry))]
+pub fn entry_laws()
+    ensures { RepeatsAreOneEntry }
+{}
+
+/// The laws of answers. `until` is the next instant at which something else governs. A line of `list` begins
+/// where that happens and shows one winner to its end; the lines stand in order, cover each governed instant of
+/// the window, and none covers another's. `types` lists a type just where something of it governs at some time.
+#[tactic(auto, using(crate::proofs::AnswerLaws::until_is_the_next_change, crate::proofs::QueryLaws::segments_begin_at_changes, crate::proofs::QueryLaws::segments_are_in_order, crate::proofs::QueryLaws::segments_show_one, crate::proofs::QueryLaws::segments_cover_all, crate::proofs::QueryLaws::segments_are_apart, crate::proofs::QueryLaws::types_govern_sometime))]
+pub fn answer_laws()
+    ensures until { UntilIsTheNextChange }
+    ensures begin { SegmentsBeginAtChanges }
+    ensures order { SegmentsAreInOrder }
+    ensures show { SegmentsShowOne }
+    ensures cover { SegmentsCoverAll }
+    ensures apart { SegmentsAreApart }
+    ensures types { TypesGovernSometime }
+{}
+
+/// The laws of the machine of one editor and many readers: what a reader has seen never falls, a look shows
+/// nothing earlier than that, publications stay, and the journal of each is a prefix of the next one's.
+#[tactic(auto, using(crate::proofs::MachineLaws::seen_never_falls, crate::proofs::MachineLaws::looks_show_no_earlier, crate::proofs::MachineLaws::publications_stay, crate::proofs::MachineLaws::journals_grow))]
+pub fn machine_laws()
+    ensures seen { SeenNeverFalls }
+    ensures look { LooksShowNoEarlier }
+    ensures publications { PublicationsStay }
+    ensures journals { JournalsGrow }
+{}
