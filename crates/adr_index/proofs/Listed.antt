@@ -54,6 +54,7 @@ starts_trans s t u x y z f h k = elim (or_cases (int_lt s t) (int_eq s t && x) h
   where
     below : (s t u : ℤ) (z : Bool) → int_lt s t ≡ true → int_lt t u ≡ true → (int_lt s u || (int_eq s u && z)) ≡ true
     below s t u z h k = let early : int_lt s u ≡ true = grind (arith, ints) in rw early
+
     or_true : (x : Bool) → (x || true) ≡ true
     or_true true = refl
     or_true false = refl
@@ -74,6 +75,7 @@ starts_total s t x y f h =
   where
     after : (s t : ℤ) → int_lt s t ≡ false → int_eq s t ≡ false → int_lt t s ≡ true
     after s t h k = grind (arith, ints, Decides-int_eq)
+
     or_true : (x : Bool) → (x || true) ≡ true
     or_true true = refl
     or_true false = refl
@@ -86,6 +88,7 @@ listed_starts a b h = starts a.span.start b.span.start (later_write a b) h
   where
     below : (s t : ℤ) → int_lt s t ≡ true → s ≤ℤ t
     below s t h = grind (arith, ints)
+
     starts : (s t : ℤ) (x : Bool) → (int_lt s t || (int_eq s t && x)) ≡ true → s ≤ℤ t
     starts s t x h = elim (or_cases (int_lt s t) (int_eq s t && x) h) [
       | inl lt ↦ below s t lt
@@ -163,8 +166,8 @@ ordered_inserted e es o new =
     (ordered_filter (λ x. is_listed_before x e) es o)
     (all_kept (λ x. is_listed_before x e) (λ f. is_listed_before f e ≡ true) es (λ f h. h))
     (all_both (λ f. is_listed_before f e ≡ false) (λ f. is_entry e.rank.written e.rank.place f ≡ false) (λ f. is_listed_before e f ≡ true) (λ f h k. listed_total f e h k) (filter (λ x. not (is_listed_before x e)) es)
-      (all_kept (λ x. not (is_listed_before x e)) (λ f. is_listed_before f e ≡ false) es (λ f h. not_true (is_listed_before f e) h))
-      (all_filter (λ f. is_entry e.rank.written e.rank.place f ≡ false) (λ x. not (is_listed_before x e)) es (none_such (is_entry e.rank.written e.rank.place) es new)))
+    (all_kept (λ x. not (is_listed_before x e)) (λ f. is_listed_before f e ≡ false) es (λ f h. not_true (is_listed_before f e) h))
+    (all_filter (λ f. is_entry e.rank.written e.rank.place f ≡ false) (λ x. not (is_listed_before x e)) es (none_such (is_entry e.rank.written e.rank.place) es new)))
     (ordered_filter (λ x. not (is_listed_before x e)) es o)
 
 -- ---- the place of a new entry

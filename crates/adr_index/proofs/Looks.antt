@@ -151,14 +151,14 @@ probes_twice (suc h) es q = elim (cases_eq (length es) 0) [
       let lt : 0 < length es = omega arith in
       elim (cases_Bool (any_lasts es q.from)) [
         | inl on ↦ rw (probes_suc h es q lt) (omega (
-            arith,
-            looks_open h es q on,
-            probes_twice h (take (length es / 2) es) q,
-            probes_twice h (drop (length es / 2 + 1) es) q,
-            length-take-le (length es / 2) es (omega arith),
-            length-drop (length es / 2 + 1) es,
-            half_more (length es) lt,
-          ))
+          arith,
+          looks_open h es q on,
+          probes_twice h (take (length es / 2) es) q,
+          probes_twice h (drop (length es / 2 + 1) es) q,
+          length-take-le (length es / 2) es (omega arith),
+          length-drop (length es / 2 + 1) es,
+          half_more (length es) lt,
+        ))
         | inr shut ↦ rw (probes_suc h es q lt, looks_pruned h es q shut) (omega arith)
       ]
 ]

@@ -220,11 +220,7 @@ impl Index {
 
     /// `covering`, with a tick for each look at a stored entry or a stored greatest end: with n entries of d binary
     /// digits and m answered at most 4(d + 1)(m + 1).
-    pub fn covering_counted(
-        &self,
-        at: Moment,
-        meter: &mut Meter,
-    ) -> Result<Vec<Entry>, Refusal>
+    pub fn covering_counted(&self, at: Moment, meter: &mut Meter) -> Result<Vec<Entry>, Refusal>
         requires { meter.old + most_probes self.now.entries (length self.now.entries) < 2 ^ 64 }
         ensures found { IfOk result (λ found. found.items ≡ the_covering self.now.entries at) }
         ensures probes { meter.new ≤ meter.old + most_probes self.now.entries (length (the_covering self.now.entries at)) }

@@ -5,12 +5,11 @@ ghost use Rattle.std.specs.Prelude.{◌≡◌};
 ghost use Rattle.adr_value.specs.Answer.{Answers, result_map};
 ghost use Rattle.adr_model.specs.Layout.{layout, placed_from, first_start as the_first_start, start_after as the_start_after, duration_of, interval_span as the_interval_span, span_from as the_span_from};
 
+pub use adr_model::Placed;
 use adr_object::{Event, Interval, Period};
 use adr_time::{End, Length, Moment, Span, end_of};
 use adr_value::Refusal;
 use std::alloc::Global;
-
-pub use adr_model::Placed;
 
 /// Where the intervals of an event lie, with their places in its array (OpenADR 3.0 Definition, interval and
 /// intervalPeriod). One with its own period starts there; one without starts where the one before it ends, the

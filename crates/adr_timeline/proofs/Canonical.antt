@@ -305,9 +305,11 @@ open_at ss t i c found =
     not_flip false y h k = refl
     not_flip true true h k = k
     not_flip true false h k = absurd (false≢true (h refl))
+
     not_true : (x : Bool) → not x ≡ true → x ≡ false
     not_true false h = refl
     not_true true h = sym h
+
     not_false : (x : Bool) → not x ≡ false → x ≡ true
     not_false true h = refl
     not_false false h = sym h

@@ -109,7 +109,7 @@ module _ (left right done new : List Step) (a b r : Option Rank) (i j now later 
     right_in = so_far.right_in;
     count = omega (arith, new_count);
     completes = λ rest m. rw (one_more rest) (so_far.completes (record { from = x.from; rank = r } ∷ rest)
-      (rw (taken left i x lt h) (merge_left a b r x (drop (i + 1) left) (drop j right) rest (rw (taken left i x lt h) at g) is m)));
+        (rw (taken left i x lt h) (merge_left a b r x (drop (i + 1) left) (drop j right) rest (rw (taken left i x lt h) at g) is m)));
     compared = omega (arith, so_far.compared);
   }
 
@@ -119,7 +119,7 @@ module _ (left right done new : List Step) (a b r : Option Rank) (i j now later 
     right_in = omega arith;
     count = omega (arith, new_count);
     completes = λ rest m. rw (one_more rest) (so_far.completes (record { from = x.from; rank = r } ∷ rest)
-      (rw (taken right j x lt h) (merge_right a b r x (drop i left) (drop (j + 1) right) rest (rw (taken right j x lt h) at g) is m)));
+        (rw (taken right j x lt h) (merge_right a b r x (drop i left) (drop (j + 1) right) rest (rw (taken right j x lt h) at g) is m)));
     compared = omega (arith, so_far.compared);
   }
 

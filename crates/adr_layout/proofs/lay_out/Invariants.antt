@@ -8,6 +8,6 @@ abbrev pub invariant-loop-place : goal.invariant-loop-place
 invariant-loop-place l = record {
   within : l.place ≤ length l.intervals;
   answer :
-    placed_spans l.default (first_start l.default) l.intervals 0
-    ≡ onto l.placed.items (placed_spans l.default l.next (drop l.place l.intervals) l.place)
+      placed_spans l.default (first_start l.default) l.intervals 0
+      ≡ onto l.placed.items (placed_spans l.default l.next (drop l.place l.intervals) l.place);
 }
