@@ -5,6 +5,9 @@ ghost use Rattle.std.specs.Prelude.{◌≡◌};
 ghost use Rattle.adr_value.specs.Answer.{Answers, result_map};
 ghost use Rattle.adr_model.specs.Layout.{layout, placed_from, first_start as the_first_start, start_after as the_start_after, duration_of, interval_span as the_interval_span, span_from as the_span_from};
 
+#[cfg(test)]
+mod tests;
+
 pub use adr_model::Placed;
 use adr_object::{Event, Interval, Period};
 use adr_time::{End, Length, Moment, Span, end_of};

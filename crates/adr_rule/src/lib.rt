@@ -7,5 +7,8 @@ mod scene;
 
 pub use adr_model::Rank;
 pub use matching::{applies, matches};
-pub use ranking::{Meter, before};
+pub use ranking::{Meter, before, rank_laws};
 pub use scene::Scene;
+
+#[cfg(test)]
+mod tests;

@@ -1,5 +1,6 @@
 ghost use Rattle.std.specs.Prelude.{◌≡◌, ◌+◌, ◌<◌, ◌^◌};
 ghost use Rattle.adr_model.specs.Rank.{goes_before};
+ghost use Rattle.adr_rule.specs.Laws.{GoingBeforePassesOn, NoneGoesBeforeItself, OneOfTwoGoesBefore};
 
 use adr_model::Rank;
 use std::marker::Model;
@@ -55,3 +56,12 @@ pub fn before(a: &Rank, b: &Rank, meter: &mut Meter) -> bool
         || (a.priority == b.priority
             && (b.written < a.written || (a.written == b.written && a.place < b.place)))
 }
+
+/// The order of ranks is strict and total: no rank goes before itself, the order passes on, and of two ranks one goes
+/// before the other.
+#[tactic(auto, using(crate::proofs::Order::none_goes_before_itself, crate::proofs::Order::going_before_passes_on, crate::proofs::Order::one_of_two_goes_before))]
+pub fn rank_laws()
+    ensures strict { NoneGoesBeforeItself }
+    ensures passes_on { GoingBeforePassesOn }
+    ensures total { OneOfTwoGoesBefore }
+{}

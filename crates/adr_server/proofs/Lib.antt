@@ -1,3 +1,4 @@
 mod Digits
+mod Fans
 mod Journals
 mod Words

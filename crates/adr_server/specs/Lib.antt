@@ -1,3 +1,4 @@
+pub mod Fan
 pub mod Fields
 pub mod Kept
 pub mod Laws

@@ -1,3 +1,4 @@
+ghost use Rattle.adr_server.specs.Fan.{FanRunsTheScript, ReadersMayAnswerAtTheEnd};
 ghost use Rattle.adr_server.specs.Laws.{GovernsTheLeastMatching, RefusalsChangeNothing, RefusedEditsChangeNothing, AcceptedEditsAreKept, QueriesChangeNothing};
 
 /// What the text that `run` writes promises. After any lines, at each published version, resource, payload type and
@@ -9,4 +10,12 @@ pub fn least_matching_interval_governs()
     ensures refused_edits { RefusedEditsChangeNothing }
     ensures accepted_edits { AcceptedEditsAreKept }
     ensures queries { QueriesChangeNothing }
+{}
+
+/// What the text of many readers promises. Its editor's edits and publications are those of a script without readers,
+/// and readers that answer each query from the last publication of all, at the end, do what they may.
+#[tactic(auto, using(crate::proofs::Fans::fan_runs_the_script, crate::proofs::Fans::readers_may_answer_at_the_end))]
+pub fn fan_laws()
+    ensures script { FanRunsTheScript }
+    ensures end { ReadersMayAnswerAtTheEnd }
 {}

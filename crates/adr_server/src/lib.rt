@@ -12,7 +12,7 @@ mod replies;
 pub use adr_options::{Job, job};
 pub use adr_script::{Fault, status};
 pub use command::Command;
-pub use laws::least_matching_interval_governs;
+pub use laws::{fan_laws, least_matching_interval_governs};
 pub use line::parse_line;
 pub use program::run;
 
