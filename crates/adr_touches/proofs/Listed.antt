@@ -1,12 +1,8 @@
 -- The touches of two books, from the ids that both have.
 use Rattle.std.proofs.Common.{◌≡◌, ℕ, List, map, ap, ◌∙◌, flat_map}
-use Rattle.adr_model.specs.declared.touch.Touch.{Touch}
 use Rattle.adr_model.specs.Book.{Book}
-use Rattle.adr_model.specs.Touches.{touches, touches_between, applying, ids_of_both}
-
--- the touches by resource, and then by event
-abbrev pub listed : Book → Book → List (List ℕ) → List (List ℕ) → List Touch
-listed old new resources events = flat_map (λ r. flat_map (λ e. touches_between r (applying old r e) (applying new r e)) events) resources
+use Rattle.adr_model.specs.Touches.{touches, ids_of_both}
+use Rattle.adr_touches.specs.Windows.{touches_on}
 
 abbrev pub resource_ids : Book → List (List ℕ)
 resource_ids book = map (λ r. r.id) book.resources
@@ -16,10 +12,10 @@ event_ids book = map (λ w. w.event.id) book.events
 
 pub listed_touches : (old new : Book) (resources events : List (List ℕ))
     → resources ≡ ids_of_both (resource_ids old) (resource_ids new) → events ≡ ids_of_both (event_ids old) (event_ids new)
-    → listed old new resources events ≡ touches old new
+    → flat_map (touches_on old new events) resources ≡ touches old new
 unfolding touches
 listed_touches old new resources events rs es =
-    ap (λ (ids : List (List ℕ)). listed old new ids events) rs ∙ ap (λ (ids : List (List ℕ)). listed old new (ids_of_both (resource_ids old) (resource_ids new)) ids) es
+    ap (λ (ids : List (List ℕ)). flat_map (touches_on old new events) ids) rs ∙ ap (λ (ids : List (List ℕ)). flat_map (touches_on old new ids) (ids_of_both (resource_ids old) (resource_ids new))) es
 
 both_equal : (old new old' new' : List (List ℕ)) → old ≡ old' → new ≡ new' → ids_of_both old new ≡ ids_of_both old' new'
 both_equal old new old' new' a b = ap (λ (ids : List (List ℕ)). ids_of_both ids new) a ∙ ap (λ (ids : List (List ℕ)). ids_of_both old' ids) b

@@ -10,3 +10,6 @@ mod windows;
 
 pub use listing::touches;
 pub use objects::Objects;
+
+#[cfg(test)]
+mod tests;

@@ -1,7 +1,8 @@
 ghost use Rattle.std.specs.Prelude.{◌≡◌, ◌++◌, OnOk, IfOk, IfErr, flat_map};
 ghost use Rattle.std.specs.Option.{option_copied};
-ghost use Rattle.adr_model.specs.Touches.{touches as the_touches, touches_between, applying as the_applying};
+ghost use Rattle.adr_model.specs.Touches.{touches as the_touches, touches_between};
 ghost use Rattle.adr_touches.specs.Objects.{book_of};
+ghost use Rattle.adr_touches.specs.Windows.{touches_on};
 
 use crate::ids::{event_ids, ids_of_both, resource_ids};
 use crate::matching::applying;
@@ -46,7 +47,7 @@ fn add_resource(
     resource: &Id,
     events: &[Id],
 ) -> Result<(), Refusal>
-    ensures ok { OnOk result (touches.new.items ≡ touches.old.items ++ flat_map (λ e. touches_between resource.now (the_applying (book_of old.now) resource.now e) (the_applying (book_of new.now) resource.now e)) events.now) }
+    ensures ok { OnOk result (touches.new.items ≡ touches.old.items ++ touches_on (book_of old.now) (book_of new.now) events.now resource.now) }
     ensures memory { IfErr result (λ refusal. refusal ≡ Refusal.NoMemory) }
 {
     let mut rest = events;
@@ -67,7 +68,7 @@ fn list_touches(
     resources: &[Id],
     events: &[Id],
 ) -> Result<Vec<Touch>, Refusal>
-    ensures ok { IfOk result (λ touches. touches.items ≡ flat_map (λ r. flat_map (λ e. touches_between r (the_applying (book_of old.now) r e) (the_applying (book_of new.now) r e)) events.now) resources.now) }
+    ensures ok { IfOk result (λ touches. touches.items ≡ flat_map (touches_on (book_of old.now) (book_of new.now) events.now) resources.now) }
     ensures memory { IfErr result (λ refusal. refusal ≡ Refusal.NoMemory) }
 {
     let mut touches = Vec::new(alloc);
