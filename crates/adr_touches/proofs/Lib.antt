@@ -1,0 +1,3 @@
+mod Laid
+mod Listed
+mod Types
