@@ -7,3 +7,4 @@ pub mod Scripts
 pub mod Rows
 pub mod Receipts
 pub mod Answers
+pub mod Replies
