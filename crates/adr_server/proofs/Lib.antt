@@ -1,4 +1,5 @@
 mod Digits
 mod Fans
 mod Journals
+mod Printed
 mod Words
