@@ -1,3 +1,4 @@
+pub mod Fresh
 pub mod Grown
 pub mod Listed
 pub mod Looks

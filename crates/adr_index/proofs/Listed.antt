@@ -1,11 +1,11 @@
 -- Entries in order, and what is asked for by an instant or a window.
-use Rattle.std.proofs.Common.{◌≡◌, ℕ, zero, suc, ◌+◌, ◌*◌, ◌^◌, ◌<◌, ◌≤◌, Bool, true, false, not, ◌&&◌, ◌||◌, ◌==◌, nat_lt, cond, List, [], ◌∷◌, ◌++◌, length, filter, slice_index_or, Option, if◌then◌else◌, refl, sym, ◌∙◌, ap, subst, arith, ℤ, ◌≤ℤ◌, int_le, int_lt, inl, inr, IsTrue}
+use Rattle.std.proofs.Common.{◌≡◌, ℕ, zero, suc, ◌+◌, ◌*◌, ◌^◌, ◌<◌, ◌≤◌, Bool, true, false, not, ◌&&◌, ◌||◌, ◌==◌, nat_lt, cond, List, [], ◌∷◌, ◌++◌, length, filter, slice_index_or, Option, refl, sym, ap, subst, arith, ℤ, ◌≤ℤ◌, int_le, int_lt, inl, inr}
 use Rattle.std.specs.Ordering.{int_eq}
 use Rattle.std.specs.List.{AllByRecursion, insert, list_any}
 use Rattle.std.specs.List.Sorted.{IsPartitionedBy, IsPartitionPoint}
 use Rattle.std.proofs.lemmas.Int.{ints}
 use Rattle.std.proofs.lemmas.Nat.{leading_length}
-use Rattle.std.proofs.lemmas.Bool.{cases_Bool, or_cases, or_parts, and_parts, and_from, false≢true}
+use Rattle.std.proofs.lemmas.Bool.{cases_Bool, or_cases, or_parts, and_parts}
 use Rattle.std.proofs.lemmas.Bool.Decides.{nat_tests, Decides-int_eq}
 use Rattle.std.proofs.Math.Nat.{mul-le-mul_left}
 use Rattle.std.proofs.lemmas.List.Sums.{length-filter, count_by-le-length}
@@ -16,11 +16,10 @@ use Rattle.adr_time.specs.declared.span.Span.{Span}
 use Rattle.adr_model.specs.declared.entry.Entry.{Entry}
 use Rattle.adr_model.specs.Entries.{covering, is_listed_before, meeting, IsListed}
 use Rattle.adr_index.specs.declared.query.Query.{Query}
-use Rattle.adr_index.specs.declared.query.Latest.{Latest}
 use Rattle.adr_index.specs.declared.query.Latest.TheVariants.{Before, By}
-use Rattle.adr_index.specs.Query.{begins, lasts, is_hit, hits}
+use Rattle.adr_index.specs.Query.{is_hit, hits}
 use Rattle.adr_index.specs.Tree.{IsByStart, IsTree, probes}
-use Rattle.adr_index.specs.Index.{digits, inserted, is_entry, most_probes, without, IsIndex, IsOrdered}
+use Rattle.adr_index.specs.Index.{digits, inserted, is_entry, most_probes, IsIndex, IsOrdered}
 use Rattle.adr_index.proofs.Looks.{few_looks}
 use Rattle.adr_index.proofs.Grown.{tree_nil}
 

@@ -5,10 +5,8 @@ use Rattle.std.proofs.Math.Nat.{mul-le-mul_left}
 use Rattle.std.proofs.lemmas.Int.{ints}
 use Rattle.std.proofs.lemmas.List.{length-append, length-take-le, length-drop}
 use Rattle.std.proofs.lemmas.Bool.{cases_Bool, cases_eq, ne_eqb, false≢true, or_cases}
-use Rattle.adr_time.specs.declared.span.End.{End}
 use Rattle.adr_time.specs.declared.span.End.TheVariants.{At, Endless}
 use Rattle.adr_model.specs.declared.entry.Entry.{Entry}
-use Rattle.adr_time.specs.Spans.{is_before}
 use Rattle.adr_index.specs.declared.query.Query.{Query}
 use Rattle.adr_index.specs.declared.query.Latest.{Latest}
 use Rattle.adr_index.specs.declared.query.Latest.TheVariants.{Before, By}

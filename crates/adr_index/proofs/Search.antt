@@ -1,14 +1,13 @@
 -- What a search of the tree finds, and how many looks it takes.
-use Rattle.std.proofs.Common.{◌≡◌, ℕ, zero, suc, ◌+◌, ◌-◌, ◌/◌, ◌^◌, ◌<◌, ◌≤◌, Bool, true, false, ◌&&◌, List, [], ◌∷◌, ◌++◌, length, take, drop, get_or, Option, None, if◌then◌else◌, refl, sym, ◌∙◌, ap, subst, arith, ℤ, ◌≤ℤ◌, int_le, pos}
+use Rattle.std.proofs.Common.{◌≡◌, ℕ, zero, suc, ◌+◌, ◌-◌, ◌/◌, ◌^◌, ◌<◌, ◌≤◌, Bool, true, false, ◌&&◌, List, [], ◌∷◌, ◌++◌, length, take, drop, get_or, Option, None, if◌then◌else◌, refl, sym, ◌∙◌, ap, subst, arith, ℤ, ◌≤ℤ◌, pos}
 use Rattle.std.specs.List.{AllByRecursion}
 use Rattle.std.proofs.lemmas.Int.{ints}
 use Rattle.std.proofs.lemmas.List.{take-append-drop, drop_more, append-nil, append_assoc, length-take-le, length-drop, get_or_read}
 use Rattle.std.proofs.lemmas.List.Elements.{filter-append}
-use Rattle.std.proofs.lemmas.Bool.{false≢true, or_parts, ne_eqb}
+use Rattle.std.proofs.lemmas.Bool.{or_parts, ne_eqb}
 use Rattle.adr_time.specs.declared.span.End.{End}
 use Rattle.adr_time.specs.declared.span.End.TheVariants.{At, Endless}
 use Rattle.adr_model.specs.declared.entry.Entry.{Entry}
-use Rattle.adr_time.specs.Spans.{is_before, covers, meets}
 use Rattle.adr_index.specs.declared.query.Query.{Query}
 use Rattle.adr_index.specs.declared.query.Latest.{Latest}
 use Rattle.adr_index.specs.declared.query.Latest.TheVariants.{Before, By}

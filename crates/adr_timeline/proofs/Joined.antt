@@ -2,8 +2,7 @@
 use Rattle.std.proofs.Common.{◌≡◌, ℕ, zero, suc, ◌+◌, ◌<◌, true, false, List, [], ◌∷◌, ◌++◌, length, get_or, set, refl, sym, ap, arith, subst}
 use Rattle.std.proofs.lemmas.List.{get_or_read}
 use Rattle.adr_model.specs.declared.timeline.Segment.{Segment}
-use Rattle.adr_time.specs.Spans.{is_before}
-use Rattle.adr_timeline.specs.Parts.{joined, joined_part, leads_to}
+use Rattle.adr_timeline.specs.Parts.{joined, leads_to}
 
 -- where the last segment leads to the piece, that segment ends later
 pub joined_set : (ss : List Segment) (i : ℕ) (d p : Segment) → i + 1 ≡ length ss → leads_to (get_or ss i d) p ≡ true → set ss i (record (get_or ss i d) { end = p.end }) ≡ joined ss p

@@ -1,4 +1,5 @@
 pub mod Canonical
+pub mod Compared
 pub mod Joined
 pub mod Merged
 pub mod Pieces

@@ -1,14 +1,10 @@
 -- The order of ranks, and the least rank of a list of entries.
-use Rattle.std.proofs.Common.{◌≡◌, Bool, true, false, ◌&&◌, cond, List, [], ◌∷◌, ◌++◌, Option, Some, None, filter, if◌then◌else◌, refl, sym, ◌∙◌, ap, arith, ℤ, int_le}
+use Rattle.std.proofs.Common.{◌≡◌, Bool, true, false, cond, List, [], ◌∷◌, ◌++◌, Option, Some, None, filter, if◌then◌else◌, refl, sym, ◌∙◌, ap, arith, ℤ}
 use Rattle.std.specs.Option.{option_map, option_map_or}
 use Rattle.std.proofs.lemmas.Bool.Decides.{nat_tests}
-use Rattle.std.proofs.lemmas.Bool.{false≢true, cases_Bool, and_parts, and_from}
-use Rattle.adr_time.specs.Spans.{covers, is_before, meets}
-use Rattle.adr_time.specs.declared.span.End.{End}
-use Rattle.adr_time.specs.declared.span.Span.{Span}
+use Rattle.adr_time.specs.Spans.{covers}
 use Rattle.adr_model.specs.declared.entry.Entry.{Entry}
 use Rattle.adr_model.specs.declared.entry.Rank.{Rank}
-use Rattle.adr_model.specs.declared.timeline.Winner.{Winner}
 use Rattle.adr_model.specs.Rank.{goes_before}
 use Rattle.adr_model.specs.Governor.{first_of, winner_of, winner_at}
 use Rattle.adr_timeline.specs.Steps.{lesser, rank_at, winner_of_rank}

@@ -1,5 +1,5 @@
 -- Steps of one entry, and the segments of a list of steps.
-use Rattle.std.proofs.Common.{◌≡◌, ℕ, zero, suc, ◌+◌, ◌*◌, ◌-◌, ◌/◌, ◌<◌, ◌≤◌, not, ◌&&◌, Bool, true, false, List, [], ◌∷◌, ◌++◌, length, take, drop, Option, Some, None, filter, inl, inr, if◌then◌else◌, refl, sym, ◌∙◌, ap, arith, ℤ, ◌≤ℤ◌, int_le, int_lt}
+use Rattle.std.proofs.Common.{◌≡◌, ℕ, ◌+◌, ◌*◌, ◌-◌, ◌/◌, ◌<◌, ◌≤◌, not, ◌&&◌, Bool, true, false, List, [], ◌∷◌, ◌++◌, length, take, drop, Option, Some, None, filter, inl, inr, if◌then◌else◌, refl, sym, ◌∙◌, ap, arith, ℤ, ◌≤ℤ◌, int_le, int_lt}
 use Rattle.std.specs.Option.{option_map}
 use Rattle.std.proofs.Math.Nat.{mul-le-mul_left}
 use Rattle.std.proofs.lemmas.List.{length-take-le, length-drop, take-append-drop}
@@ -12,7 +12,7 @@ use Rattle.adr_model.specs.declared.entry.Entry.{Entry}
 use Rattle.adr_model.specs.declared.entry.Rank.{Rank}
 use Rattle.adr_model.specs.declared.timeline.Winner.{Winner}
 use Rattle.adr_model.specs.declared.timeline.Segment.{Segment}
-use Rattle.adr_timeline.specs.Segments.{winner_in, EndsBy}
+use Rattle.adr_timeline.specs.Segments.{winner_in}
 use Rattle.adr_timeline.specs.declared.step.Step.{Step}
 use Rattle.adr_timeline.specs.Steps.{lesser, rank_at, rank_from, IsFrom, IsInOrder, down_at, steps_of, first_from, winner_of_rank, piece, pieces}
 use Rattle.adr_time.specs.Spans.{meets}

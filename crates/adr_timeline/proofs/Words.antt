@@ -1,10 +1,9 @@
 -- What a timeline shows and when it is canonical, part by part.
-use Rattle.std.proofs.Common.{◌≡◌, ◌≢◌, Bool, true, false, cond, zero, suc, List, [], ◌∷◌, Option, Some, None, IsTrue, All, find, if◌then◌else◌, refl, arith, ap, sym, ◌∙◌, ℤ}
+use Rattle.std.proofs.Common.{◌≡◌, ◌≢◌, Bool, true, false, cond, zero, suc, List, [], ◌∷◌, Some, IsTrue, All, find, if◌then◌else◌, refl, arith, ap, ℤ}
 use Rattle.std.specs.Option.{option_map}
 use Rattle.adr_time.specs.Spans.{covers, is_before}
 use Rattle.adr_time.specs.declared.span.End.{End}
 use Rattle.adr_time.specs.declared.span.End.TheVariants.{At, Endless}
-use Rattle.adr_model.specs.declared.timeline.Winner.{Winner}
 use Rattle.adr_model.specs.declared.timeline.Segment.{Segment}
 use Rattle.adr_model.specs.Timeline.{span_of, shows, Follows, AllFollow, IsCanonical}
 use Rattle.adr_timeline.specs.Segments.{winner_in, EndsBy, IsApart, IsLinked}

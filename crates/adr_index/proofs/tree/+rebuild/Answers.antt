@@ -1,7 +1,6 @@
 use Rattle.std.proofs.Common.{rules, ◌≡◌, ◌+◌, ◌/◌, ◌<◌, length, take, sym, ◌∙◌, ap, arith, pos, subst, Option}
 use Rattle.adr_time.specs.declared.span.End.{End}
 use Rattle.std.proofs.lemmas.List.{length-take-le, length-drop}
-use Rattle.adr_time.specs.declared.span.End.TheVariants.{Endless}
 use Rattle.adr_index.specs.declared.query.Query.{Query}
 use Rattle.adr_index.specs.declared.query.Latest.TheVariants.{By}
 use Rattle.adr_index.specs.Tree.{later_end, IsGreatest}

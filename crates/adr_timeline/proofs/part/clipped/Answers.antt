@@ -1,7 +1,7 @@
-use Rattle.std.proofs.Common.{◌≡◌, ◌∙◌, List, ap, Some}
+use Rattle.std.proofs.Common.{◌∙◌, List, ap, Some}
 use Rattle.adr_model.specs.declared.timeline.Segment.{Segment}
 use Rattle.adr_timeline.specs.Parts.{part, joined_all}
-use Rattle.adr_timeline.proofs.Words.{shows_is, canonical_linked}
+use Rattle.adr_timeline.proofs.Words.{canonical_linked}
 use Rattle.adr_timeline.proofs.Pieces.{IsClipped, clip_made, clip_shown, linked_spread}
 use Rattle.adr_timeline.proofs.part.clipped.Goals as goal
 

@@ -1,9 +1,6 @@
-use Rattle.std.proofs.Common.{rules, ◌≡◌, ◌∙◌, ap, not, sym, of_calls, subst, slice_get}
+use Rattle.std.proofs.Common.{rules, ◌≡◌, ◌∙◌, not, of_calls, slice_get}
 use Rattle.std.proofs.lemmas.Fn.{always_returns_same}
 use Rattle.adr_time.specs.Spans.{is_before}
-use Rattle.adr_model.specs.Timeline.{shows}
-use Rattle.adr_model.specs.Answer.{IsUntil}
-use Rattle.adr_timeline.specs.Open.{change_at, winner_at_open}
 use Rattle.adr_timeline.proofs.Words.{shows_is, canonical_linked}
 use Rattle.adr_timeline.proofs.Canonical.{IsOpenAt, open_at, open_winner, open_until, item_copied}
 use Rattle.adr_timeline.proofs.search.first_open.Goals as goal

@@ -1,7 +1,7 @@
-use Rattle.std.proofs.Common.{rules, ◌≡◌, ◌∙◌, ℕ, ◌≤◌, ◌/◌, ◌^◌, length, arith, refl, None}
+use Rattle.std.proofs.Common.{rules, ◌≤◌, ◌/◌, ◌^◌, length, refl, None}
 use Rattle.std.proofs.lemmas.Result.{IfOk-weaker}
 use Rattle.adr_timeline.specs.Steps.{rank_from}
-use Rattle.adr_timeline.proofs.Stepped.{IsHalved, halved, back_room, both_within, merge_room, all_within, halves_rank}
+use Rattle.adr_timeline.proofs.Stepped.{halved, back_room, both_within, merge_room, all_within, halves_rank}
 use Rattle.adr_timeline.proofs.step.+ranked.Goals as goal
 
 pub ranked-requires-in_default : goal.ranked-requires-in_default

@@ -1,8 +1,5 @@
-use Rattle.std.proofs.Common.{rules, ◌≡◌, ◌∙◌, ℕ, ◌+◌, List, ◌++◌, ◌∷◌, [], Option, sym, ap, arith, drop, true, false, subst}
-use Rattle.adr_model.specs.declared.entry.Rank.{Rank}
-use Rattle.adr_timeline.specs.declared.step.Step.{Step}
-use Rattle.adr_timeline.specs.Steps.{goes_left, lesser}
-use Rattle.adr_timeline.proofs.Merged.{IsBegun, IsMerged, turn_left, turn_right, merge_done, goes_rest, begun_at}
+use Rattle.std.proofs.Common.{rules, sym, arith}
+use Rattle.adr_timeline.proofs.Merged.{IsMerged, turn_left, turn_right, merge_done, goes_rest, begun_at}
 use Rattle.adr_timeline.proofs.step.merged.Goals as goal
 use Rattle.adr_timeline.proofs.step.merged.Goals.{then-goes_left, else-goes_left}
 

@@ -1,5 +1,4 @@
-use Rattle.std.proofs.Common.{rules, ◌≡◌, ◌+◌, ◌*◌, ◌<◌, ◌^◌, length, arith}
-use Rattle.adr_index.specs.Index.{digits}
+use Rattle.std.proofs.Common.{rules, ◌+◌, ◌<◌, ◌^◌, length, arith}
 use Rattle.adr_index.proofs.Listed.{ordered_starts}
 use Rattle.adr_index.proofs.Looks.{probes_twice}
 use Rattle.adr_index.proofs.index.Index.find.Goals as goal

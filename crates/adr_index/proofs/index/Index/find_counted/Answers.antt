@@ -1,4 +1,4 @@
-use Rattle.std.proofs.Common.{rules, ◌≡◌, ◌+◌, length, arith}
+use Rattle.std.proofs.Common.{rules, ◌≡◌, length, arith}
 use Rattle.adr_index.specs.Index.{digits}
 use Rattle.adr_index.proofs.Listed.{ordered_starts, looks_room, looks_few}
 use Rattle.adr_index.proofs.index.Index.find_counted.Goals as goal

@@ -1,7 +1,6 @@
-use Rattle.std.proofs.Common.{rules, ◌≡◌, length, drop, ◌∙◌, false, subst, sym, List}
+use Rattle.std.proofs.Common.{rules, ◌≡◌, length, drop, false}
 use Rattle.std.specs.List.{list_any}
 use Rattle.std.proofs.lemmas.List.{take_at}
-use Rattle.adr_model.specs.declared.entry.Entry.{Entry}
 use Rattle.adr_index.specs.Index.{digits, inserted, is_entry, IsOrdered}
 use Rattle.adr_index.proofs.Listed.{index_made, ordered_inserted}
 use Rattle.adr_index.proofs.index.Index.insert.Goals as goal

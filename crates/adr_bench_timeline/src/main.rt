@@ -1,0 +1,70 @@
+//! How much the building of a timeline compares and, with the word `time` on the command line, how long it takes, as
+//! a table over how many entries there are and how they lie.
+#![tactic(auto)]
+
+ghost use Rattle.std.specs.Prelude.{◌<◌, ◌≤◌};
+
+mod measure;
+mod shape;
+
+use crate::measure::{fastest_build, fastest_pass, measured};
+use crate::shape::{Shape, entries};
+use std::rt::{Clock, Env};
+use std::{env, io};
+
+/// Nanoseconds as microseconds.
+fn print_microseconds(rt: &impl Print, nanoseconds: u128) -> io::Result<()> {
+    print!(rt; " {}.{} |", nanoseconds / 1000, nanoseconds % 1000 / 100)
+}
+
+/// A row of the table: how the entries lie, their number, the segments and the comparisons of a build, and where it is
+/// timed the microseconds of a build and of a plain pass over the entries, and their ratio.
+fn print_row<R: AllocGlobal + Print + Clock>(
+    rt: &R,
+    shape: Shape,
+    count: u32,
+    is_timed: bool,
+) -> io::Result<()>
+    requires { (0 < count) × (count ≤ 65536) }
+{
+    let entries = entries(rt.alloc(), shape, count)?;
+    let (segments, compares) = measured(rt.alloc(), &entries)?;
+    print!(rt; "| {} | {count} | {segments} | {compares} |", shape.name())?;
+    if is_timed {
+        let build = fastest_build(rt, &entries)?;
+        let pass = fastest_pass(rt, &entries)?;
+        print_microseconds(rt, build)?;
+        print_microseconds(rt, pass)?;
+        print!(rt; " {} |", build / pass.max(1))?;
+    }
+    println!(rt)
+}
+
+fn print_heading(rt: &impl Print, is_timed: bool) -> io::Result<()> {
+    if is_timed {
+        println!(rt;
+            "| Entries lie | Entries | Segments | Comparisons | µs a build | µs a pass | Ratio |"
+        )?;
+        println!(rt; "|---|---|---|---|---|---|---|")
+    } else {
+        println!(rt; "| Entries lie | Entries | Segments | Comparisons |")?;
+        println!(rt; "|---|---|---|---|")
+    }
+}
+
+fn print_table<R: AllocGlobal + Print + Clock>(rt: &R, is_timed: bool) -> io::Result<()> {
+    print_heading(rt, is_timed)?;
+    for shape in [Shape::Disjoint, Shape::Nested, Shape::EndlessBelow] {
+        for count in [256, 4096, 65_536] {
+            print_row(rt, shape, count, is_timed)?;
+        }
+    }
+    Ok(())
+}
+
+fn main(rt: HostRuntime) -> io::Result<()> {
+    let mut words = env::args(&rt)?;
+    let _name = words.next();
+    let is_timed = matches!(words.next(), Some(word) if word.as_str() == "time");
+    print_table(&rt, is_timed)
+}
