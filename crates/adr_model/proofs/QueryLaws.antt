@@ -14,10 +14,10 @@ use Rattle.adr_time.specs.declared.span.End.{End}
 use Rattle.adr_time.specs.declared.span.End.TheVariants.{At, Endless}
 use Rattle.adr_time.specs.declared.span.Span.{Span}
 use Rattle.adr_model.specs.declared.entry.Entry.{Entry}
-use Rattle.adr_model.specs.Answer.{IsUntil, bounds, same_winner, until}
+use Rattle.adr_model.specs.Answer.{IsUntil, at, bounds, same_winner, shown, state_text, until}
 use Rattle.adr_model.specs.Governor.{candidates, entries_for, first_of, governs, winner_at, winner_of}
-use Rattle.adr_model.specs.Laws.{IsAscending, SegmentsAreApart, SegmentsAreInOrder, SegmentsBeginAtChanges, SegmentsCoverAll, SegmentsShowOne, TypesGovernSometime}
-use Rattle.adr_model.specs.Queries.{beginnings, end_within, in_order, put_in_order}
+use Rattle.adr_model.specs.Laws.{IsAscending, SegmentsAreApart, SegmentsAreInOrder, SegmentsBeginAtChanges, SegmentsCoverAll, SegmentsShowOne, RollTellsEach, RollTellsWhatAtTells, TypesGovernSometime}
+use Rattle.adr_model.specs.Queries.{beginnings, end_within, in_order, put_in_order, roll}
 use Rattle.adr_model.proofs.AnswerLaws.{next, next_is_until, same_before_next, same_from_winner, winner_from_same, winner_same}
 
 -- ---- lists in order
@@ -395,3 +395,11 @@ types_govern_sometime book id kind =
       λ h. let found = one_that_passes (λ (e : Entry). is_some (winner_at es e.span.start)) es h in (found.0.span.start, found.1),
       λ h. starts_governed h.0 es es (λ f k. k) (sym (governed_any es h.0) ∙ h.1),
     )
+
+pub roll_tells_each : RollTellsEach
+unfolding roll
+roll_tells_each book kind t = refl
+
+pub roll_tells_what_at_tells : RollTellsWhatAtTells
+unfolding at
+roll_tells_what_at_tells book kind t id h = (state_text (shown book id kind t) (until book id kind t), refl, rw h refl)

@@ -1,6 +1,7 @@
 -- What follows from the definitions: the laws of the model.
-use Rattle.std.specs.Prelude.{◌≡◌, ◌↔◌, ℕ, ◌+◌, ◌≤◌, ℤ, ◌≤ℤ◌, ◌<ℤ◌, int_le, int_lt, ◌&&◌, true, ⊤, IsTrue, List, [], ◌∷◌, ◌++◌, fold, length, is_some, Ok, Err, slice_index}
+use Rattle.std.specs.Prelude.{◌≡◌, ◌↔◌, ℕ, ◌+◌, ◌≤◌, ℤ, ◌≤ℤ◌, ◌<ℤ◌, int_le, int_lt, ◌&&◌, true, ⊤, IsTrue, List, [], ◌∷◌, ◌++◌, fold, flat_map, length, is_some, codes, Ok, Err, slice_index}
 use Rattle.std.specs.List.{AllByRecursion, list_any}
+use Rattle.std.specs.Fmt.{decimal}
 use Rattle.std.specs.Ordering.{int_eq}
 use Rattle.std.specs.Result.{result_unwrap_or}
 use Rattle.adr_value.specs.declared.payload.PayloadType.{PayloadType}
@@ -8,13 +9,13 @@ use Rattle.adr_value.specs.declared.refusal.Refusal.{Refusal}
 use Rattle.adr_object.specs.declared.event.Interval.{Interval}
 use Rattle.adr_object.specs.declared.event.Payload.{Payload}
 use Rattle.adr_object.specs.declared.object.Edit.{Edit}
-use Rattle.adr_model.specs.Answer.{IsUntil, until}
+use Rattle.adr_model.specs.Answer.{IsUntil, at, until}
 use Rattle.adr_model.specs.Rank.{carries}
-use Rattle.adr_model.specs.Book.{Book}
+use Rattle.adr_model.specs.Book.{Book, resource_by}
 use Rattle.adr_model.specs.Edits.{after, distinct_types, step}
 use Rattle.adr_model.specs.Governor.{governs}
 use Rattle.adr_model.specs.Machine.{Action, Reply, State, Steps, last_number, look, seen, start}
-use Rattle.adr_model.specs.Queries.{beginnings, begins, end_within, is_governed}
+use Rattle.adr_model.specs.Queries.{beginnings, begins, end_within, in_lines, is_governed, roll, roll_line}
 
 -- ---- edits
 
@@ -86,6 +87,19 @@ abbrev pub TypesGovernSometime : Type 0
 TypesGovernSometime =
     (book : Book) (id : List ℕ) (kind : PayloadType)
     → IsTrue (is_governed book id kind) ↔ ((t : ℤ) × IsTrue (is_some (governs book id kind t)))
+
+-- `roll` has a line for each resource, in order of creation
+abbrev pub RollTellsEach : Type 0
+RollTellsEach =
+    (book : Book) (kind : PayloadType) (t : ℤ) → roll book kind t ≡ Ok (in_lines book (flat_map (λ r. roll_line book kind t r.id) book.resources))
+
+-- which says of it what `at` answers
+abbrev pub RollTellsWhatAtTells : Type 0
+RollTellsWhatAtTells =
+    (book : Book) (kind : PayloadType) (t : ℤ) (id : List ℕ) → is_some (resource_by book id) ≡ true
+    → (state : List ℕ)
+    × (roll_line book kind t id ≡ id ++ codes " " ++ state ++ codes "\n")
+    × (at book id kind t ≡ Ok (codes "version " ++ decimal book.version ++ codes " " ++ state ++ codes "\n"))
 
 -- ---- the machine
 

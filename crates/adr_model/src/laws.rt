@@ -1,5 +1,5 @@
 //! What follows from the definitions. Each function's clause is a law, and its body does nothing.
-ghost use Rattle.adr_model.specs.Laws.{AcceptedEditsCount, JournalsGoOn, JournalsGrow, LooksShowNoEarlier, PublicationsStay, RefusedEditsChangeNothing, RepeatsAreOneEntry, SeenNeverFalls, SegmentsAreApart, SegmentsAreInOrder, SegmentsBeginAtChanges, SegmentsCoverAll, SegmentsShowOne, TypesGovernSometime, UntilIsTheNextChange, VersionsAreEdits};
+ghost use Rattle.adr_model.specs.Laws.{AcceptedEditsCount, JournalsGoOn, JournalsGrow, LooksShowNoEarlier, PublicationsStay, RefusedEditsChangeNothing, RepeatsAreOneEntry, RollTellsEach, RollTellsWhatAtTells, SeenNeverFalls, SegmentsAreApart, SegmentsAreInOrder, SegmentsBeginAtChanges, SegmentsCoverAll, SegmentsShowOne, TypesGovernSometime, UntilIsTheNextChange, VersionsAreEdits};
 
 /// The laws of edits: one that is refused changes nothing, one that is accepted makes the version one more, and
 /// the book after a journal is where the rest of the journal goes on. A version is at most the number of edits.
@@ -19,8 +19,9 @@ pub fn entry_laws()
 
 /// The laws of answers. `until` is the next instant at which something else governs. A line of `list` begins
 /// where that happens and shows one winner to its end; the lines stand in order, cover each governed instant of
-/// the window, and none covers another's. `types` lists a type just where something of it governs at some time.
-#[tactic(auto, using(crate::proofs::AnswerLaws::until_is_the_next_change, crate::proofs::QueryLaws::segments_begin_at_changes, crate::proofs::QueryLaws::segments_are_in_order, crate::proofs::QueryLaws::segments_show_one, crate::proofs::QueryLaws::segments_cover_all, crate::proofs::QueryLaws::segments_are_apart, crate::proofs::QueryLaws::types_govern_sometime))]
+/// the window, and none covers another's. `types` lists a type just where something of it governs at some
+/// time, and `roll` says of each resource what `at` answers.
+#[tactic(auto, using(crate::proofs::AnswerLaws::until_is_the_next_change, crate::proofs::QueryLaws::segments_begin_at_changes, crate::proofs::QueryLaws::segments_are_in_order, crate::proofs::QueryLaws::segments_show_one, crate::proofs::QueryLaws::segments_cover_all, crate::proofs::QueryLaws::segments_are_apart, crate::proofs::QueryLaws::types_govern_sometime, crate::proofs::QueryLaws::roll_tells_each, crate::proofs::QueryLaws::roll_tells_what_at_tells))]
 pub fn answer_laws()
     ensures until { UntilIsTheNextChange }
     ensures begin { SegmentsBeginAtChanges }
@@ -28,6 +29,8 @@ pub fn answer_laws()
     ensures show { SegmentsShowOne }
     ensures cover { SegmentsCoverAll }
     ensures apart { SegmentsAreApart }
+    ensures roll { RollTellsEach }
+    ensures alike { RollTellsWhatAtTells }
     ensures types { TypesGovernSometime }
 {}
 
