@@ -3,7 +3,7 @@ use Rattle.std.proofs.Common.{◌≡◌, ℕ, Bool, true, false, List, [], ◌�
 use Rattle.std.specs.Bool.{MatchBool}
 use Rattle.std.specs.Io.BufRead.{strip_last}
 use Rattle.adr_script.specs.Script.{Told, IsToldInPart, Moves, long_line, no_memory}
-use Rattle.adr_script.specs.Text.{AnswersBy, IsText, IsTextInPart, text, text_but, state_after, state_but, line_reply, after_line}
+use Rattle.adr_script.specs.Text.{AnswersBy, IsText, IsTextInPart, text, text_but, state_but, line_reply, after_line}
 
 -- what holds of all that is read and written
 pub moves_weaker : (a b c d : Option (List ℕ)) (P Q : List ℕ → List ℕ → Type 0) → ((bytes out : List ℕ) → P bytes out → Q bytes out) → Moves a b c d P → Moves a b c d Q
@@ -14,10 +14,6 @@ module _ {S : Type 0} (reply : S → List ℕ → List ℕ) (next : S → List �
   pub text_but-nil : (s : S) (lines : List (List ℕ)) → text_but reply next [] s lines ≡ text reply next s lines
   text_but-nil s [] = refl
   text_but-nil s (line ∷ lines) = ap (λ r. line_reply reply s line ++ r) (text_but-nil (after_line next s line) lines)
-
-  pub state_but-nil : (s : S) (lines : List (List ℕ)) → state_but next [] s lines ≡ state_after next s lines
-  state_but-nil s [] = refl
-  state_but-nil s (line ∷ lines) = state_but-nil (after_line next s line) lines
 
 module _ {S : Type 0} (answers : S → List ℕ → List ℕ → S → Type 0) (reply : S → List ℕ → List ℕ) (next : S → List ℕ → S)
     (exact : (s : S) (line told : List ℕ) (t : S) → answers s line told t → AnswersBy reply next s line told t) where

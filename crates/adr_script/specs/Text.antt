@@ -20,11 +20,6 @@ abbrev pub text : {S : Type 0} → (S → List ℕ → List ℕ) → (S → List
 text reply next s [] = []
 text reply next s (line ∷ lines) = line_reply reply s line ++ text reply next (after_line next s line) lines
 
--- what the machine is after these lines
-abbrev pub state_after : {S : Type 0} → (S → List ℕ → S) → S → List (List ℕ) → S
-state_after next s [] = s
-state_after next s (line ∷ lines) = state_after next (after_line next s line) lines
-
 -- the text where the lines that a mark stands for are refused for want of memory; they change nothing
 abbrev pub text_but : {S : Type 0} → (S → List ℕ → List ℕ) → (S → List ℕ → S) → List Bool → S → List (List ℕ) → List ℕ
 text_but reply next marks s [] = []
@@ -32,6 +27,7 @@ text_but reply next [] s (line ∷ lines) = line_reply reply s line ++ text_but 
 text_but reply next (true ∷ marks) s (line ∷ lines) = no_memory ++ text_but reply next marks s lines
 text_but reply next (false ∷ marks) s (line ∷ lines) = line_reply reply s line ++ text_but reply next marks (after_line next s line) lines
 
+-- what the machine is after those lines
 abbrev pub state_but : {S : Type 0} → (S → List ℕ → S) → List Bool → S → List (List ℕ) → S
 state_but next marks s [] = s
 state_but next [] s (line ∷ lines) = state_but next [] (after_line next s line) lines

@@ -13,11 +13,16 @@ use Rattle.adr_model.specs.declared.timeline.Segment.{Segment}
 use Rattle.adr_model.specs.declared.timeline.Winner.{Winner}
 use Rattle.adr_time.specs.Spans.{covers, is_before}
 use Rattle.adr_model.specs.Timeline.{span_of}
-use Rattle.adr_timeline.specs.Segments.{winner_in, EndsBy, IsApart, IsLinked}
-use Rattle.adr_timeline.specs.Open.{change_after, change_at, winner_at_open}
+use Rattle.adr_timeline.proofs.Segments.{winner_in, EndsBy, IsApart, IsLinked}
+use Rattle.adr_timeline.specs.Open.{change_at, winner_at_open}
 use Rattle.adr_model.specs.Answer.{IsUntil}
 use Rattle.adr_model.specs.Timeline.{shows, CanonicalIsUnique}
 use Rattle.adr_timeline.proofs.Words.{shows_is, canonical_linked}
+
+-- the first instant after t where a segment starts or ends
+abbrev pub change_after : List Segment → ℤ → End
+change_after [] t = Endless
+change_after (s ∷ ss) t = if covers (span_of s) t then s.end else (if int_lt t s.start then At s.start else change_after ss t)
 
 -- something else is shown there
 abbrev pub Changes : List Segment → ℤ → End → Type 0

@@ -4,6 +4,7 @@ pub mod Joined
 pub mod Merged
 pub mod Pieces
 pub mod Ranks
+pub mod Segments
 pub mod Shown
 pub mod Stepped
 pub mod Words

@@ -10,11 +10,16 @@ use Rattle.adr_model.specs.declared.timeline.Segment.{Segment}
 use Rattle.adr_model.specs.declared.timeline.Winner.{Winner}
 use Rattle.adr_time.specs.Spans.{covers, is_before}
 use Rattle.adr_model.specs.Timeline.{span_of}
-use Rattle.adr_timeline.specs.Segments.{winner_in, EndsBy, IsLinked}
-use Rattle.adr_timeline.specs.Parts.{is_from, start_from, earlier, trimmed, put, part, after, after_end, leads_to, joined, joined_part, joined_all}
+use Rattle.adr_timeline.proofs.Segments.{winner_in, EndsBy, IsLinked}
+use Rattle.adr_timeline.specs.Parts.{start_from, earlier, trimmed, put, part, after, after_end, leads_to, joined, joined_part, joined_all}
 use Rattle.adr_model.specs.Timeline.{shows, IsCanonical}
 use Rattle.adr_timeline.proofs.Words.{shows_is, canonical_linked, linked_canonical}
 use Rattle.adr_timeline.proofs.Shown.{IsBehind, shows_joined, canonical_joined, behind_joined}
+
+-- the instant is at the bound or after it
+abbrev pub is_from : Option ℤ → ℤ → Bool
+is_from None t = true
+is_from (Some a) t = int_le a t
 
 -- the first one starts at the end or later
 abbrev pub StartsAfter : End → List Segment → Type 0

@@ -12,7 +12,7 @@ use Rattle.adr_model.specs.declared.entry.Entry.{Entry}
 use Rattle.adr_model.specs.declared.entry.Rank.{Rank}
 use Rattle.adr_model.specs.declared.timeline.Winner.{Winner}
 use Rattle.adr_model.specs.declared.timeline.Segment.{Segment}
-use Rattle.adr_timeline.specs.Segments.{winner_in}
+use Rattle.adr_timeline.proofs.Segments.{winner_in}
 use Rattle.adr_timeline.specs.declared.step.Step.{Step}
 use Rattle.adr_timeline.specs.Steps.{lesser, rank_at, rank_from, IsFrom, IsInOrder, down_at, steps_of, first_from, winner_of_rank, piece, pieces}
 use Rattle.adr_time.specs.Spans.{meets}

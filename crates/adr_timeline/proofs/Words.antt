@@ -6,7 +6,7 @@ use Rattle.adr_time.specs.declared.span.End.{End}
 use Rattle.adr_time.specs.declared.span.End.TheVariants.{At, Endless}
 use Rattle.adr_model.specs.declared.timeline.Segment.{Segment}
 use Rattle.adr_model.specs.Timeline.{span_of, shows, Follows, AllFollow, IsCanonical}
-use Rattle.adr_timeline.specs.Segments.{winner_in, EndsBy, IsApart, IsLinked}
+use Rattle.adr_timeline.proofs.Segments.{winner_in, EndsBy, IsApart, IsLinked}
 
 pub shows_is : (ss : List Segment) (t : ℤ) → shows ss t ≡ winner_in ss t
 shows_is [] t = refl

@@ -1,5 +1,4 @@
 pub mod Build
 pub mod Open
 pub mod Parts
-pub mod Segments
 pub mod Steps

@@ -41,11 +41,6 @@ abbrev pub joined_all : List Segment → List Segment → List Segment
 joined_all out [] = out
 joined_all out (p ∷ ps) = joined_all (joined out p) ps
 
--- the instant is at the bound or after it
-abbrev pub is_from : Option ℤ → ℤ → Bool
-is_from None t = true
-is_from (Some a) t = int_le a t
-
 -- the start, or the bound where that is later
 abbrev pub start_from : Option ℤ → ℤ → ℤ
 start_from None a = a

@@ -107,10 +107,6 @@ code_of Cta2045Reboot = 32
 code_of Cta2045SetOverrideStatus = 33
 code_of (Private text) = 34
 
--- the row of a type
-abbrev pub row_of : PayloadType → Option Row
-row_of p = find (λ r. code_of p == r.code) table
-
 -- the name of a type
 abbrev pub name_of : PayloadType → List ℕ
 name_of Simple = codes "SIMPLE"
