@@ -258,10 +258,10 @@ fn a_change_of_a_ven_touches_events_that_it_moves(rt: HostRuntime) -> Result<(),
 
 #[test]
 fn a_change_of_a_resource_touches_events_that_it_moves(rt: HostRuntime) -> Result<(), Fail> {
-    let before =
-        "program p1 P\nven v1 V -\nven v2 W -\nresource r1 R v1\nevent e1 5 VEN_NAME=W 0 PT2H PRICE";
-    let moved =
-        "program p1 P\nven v1 V -\nven v2 W -\nresource r1 R v2\nevent e1 5 VEN_NAME=W 0 PT2H PRICE";
+    let before = "program p1 P\nven v1 V -\nven v2 W -\nresource r1 R v1\n\
+event e1 5 VEN_NAME=W 0 PT2H PRICE";
+    let moved = "program p1 P\nven v1 V -\nven v2 W -\nresource r1 R v2\n\
+event e1 5 VEN_NAME=W 0 PT2H PRICE";
     let after = "program p1 P\nven v2 W -\nresource r1 R v2\nevent e1 5 VEN_NAME=W 0 PT2H PRICE";
     assert!(rt; touched(rt.alloc(), before, moved, "r1 PRICE 0 2")?);
     assert!(rt; touched(rt.alloc(), moved, after, "")?);
