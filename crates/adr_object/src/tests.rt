@@ -265,63 +265,58 @@ fn is_copied(object: &Object) -> Result<bool, Fail> {
     Ok(same_objects(object, &object.copy()?))
 }
 
+/// Whether the object has that kind and id, and its copy is equal.
+fn is_whole(object: &Object, kind: Kind, id: &str) -> Result<bool, Fail> {
+    Ok(object.kind() == kind && object.id().text() == id && is_copied(object)?)
+}
+
+fn is_program_whole(alloc: Global) -> Result<bool, Fail> {
+    is_whole(&Object::Program(program(alloc)?), Kind::Program, "p1")
+}
+
+fn is_event_whole(alloc: Global) -> Result<bool, Fail> {
+    is_whole(&Object::Event(event(alloc)?), Kind::Event, "e1")
+}
+
+fn is_ven_whole(alloc: Global) -> Result<bool, Fail> {
+    is_whole(&Object::Ven(ven(alloc)?), Kind::Ven, "v1")
+}
+
+fn is_resource_whole(alloc: Global) -> Result<bool, Fail> {
+    is_whole(&Object::Resource(resource(alloc)?), Kind::Resource, "r1")
+}
+
+#[test]
+fn objects_are_copied(rt: HostRuntime) -> Result<(), Fail> {
+    let alloc = rt.alloc();
+    assert!(rt; is_program_whole(alloc)?);
+    assert!(rt; is_event_whole(alloc)?);
+    assert!(rt; is_ven_whole(alloc)?);
+    assert!(rt; is_resource_whole(alloc)?);
+    Ok(())
+}
+
 fn is_edit_copied(edit: &Edit) -> Result<bool, Fail> {
     Ok(same_edits(edit, &edit.copy()?))
 }
 
-#[test]
-fn a_program_is_copied(rt: HostRuntime) -> Result<(), Fail> {
-    let object = Object::Program(program(rt.alloc())?);
-    assert!(rt; object.kind() == Kind::Program);
-    assert!(rt; object.id().text() == "p1");
-    assert!(rt; is_copied(&object)?);
-    Ok(())
+fn is_create_copied(alloc: Global) -> Result<bool, Fail> {
+    is_edit_copied(&Edit::Create(Object::Ven(ven(alloc)?)))
+}
+
+fn is_change_copied(alloc: Global) -> Result<bool, Fail> {
+    is_edit_copied(&Edit::Change(Object::Ven(ven(alloc)?)))
+}
+
+fn is_remove_copied(alloc: Global) -> Result<bool, Fail> {
+    is_edit_copied(&Edit::Remove(Kind::Ven, Id::read(alloc, "v1")?))
 }
 
 #[test]
-fn an_event_is_copied(rt: HostRuntime) -> Result<(), Fail> {
-    let object = Object::Event(event(rt.alloc())?);
-    assert!(rt; object.kind() == Kind::Event);
-    assert!(rt; object.id().text() == "e1");
-    assert!(rt; is_copied(&object)?);
-    Ok(())
-}
-
-#[test]
-fn a_ven_is_copied(rt: HostRuntime) -> Result<(), Fail> {
-    let object = Object::Ven(ven(rt.alloc())?);
-    assert!(rt; object.kind() == Kind::Ven);
-    assert!(rt; object.id().text() == "v1");
-    assert!(rt; is_copied(&object)?);
-    Ok(())
-}
-
-#[test]
-fn a_resource_is_copied(rt: HostRuntime) -> Result<(), Fail> {
-    let object = Object::Resource(resource(rt.alloc())?);
-    assert!(rt; object.kind() == Kind::Resource);
-    assert!(rt; object.id().text() == "r1");
-    assert!(rt; is_copied(&object)?);
-    Ok(())
-}
-
-#[test]
-fn a_create_is_copied(rt: HostRuntime) -> Result<(), Fail> {
-    let edit = Edit::Create(Object::Ven(ven(rt.alloc())?));
-    assert!(rt; is_edit_copied(&edit)?);
-    Ok(())
-}
-
-#[test]
-fn a_change_is_copied(rt: HostRuntime) -> Result<(), Fail> {
-    let edit = Edit::Change(Object::Ven(ven(rt.alloc())?));
-    assert!(rt; is_edit_copied(&edit)?);
-    Ok(())
-}
-
-#[test]
-fn a_remove_is_copied(rt: HostRuntime) -> Result<(), Fail> {
-    let edit = Edit::Remove(Kind::Ven, Id::read(rt.alloc(), "v1")?);
-    assert!(rt; is_edit_copied(&edit)?);
+fn edits_are_copied(rt: HostRuntime) -> Result<(), Fail> {
+    let alloc = rt.alloc();
+    assert!(rt; is_create_copied(alloc)?);
+    assert!(rt; is_change_copied(alloc)?);
+    assert!(rt; is_remove_copied(alloc)?);
     Ok(())
 }
