@@ -147,22 +147,23 @@ fn resource(alloc: Global) -> Result<Resource, Refusal> {
     })
 }
 
-#[test]
-fn a_list_matches_by_each_of_its_types(rt: HostRuntime) -> Result<(), Fail> {
-    let alloc = rt.alloc();
+fn does_match(alloc: Global, list: &str) -> Result<bool, Refusal> {
+    let list = targets(alloc, list)?;
     let scene = Scene {
         program: &program(alloc, "-")?,
         event: &event(alloc, "E", "-")?,
         ven: &ven(alloc)?,
         resource: &resource(alloc)?,
     };
+    Ok(matches(list.as_slice(), &scene))
+}
+
+#[test]
+fn a_list_matches_by_each_of_its_types(rt: HostRuntime) -> Result<(), Fail> {
     for line in LISTS.lines() {
         let (wanted, list) = line.split_once(' ').ok_or("a list")?;
-        let list = targets(alloc, list)?;
-        assert!(rt;
-            matches(list.as_slice(), &scene) == (wanted == "true"),
-            "{line}"
-        );
+        let matches = does_match(rt.alloc(), list)?;
+        assert!(rt; matches == (wanted == "true"), "{line}");
     }
     Ok(())
 }
