@@ -1,0 +1,8 @@
+pub mod Entries
+pub mod Times
+pub mod Found
+pub mod Counted
+pub mod Accepted
+pub mod Verdict
+pub mod Joined
+pub mod Copies

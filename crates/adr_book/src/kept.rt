@@ -1,0 +1,88 @@
+//! An event as the book keeps it.
+ghost use Rattle.std.specs.Prelude.{◌≡◌};
+ghost use Rattle.adr_value.specs.Copy.{IsCopyOf};
+ghost use Rattle.adr_model.specs.Edits.{entry_count as the_entry_count};
+
+use crate::counting::entry_count;
+use crate::shared::Shared;
+use crate::table::Keyed;
+use adr_object::Event;
+use adr_value::{Refusal, TryClone};
+use std::alloc::Global;
+use std::marker::Model;
+
+/// An event, the number of the edit that last wrote it, and how many entries it has.
+#[derive(Drop)]
+pub(crate) struct Kept {
+    event: Shared<Event>,
+    written: u64,
+    entries: usize,
+}
+
+impl Model for Kept {
+    ghost use Rattle.std.specs.Prelude.{◌≡◌};
+    ghost use Rattle.adr_model.specs.declared.written.Written.{Written};
+    ghost use Rattle.adr_model.specs.Edits.{entry_count};
+
+    ghost Value = { Written };
+
+    ghost view = { λ k. record { event = k.event; written = k.written } };
+
+    ghost invariant = { λ k. k.entries ≡ entry_count k.event };
+}
+
+impl Kept {
+    pub(crate) fn new(alloc: Global, event: Event, written: u64) -> Result<Kept, Refusal>
+        ensures { IsCopyOf result (record { event = event; written = written }) }
+    {
+        let entries = entry_count(&event);
+        Ok(Kept {
+            event: Shared::new(alloc, event)?,
+            written,
+            entries,
+        })
+    }
+
+    pub(crate) fn event(&self) -> &Event
+        ensures { result.now ≡ self.now.event }
+    {
+        self.event.get()
+    }
+
+    pub(crate) fn written(&self) -> u64
+        ensures { result ≡ self.now.written }
+    {
+        self.written
+    }
+
+    pub(crate) fn entries(&self) -> usize
+        ensures { result ≡ the_entry_count self.now.event }
+    {
+        self.entries
+    }
+
+    /// One more owner of the event.
+    pub(crate) fn share(&self) -> Result<Shared<Event>, Refusal>
+        ensures { IsCopyOf result self.now.event }
+    {
+        self.event.copy()
+    }
+}
+
+impl TryClone for Kept {
+    fn try_clone(&self) -> Result<Kept, Refusal> {
+        Ok(Kept {
+            event: self.event.copy()?,
+            written: self.written,
+            entries: self.entries,
+        })
+    }
+}
+
+impl Keyed for Kept {
+    ghost key = { λ w. w.event.id };
+
+    fn key(&self) -> &str {
+        self.event.get().id.text()
+    }
+}
