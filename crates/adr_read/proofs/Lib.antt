@@ -1,4 +1,10 @@
-pub mod Reading
-pub mod ListLemmas
 pub mod TextLemmas
+pub mod ComingLemmas
+pub mod SkipLemmas
+pub mod Turns
+pub mod Telling
+pub mod ListLaws
 pub mod StartLemmas
+pub mod Reading
+pub mod Whole
+pub mod Parts

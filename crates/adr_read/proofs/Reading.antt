@@ -1,28 +1,18 @@
 -- Values and payloads, from their parts.
-use Rattle.std.proofs.Common.{◌≡◌, List, ◌++◌, codes, refl, ap, subst, inl, inr, Bool, true, false}
+use Rattle.std.proofs.Common.{◌≡◌, List, refl, ap, subst, inl, inr, Bool, true, false}
 use Rattle.std.specs.Prelude.{◌⊎◌, Option, Some, None, is_some, Result, Ok, Err, if◌then◌else◌}
 use Rattle.serde_json.specs.Data.{Data, Members, object}
 use Rattle.serde_json.specs.Find.{as_object}
 use Rattle.adr_value.proofs.Judged.{least_none, answers}
 use Rattle.adr_value.specs.Answer.{Answers, result_map, result_and_then}
 use Rattle.adr_value.specs.Faults.{least, none, Gives, judged}
-use Rattle.adr_value.specs.Number.{Number as Decimal}
 use Rattle.adr_value.specs.Payload.{shape_of}
 use Rattle.adr_value.specs.Shapes.{has_shape}
-use Rattle.adr_value.specs.declared.datum.Datum.TheVariants.{Point}
 use Rattle.adr_value.specs.declared.refusal.Refusal.{Refusal}
 use Rattle.adr_value.specs.declared.refusal.Refusal.TheVariants.{BadShape, NoMemory}
 use Rattle.adr_object.specs.declared.event.Payload.{Payload}
-use Rattle.adr_read.specs.Looking.{member_at, the}
-use Rattle.adr_read.specs.Sets.{unless, of_object, required, if_none}
-use Rattle.adr_read.specs.Values.{number_faults, number_in, datum_faults, datum_in, map_faults, shape_faults, payload_faults, payload_in}
-
-pub point_of_object : (d : Data) (ms : Members) (x y : Decimal) → d ≡ object ms
-    → (least (required number_faults (member_at (codes "x") d) ++ required number_faults (member_at (codes "y") d)) ≡ none) × ◌≡◌ {A = Decimal × Decimal} (x, y) (number_in (the (codes "x") d), number_in (the (codes "y") d))
-    → (least (datum_faults d) ≡ none) × (Point x y ≡ datum_in d)
-point_of_object d ms x y e h =
-    let k = rw e at h in
-    rw e (k.0, ap (λ (p : Decimal × Decimal). Point p.0 p.1) k.1)
+use Rattle.adr_read.specs.Sets.{unless, of_object, if_none}
+use Rattle.adr_read.specs.Values.{map_faults, shape_faults, payload_faults, payload_in}
 
 object_there : (o : Option Members) (d : Data) (fs : List Refusal) → as_object d ≡ o → is_some o ≡ true → of_object d fs ≡ fs
 object_there None d fs is e = absurd cc
@@ -31,6 +21,10 @@ object_there (Some ms) d fs is e = rw is refl
 -- in an object everything is looked at
 pub of_object_there : (d : Data) (fs : List Refusal) → is_some (as_object d) ≡ true → of_object d fs ≡ fs
 of_object_there d fs e = object_there _ d fs refl e
+
+-- what the members of an object give, the object gives
+pub object_gives : {T : Type 0} (r : Result T Refusal) (d : Data) (ms : Members) (fs : List Refusal) (v : T) → d ≡ object ms → Gives r fs v → Gives r (of_object d fs) v
+object_gives r d ms fs v is gives = rw (of_object_there d fs (ap (λ e. is_some (as_object e)) is)) gives
 
 shape_gives : (b : Bool) (p : Payload) (r : Result (Unit {0}) Refusal) → r ≡ (if b then Ok tt else Err BadShape) → Gives (result_map (λ _. p) r) (unless b BadShape) p
 shape_gives true p r e = rw e (refl, refl)

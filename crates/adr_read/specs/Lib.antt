@@ -4,3 +4,8 @@ pub mod Values
 pub mod Periods
 pub mod Objects
 pub mod Body
+pub mod Coming
+pub mod Members
+pub mod Names
+pub mod Listed
+pub mod Gathering

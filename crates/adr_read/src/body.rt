@@ -1,35 +1,56 @@
-ghost use Rattle.std.specs.Prelude.{◌≡◌, ◌≢◌, Some, None, IfOk, IfErr};
-ghost use Rattle.serde_json.specs.View.{view};
-ghost use Rattle.adr_value.specs.Answer.{Answers, result_map};
-ghost use Rattle.adr_read.specs.Body.{value_of, object_named};
+ghost use Rattle.std.specs.Prelude.{◌≡◌, ◌⊎◌, Ok, Err, IfOk, MatchResult, true};
+ghost use Rattle.serde_json.specs.Data.{Data, object, no_members};
+ghost use Rattle.adr_read.specs.Body.{value_of, object_or, object_named};
+ghost use Rattle.adr_read.specs.Members.{are_apart};
 
+use crate::members::{Members, read_members};
+use adr_time::Moment;
 use adr_value::{Refusal, shield};
-use serde_json::Value;
+use json::{Reader, Scratch};
 use std::alloc::Global;
+use std::str;
 
-/// The value of a text.
-fn value_of(alloc: Global, text: &[u8]) -> Result<Value, Refusal>
-    ensures ok { IfOk result (λ v. value_of text.now ≡ Some (view v)) }
-    ensures refused { IfErr result (λ f. f ≢ Refusal.NoMemory
-        → (f ≡ Refusal.BadJson) × (value_of text.now ≡ None)) }
+/// How many arrays and objects may stand within each other, as `serde_json` reads them.
+const MOST_LEVELS: usize = 127;
+
+/// The members of the JSON object (RFC 8259) that a text is.
+fn members_of<M: Members>(alloc: Global, now: Moment, text: &[u8], members: M) -> Result<M, Refusal>
+    requires apart { are_apart (M.names members) ≡ true }
+    requires fresh { M.are_of now members (object no_members) }
+    ensures told { MatchResult result (λ m. (d : Data) × (object_or (value_of text.now) ≡ Ok d) × M.are_of now m d)
+        (λ f. (f ≡ Refusal.NoMemory) ⊎ (object_or (value_of text.now) ≡ Err f)) }
+    ensures names { IfOk result (λ m. M.names m ≡ M.names members) }
 {
-    match Value::from_slice(alloc, text) {
-        Ok(value) => Ok(value),
-        Err(error) if error.is_memory() => Err(Refusal::NoMemory),
-        Err(_) => Err(Refusal::BadJson),
+    let Ok(text) = str::from_utf8(text) else {
+        return Err(Refusal::BadJson);
+    };
+    let mut scratch = Scratch::new(alloc);
+    let mut reader = Reader::new(text, &mut scratch)?;
+    let Some(token) = reader.next() else {
+        return Err(Refusal::BadJson);
+    };
+    let members = read_members(alloc, now, MOST_LEVELS, &mut reader, token, members)?;
+    if reader.next().is_some() {
+        return Err(Refusal::BadJson);
     }
+    members.ok_or(Refusal::NotObject)
 }
 
+/// The members of a body's object, in which each number has become a text that begins with NUL. `BadNumber` where a
+/// number doesn't fit, `BadJson` where the body isn't JSON (RFC 8259), `NotObject` where it is another JSON value.
 #[tactic(auto, unfolding(crate::specs::Body::object_named))]
-/// The JSON object of a body, in which each number has become a text that begins with NUL. `BadNumber` where a number
-/// doesn't fit, `BadJson` where the body isn't JSON (RFC 8259), `NotObject` where it is another JSON value.
-pub(crate) fn object_of(alloc: Global, body: &[u8]) -> Result<Value, Refusal>
-    ensures { Answers (result_map view result) (object_named body.now) }
+pub(crate) fn read_object<M: Members>(
+    alloc: Global,
+    now: Moment,
+    body: &[u8],
+    members: M,
+) -> Result<M, Refusal>
+    requires apart { are_apart (M.names members) ≡ true }
+    requires fresh { M.are_of now members (object no_members) }
+    ensures told { MatchResult result (λ m. (d : Data) × (object_named body.now ≡ Ok d) × M.are_of now m d)
+        (λ f. (f ≡ Refusal.NoMemory) ⊎ (object_named body.now ≡ Err f)) }
+    ensures names { IfOk result (λ m. M.names m ≡ M.names members) }
 {
     let shielded = shield(alloc, body)?;
-    let value = value_of(alloc, shielded.as_slice())?;
-    if !value.is_object() {
-        return Err(Refusal::NotObject);
-    }
-    Ok(value)
+    members_of(alloc, now, shielded.as_slice(), members)
 }

@@ -1,16 +1,15 @@
-ghost use Rattle.std.specs.Prelude.{◌≡◌, List, option_map};
+ghost use Rattle.std.specs.Prelude.{◌≡◌, ◌≢◌, ◌∷◌, List, pos};
+ghost use Rattle.json.specs.Print.{IsPrintable};
+ghost use Rattle.json.specs.Reads.{token_of};
 ghost use Rattle.serde_json.specs.Data.{Data};
-ghost use Rattle.serde_json.specs.View.{view};
 ghost use Rattle.adr_value.specs.Faults.{Gives};
 ghost use Rattle.adr_value.specs.declared.refusal.Refusal.{Refusal};
-ghost use Rattle.adr_read.specs.Looking.{the, member_at};
-ghost use Rattle.adr_read.specs.Sets.{required, optional};
+ghost use Rattle.adr_read.specs.Coming.{coming, Tells};
 ghost use Rattle.adr_read.specs.declared.element.Context.{Context};
 
-use crate::member::member;
 use adr_time::Moment;
 use adr_value::Refusal;
-use serde_json::Value;
+use json::{Reader, Token};
 use std::alloc::Global;
 
 /// Where a value stands.
@@ -23,16 +22,20 @@ pub(crate) struct Context {
 }
 
 impl Context {
-    /// The whole body of an edit at that moment.
+    /// Outside of any list, in an edit at that moment.
     pub(crate) fn at(moment: Moment) -> Context
-        ensures { result.moment ≡ moment }
+        ensures { result ≡ record { moment = moment; place = pos 0 } }
     {
         Context { moment, place: 0 }
     }
 }
 
-/// What is read from a JSON value. A reading looks at the whole value and keeps its least fault; only want of memory
-/// ends it early.
+/// What a value is read as, or its least fault. The refusal around it is `BadJson`, of a text that ends before the
+/// value does or is no JSON, or `NoMemory`.
+pub(crate) type Reading<T> = Result<Result<T, Refusal>, Refusal>;
+
+/// What is read from a JSON value, token by token. A reading goes through the whole value and keeps its least fault;
+/// only a text that is no JSON and want of memory end it early.
 pub(crate) trait Read: Sized + Drop {
     /// What is wrong with a value.
     ghost faults: { Data → List Refusal };
@@ -40,38 +43,15 @@ pub(crate) trait Read: Sized + Drop {
     /// What a value stands for where nothing is wrong.
     ghost stands_for: { Context → Data → Self };
 
-    fn read(alloc: Global, context: &Context, value: &Value) -> Result<Self, Refusal>
-        ensures { Gives result (faults (view value.now)) (stands_for context.now (view value.now)) };
-}
-
-/// The member of that name, which has to be there.
-pub(crate) fn required_at<T: Read>(
-    alloc: Global,
-    context: &Context,
-    object: &Value,
-    name: &str,
-) -> Result<T, Refusal>
-    ensures { Gives result (required T.faults (member_at name.now (view object.now)))
-        (T.stands_for context.now (the name.now (view object.now))) }
-{
-    match member(object, name) {
-        Some(value) => T::read(alloc, context, value),
-        None => Err(Refusal::Missing),
-    }
-}
-
-/// The member of that name, where it is there.
-pub(crate) fn optional_at<T: Read>(
-    alloc: Global,
-    context: &Context,
-    object: &Value,
-    name: &str,
-) -> Result<Option<T>, Refusal>
-    ensures { Gives result (optional T.faults (member_at name.now (view object.now)))
-        (option_map (T.stands_for context.now) (member_at name.now (view object.now))) }
-{
-    match member(object, name) {
-        Some(value) => Ok(Some(T::read(alloc, context, value)?)),
-        None => Ok(None),
-    }
+    /// Reads the value that begins with the token, within which `depth` arrays and objects may still open.
+    fn read(
+        alloc: Global,
+        context: &Context,
+        depth: usize,
+        reader: &mut Reader<'_>,
+        token: Token<'_>,
+    ) -> Reading<Self>
+        requires printable { token ≢ Token.Bad → IsPrintable (token_of token) }
+        ensures { Tells (coming depth (token_of token.entry ∷ reader.old)) reader.new
+            (λ d r. Gives r (faults d) (stands_for context.now d)) result };
 }

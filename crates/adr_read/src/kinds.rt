@@ -1,11 +1,20 @@
-ghost use Rattle.std.specs.Prelude.{◌≡◌, Some, None, unsigned_abs, if◌then◌else◌};
+ghost use Rattle.std.specs.Prelude.{◌≡◌, ◌∷◌, ◌++◌, Option, Some, None, pos, unsigned_abs, unwrap_or, if◌then◌else◌};
+ghost use Rattle.json.specs.Reads.{token_of};
+ghost use Rattle.serde_json.specs.Data.{Data, null, string};
+ghost use Rattle.adr_value.specs.Faults.{Gives};
+ghost use Rattle.adr_value.specs.declared.datum.Datum.TheVariants.{Point};
+ghost use Rattle.adr_read.specs.Coming.{coming, Tells};
+ghost use Rattle.adr_read.specs.Members.{Holds};
+ghost use Rattle.adr_read.specs.Sets.{required};
 ghost use Rattle.adr_read.specs.Values.{text_faults, name_faults, id_faults, text_in, type_in, number_faults, number_in, is_priority, priority_faults, priority_in, is_interval_id, interval_id_faults, interval_id_in, datum_faults, datum_in};
 
-use crate::element::{Context, Read, required_at};
-use crate::member::{after_nul, decimal_of, text_of};
+use crate::element::{Context, Read, Reading};
+use crate::members::{Member, read_members};
+use crate::name::MemberName;
+use crate::text::{after_nul, decimal_of, text_of};
 use adr_object::Id;
 use adr_value::{Datum, Decimal, Name, PayloadType, Refusal, Text, both};
-use serde_json::Value;
+use json::{Reader, Token};
 use std::alloc::Global;
 
 impl Read for Text {
@@ -13,11 +22,17 @@ impl Read for Text {
 
     ghost stands_for = { λ _. text_in };
 
-    fn read(alloc: Global, _context: &Context, value: &Value) -> Result<Text, Refusal> {
-        let Some(text) = text_of(value) else {
-            return Err(Refusal::WrongType);
-        };
-        Text::new(alloc, text)
+    fn read(
+        alloc: Global,
+        _context: &Context,
+        depth: usize,
+        reader: &mut Reader<'_>,
+        token: Token<'_>,
+    ) -> Reading<Text> {
+        match text_of(alloc, depth, reader, token)? {
+            Some(text) => Ok(Text::new(alloc, text)),
+            None => Ok(Err(Refusal::WrongType)),
+        }
     }
 }
 
@@ -26,14 +41,18 @@ impl Read for Name {
 
     ghost stands_for = { λ _. text_in };
 
-    fn read(alloc: Global, _context: &Context, value: &Value) -> Result<Name, Refusal> {
-        let Some(text) = text_of(value) else {
-            return Err(Refusal::WrongType);
-        };
-        if !Name::fits(text) {
-            return Err(Refusal::BadText);
+    fn read(
+        alloc: Global,
+        _context: &Context,
+        depth: usize,
+        reader: &mut Reader<'_>,
+        token: Token<'_>,
+    ) -> Reading<Name> {
+        match text_of(alloc, depth, reader, token)? {
+            Some(text) if Name::fits(text) => Ok(Name::new(alloc, text)),
+            Some(_) => Ok(Err(Refusal::BadText)),
+            None => Ok(Err(Refusal::WrongType)),
         }
-        Name::new(alloc, text)
     }
 }
 
@@ -42,14 +61,18 @@ impl Read for Id {
 
     ghost stands_for = { λ _. text_in };
 
-    fn read(alloc: Global, _context: &Context, value: &Value) -> Result<Id, Refusal> {
-        let Some(text) = text_of(value) else {
-            return Err(Refusal::WrongType);
-        };
-        if !Id::fits(text) {
-            return Err(Refusal::BadText);
+    fn read(
+        alloc: Global,
+        _context: &Context,
+        depth: usize,
+        reader: &mut Reader<'_>,
+        token: Token<'_>,
+    ) -> Reading<Id> {
+        match text_of(alloc, depth, reader, token)? {
+            Some(text) if Id::fits(text) => Ok(Id::new(alloc, text)),
+            Some(_) => Ok(Err(Refusal::BadText)),
+            None => Ok(Err(Refusal::WrongType)),
         }
-        Id::new(alloc, text)
     }
 }
 
@@ -58,11 +81,17 @@ impl Read for PayloadType {
 
     ghost stands_for = { λ _. type_in };
 
-    fn read(alloc: Global, _context: &Context, value: &Value) -> Result<PayloadType, Refusal> {
-        let Some(text) = text_of(value) else {
-            return Err(Refusal::WrongType);
-        };
-        PayloadType::type_of(alloc, text)
+    fn read(
+        alloc: Global,
+        _context: &Context,
+        depth: usize,
+        reader: &mut Reader<'_>,
+        token: Token<'_>,
+    ) -> Reading<PayloadType> {
+        match text_of(alloc, depth, reader, token)? {
+            Some(text) => Ok(PayloadType::type_of(alloc, text)),
+            None => Ok(Err(Refusal::WrongType)),
+        }
     }
 }
 
@@ -71,10 +100,16 @@ impl Read for Decimal {
 
     ghost stands_for = { λ _. number_in };
 
-    fn read(_alloc: Global, _context: &Context, value: &Value) -> Result<Decimal, Refusal> {
-        match decimal_of(value) {
-            Some(number) => Ok(number),
-            None => Err(Refusal::WrongType),
+    fn read(
+        alloc: Global,
+        _context: &Context,
+        depth: usize,
+        reader: &mut Reader<'_>,
+        token: Token<'_>,
+    ) -> Reading<Decimal> {
+        match decimal_of(alloc, depth, reader, token)? {
+            Some(number) => Ok(Ok(number)),
+            None => Ok(Err(Refusal::WrongType)),
         }
     }
 }
@@ -96,14 +131,17 @@ impl Read for u32 {
 
     ghost stands_for = { λ _. priority_in };
 
-    fn read(_alloc: Global, _context: &Context, value: &Value) -> Result<u32, Refusal> {
-        let Some(number) = decimal_of(value) else {
-            return Err(Refusal::WrongType);
+    fn read(
+        alloc: Global,
+        _context: &Context,
+        depth: usize,
+        reader: &mut Reader<'_>,
+        token: Token<'_>,
+    ) -> Reading<u32> {
+        let Some(number) = decimal_of(alloc, depth, reader, token)? else {
+            return Ok(Err(Refusal::WrongType));
         };
-        match priority_of(number) {
-            Some(priority) => Ok(priority),
-            None => Err(Refusal::BadPriority),
-        }
+        Ok(priority_of(number).ok_or(Refusal::BadPriority))
     }
 }
 
@@ -124,15 +162,40 @@ impl Read for i64 {
 
     ghost stands_for = { λ _. interval_id_in };
 
-    fn read(_alloc: Global, _context: &Context, value: &Value) -> Result<i64, Refusal> {
-        let Some(number) = decimal_of(value) else {
-            return Err(Refusal::WrongType);
+    fn read(
+        alloc: Global,
+        _context: &Context,
+        depth: usize,
+        reader: &mut Reader<'_>,
+        token: Token<'_>,
+    ) -> Reading<i64> {
+        let Some(number) = decimal_of(alloc, depth, reader, token)? else {
+            return Ok(Err(Refusal::WrongType));
         };
-        match interval_id_of(number) {
-            Some(id) => Ok(id),
-            None => Err(Refusal::WrongType),
-        }
+        Ok(interval_id_of(number).ok_or(Refusal::WrongType))
     }
+}
+
+/// A text of a list of values, or a number, which is a text behind a NUL.
+fn text_datum(alloc: Global, text: &str) -> Result<Datum, Refusal>
+    ensures { Gives result (datum_faults (string text.now)) (datum_in (string text.now)) }
+{
+    let Some(number) = after_nul(text) else {
+        return Ok(Datum::Text(Text::new(alloc, text)?));
+    };
+    match Decimal::read(number) {
+        Ok(number) => Ok(Datum::Number(number)),
+        Err(_) => Err(Refusal::WrongType),
+    }
+}
+
+/// The point that two members are.
+fn point_of(x: Member<Decimal>, y: Member<Decimal>) -> Result<Datum, Refusal>
+    ensures { (o p : Option Data) → Holds number_faults number_in x.value o → Holds number_faults number_in y.value p
+        → Gives result (required number_faults o ++ required number_faults p) (Point (number_in (unwrap_or o null)) (number_in (unwrap_or p null))) }
+{
+    let (x, y) = both(x.required(), y.required())?;
+    Ok(Datum::Point(x, y))
 }
 
 impl Read for Datum {
@@ -140,20 +203,22 @@ impl Read for Datum {
 
     ghost stands_for = { λ _. datum_in };
 
-    fn read(alloc: Global, context: &Context, value: &Value) -> Result<Datum, Refusal> {
-        match value {
-            Value::Bool(truth) => Ok(Datum::Truth(*truth)),
-            Value::String(text) => match after_nul(text) {
-                Some(_) => Ok(Datum::Number(<Decimal as Read>::read(alloc, context, value)?)),
-                None => Ok(Datum::Text(Text::new(alloc, text)?)),
-            },
-            Value::Object(_) => {
-                let x = required_at::<Decimal>(alloc, context, value, "x");
-                let y = required_at::<Decimal>(alloc, context, value, "y");
-                let (x, y) = both(x, y)?;
-                Ok(Datum::Point(x, y))
-            }
-            _ => Err(Refusal::WrongType),
+    fn read(
+        alloc: Global,
+        context: &Context,
+        depth: usize,
+        reader: &mut Reader<'_>,
+        token: Token<'_>,
+    ) -> Reading<Datum> {
+        match token {
+            Token::Bool(truth) => return Ok(Ok(Datum::Truth(truth))),
+            Token::String(text) => return Ok(text_datum(alloc, text)),
+            _ => {}
+        }
+        let members = (Member::named(MemberName::X), Member::named(MemberName::Y));
+        match read_members(alloc, context.moment, depth, reader, token, members)? {
+            Some((x, y)) => Ok(point_of(x, y)),
+            None => Ok(Err(Refusal::WrongType)),
         }
     }
 }

@@ -3,13 +3,18 @@
 
 mod body;
 mod element;
+mod elements;
+mod event;
 mod kinds;
 mod lists;
-mod member;
+mod members;
+mod name;
 mod object;
 mod period;
 mod read;
+mod skip;
 #[cfg(test)]
 mod tests;
+mod text;
 
 pub use read::{read_event, read_program, read_resource, read_ven};

@@ -1,14 +1,21 @@
-ghost use Rattle.std.specs.Prelude.{◌≡◌, ◌++◌, codes, pos};
-ghost use Rattle.serde_json.specs.View.{view};
+ghost use Rattle.std.specs.Prelude.{◌≡◌, ◌≢◌, ◌∷◌, ◌++◌, codes, pos, Option, [], unwrap_or};
+ghost use Rattle.json.specs.Print.{IsPrintable};
+ghost use Rattle.json.specs.Reads.{token_of};
+ghost use Rattle.serde_json.specs.Data.{Data};
 ghost use Rattle.adr_value.specs.Faults.{Gives};
+ghost use Rattle.adr_read.specs.Coming.{coming, Tells};
 ghost use Rattle.adr_read.specs.Looking.{the, member_at};
 ghost use Rattle.adr_read.specs.Sets.{of_object, required, list_faults, list_in};
-ghost use Rattle.adr_read.specs.Values.{datum_faults, map_faults, values_in, target_in, payload_faults, payload_in};
+ghost use Rattle.adr_read.specs.Values.{datum_faults, type_in, map_faults, values_in, target_in, payload_faults, payload_in};
 
-use crate::element::{Context, Read, required_at};
+use crate::element::{Context, Read, Reading};
+use crate::elements::{Elements, next_element};
+use crate::members::{Member, read_members};
+use crate::name::MemberName;
+use crate::skip::skip;
 use adr_object::{Payload, Target};
-use adr_value::{BoundedVec, Datum, Faults, Name, PayloadType, Refusal, both};
-use serde_json::Value;
+use adr_value::{BoundedVec, Datum, Name, PayloadType, Refusal, both};
+use json::{Reader, Token};
 use std::alloc::Global;
 
 type Values = BoundedVec<Datum, 256>;
@@ -21,27 +28,23 @@ impl<T: Read, const LIMIT: usize> Read for BoundedVec<T, LIMIT> {
     fn read(
         alloc: Global,
         context: &Context,
-        value: &Value,
-    ) -> Result<BoundedVec<T, LIMIT>, Refusal> {
-        let Some(elements) = value.as_array() else {
-            return Err(Refusal::WrongType);
+        depth: usize,
+        reader: &mut Reader<'_>,
+        token: Token<'_>,
+    ) -> Reading<BoundedVec<T, LIMIT>> {
+        let Token::BeginArray = token else {
+            skip(alloc, depth, reader, token)?;
+            return Ok(Err(Refusal::WrongType));
         };
-        let mut items = Vec::with_capacity(alloc, elements.len().min(LIMIT))?;
-        let mut faults = Faults::new();
-        if elements.len() > LIMIT {
-            faults.note(Refusal::TooMany)?;
+        if depth == 0 {
+            return Err(Refusal::BadJson);
         }
-        'elements: for (place, element) in elements.iter().enumerate() {
-            let context = Context {
-                moment: context.moment,
-                place: place as i64,
-            };
-            match T::read(alloc, &context, element) {
-                Ok(item) => items.push(item)?,
-                Err(refusal) => faults.note(refusal)?,
-            }
+        let mut elements = Elements::new(alloc);
+        'elements: while let Some(token) = next_element(reader)? {
+            let context = elements.next_context(context.moment);
+            elements.add(T::read(alloc, &context, depth - 1, reader, token)?)?;
         }
-        Ok(BoundedVec::from_vec(faults.answer(items)?))
+        Ok(elements.answer())
     }
 }
 
@@ -49,19 +52,22 @@ impl<T: Read, const LIMIT: usize> Read for BoundedVec<T, LIMIT> {
 fn typed_values<K: Read>(
     alloc: Global,
     context: &Context,
-    value: &Value,
-) -> Result<(K, Values), Refusal>
-    ensures { let d = view value.now in Gives result
+    depth: usize,
+    reader: &mut Reader<'_>,
+    token: Token<'_>,
+) -> Reading<(K, Values)>
+    requires printable { token ≢ Token.Bad → IsPrintable (token_of token) }
+    ensures { Tells (coming depth (token_of token.entry ∷ reader.old)) reader.new (λ d r. Gives r
         (of_object d (required K.faults (member_at (codes "type") d)
         ++ required (list_faults 256 datum_faults) (member_at (codes "values") d)))
-        (K.stands_for context.now (the (codes "type") d), values_in d) }
+        (K.stands_for (record { moment = context.now.moment; place = pos 0 }) (the (codes "type") d), values_in d)) result }
 {
-    if !value.is_object() {
-        return Err(Refusal::WrongType);
+    let kind = Member::<K>::named(MemberName::Kind);
+    let values = Member::<Values>::named(MemberName::Values);
+    match read_members(alloc, context.moment, depth, reader, token, (kind, values))? {
+        Some((kind, values)) => Ok(both(kind.required(), values.required())),
+        None => Ok(Err(Refusal::WrongType)),
     }
-    let kind = required_at::<K>(alloc, context, value, "type");
-    let values = required_at::<Values>(alloc, context, value, "values");
-    both(kind, values)
 }
 
 impl Read for Target {
@@ -69,10 +75,28 @@ impl Read for Target {
 
     ghost stands_for = { λ _. target_in };
 
-    fn read(alloc: Global, context: &Context, value: &Value) -> Result<Target, Refusal> {
-        let (kind, values) = typed_values::<Name>(alloc, context, value)?;
-        Ok(Target { kind, values })
+    fn read(
+        alloc: Global,
+        context: &Context,
+        depth: usize,
+        reader: &mut Reader<'_>,
+        token: Token<'_>,
+    ) -> Reading<Target> {
+        match typed_values::<Name>(alloc, context, depth, reader, token)? {
+            Ok((kind, values)) => Ok(Ok(Target { kind, values })),
+            Err(refusal) => Ok(Err(refusal)),
+        }
     }
+}
+
+/// The payload of a type and values, whose shape is judged where they have no fault.
+fn payload_of(parts: Result<(PayloadType, Values), Refusal>) -> Result<Payload, Refusal>
+    ensures { (d : Data) → Gives parts (map_faults d) (type_in (the (codes "type") d), values_in d)
+        → Gives result (payload_faults d) (payload_in d) }
+{
+    let (kind, values) = parts?;
+    kind.check(values.as_slice())?;
+    Ok(Payload { kind, values })
 }
 
 impl Read for Payload {
@@ -80,9 +104,13 @@ impl Read for Payload {
 
     ghost stands_for = { λ _. payload_in };
 
-    fn read(alloc: Global, context: &Context, value: &Value) -> Result<Payload, Refusal> {
-        let (kind, values) = typed_values::<PayloadType>(alloc, context, value)?;
-        kind.check(values.as_slice())?;
-        Ok(Payload { kind, values })
+    fn read(
+        alloc: Global,
+        context: &Context,
+        depth: usize,
+        reader: &mut Reader<'_>,
+        token: Token<'_>,
+    ) -> Reading<Payload> {
+        Ok(payload_of(typed_values::<PayloadType>(alloc, context, depth, reader, token)?))
     }
 }

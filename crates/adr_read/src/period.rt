@@ -1,18 +1,22 @@
-ghost use Rattle.std.specs.Prelude.{◌≡◌, ◌++◌, codes, option_map};
-ghost use Rattle.serde_json.specs.View.{view};
+ghost use Rattle.std.specs.Prelude.{◌≡◌, ◌++◌, ℤ, Option, option_map, unwrap_or};
+ghost use Rattle.serde_json.specs.Data.{Data, null};
 ghost use Rattle.adr_value.specs.Faults.{Gives};
-ghost use Rattle.adr_read.specs.Looking.{the, member_at};
+ghost use Rattle.adr_read.specs.Members.{Holds};
 ghost use Rattle.adr_read.specs.Sets.{required, optional, list_faults, list_in};
 ghost use Rattle.adr_read.specs.Values.{interval_id_faults, interval_id_in, payload_faults, payload_in};
 ghost use Rattle.adr_read.specs.Periods.{start_faults, start_in, length_faults, length_in, period_faults, period_in, interval_faults, interval_in};
 
-use crate::element::{Context, Read, optional_at, required_at};
-use crate::member::text_of;
+use crate::element::{Context, Read, Reading};
+use crate::members::{Member, read_members};
+use crate::name::MemberName;
+use crate::text::text_of;
 use adr_object::{Interval, Payload, Period};
 use adr_time::{Length, Moment, read_length, read_start};
 use adr_value::{BoundedVec, Refusal, both};
-use serde_json::Value;
+use json::{Reader, Token};
 use std::alloc::Global;
+
+type Payloads = BoundedVec<Payload, 64>;
 
 /// A start.
 impl Read for Moment {
@@ -20,11 +24,17 @@ impl Read for Moment {
 
     ghost stands_for = { λ c. start_in c.moment };
 
-    fn read(_alloc: Global, context: &Context, value: &Value) -> Result<Moment, Refusal> {
-        let Some(text) = text_of(value) else {
-            return Err(Refusal::WrongType);
-        };
-        read_start(text, context.moment)
+    fn read(
+        alloc: Global,
+        context: &Context,
+        depth: usize,
+        reader: &mut Reader<'_>,
+        token: Token<'_>,
+    ) -> Reading<Moment> {
+        match text_of(alloc, depth, reader, token)? {
+            Some(text) => Ok(read_start(text, context.moment)),
+            None => Ok(Err(Refusal::WrongType)),
+        }
     }
 }
 
@@ -34,35 +44,39 @@ impl Read for Length {
 
     ghost stands_for = { λ _. length_in };
 
-    fn read(_alloc: Global, _context: &Context, value: &Value) -> Result<Length, Refusal> {
-        let Some(text) = text_of(value) else {
-            return Err(Refusal::WrongType);
-        };
-        read_length(text)
+    fn read(
+        alloc: Global,
+        _context: &Context,
+        depth: usize,
+        reader: &mut Reader<'_>,
+        token: Token<'_>,
+    ) -> Reading<Length> {
+        match text_of(alloc, depth, reader, token)? {
+            Some(text) => Ok(read_length(text)),
+            None => Ok(Err(Refusal::WrongType)),
+        }
     }
 }
 
-/// The start, the duration and the randomization of a period.
-fn period_members(
-    alloc: Global,
-    context: &Context,
-    object: &Value,
-) -> Result<((Moment, Option<Length>), Option<Length>), Refusal>
-    ensures { let d = view object.now in Gives result
-        (required start_faults (member_at (codes "start") d)
-        ++ optional length_faults (member_at (codes "duration") d)
-        ++ optional length_faults (member_at (codes "randomizeStart") d)) (
-          (
-            start_in context.now.moment (the (codes "start") d),
-            option_map length_in (member_at (codes "duration") d),
-          ),
-          option_map length_in (member_at (codes "randomizeStart") d),
-        ) }
+type PeriodMembers = ((Member<Moment>, Member<Length>), Member<Length>);
+
+/// The period that these members are.
+fn period_of(members: PeriodMembers) -> Result<Period, Refusal>
+    ensures { (moment : ℤ) (s d r : Option Data) → Holds start_faults (start_in moment) members.0.0.value s
+        → Holds length_faults length_in members.0.1.value d → Holds length_faults length_in members.1.value r
+        → Gives result (required start_faults s ++ optional length_faults d ++ optional length_faults r)
+        (record { start = start_in moment (unwrap_or s null); duration = option_map length_in d; randomize = option_map length_in r }) }
 {
-    let start = required_at::<Moment>(alloc, context, object, "start");
-    let duration = optional_at::<Length>(alloc, context, object, "duration");
-    let randomize = optional_at::<Length>(alloc, context, object, "randomizeStart");
-    both(both(start, duration), randomize)
+    let ((start, duration), randomize) = members;
+    let ((start, duration), randomize) = both(
+        both(start.required(), duration.optional()),
+        randomize.optional(),
+    )?;
+    Ok(Period {
+        start,
+        duration,
+        randomize,
+    })
 }
 
 impl Read for Period {
@@ -71,40 +85,44 @@ impl Read for Period {
     ghost stands_for = { λ c. period_in c.moment };
 
     #[tactic(auto, unfolding(crate::specs::Periods::period_faults, crate::specs::Periods::period_in))]
-    fn read(alloc: Global, context: &Context, value: &Value) -> Result<Period, Refusal> {
-        if !value.is_object() {
-            return Err(Refusal::WrongType);
+    fn read(
+        alloc: Global,
+        context: &Context,
+        depth: usize,
+        reader: &mut Reader<'_>,
+        token: Token<'_>,
+    ) -> Reading<Period> {
+        let start = Member::named(MemberName::Start);
+        let duration = Member::named(MemberName::Duration);
+        let randomize = Member::named(MemberName::RandomizeStart);
+        let members = ((start, duration), randomize);
+        match read_members(alloc, context.moment, depth, reader, token, members)? {
+            Some(members) => Ok(period_of(members)),
+            None => Ok(Err(Refusal::WrongType)),
         }
-        let ((start, duration), randomize) = period_members(alloc, context, value)?;
-        Ok(Period {
-            start,
-            duration,
-            randomize,
-        })
     }
 }
 
-/// The id, the period and the payloads of an interval.
-fn interval_members(
-    alloc: Global,
-    context: &Context,
-    object: &Value,
-) -> Result<((Option<i64>, Option<Period>), BoundedVec<Payload, 64>), Refusal>
-    ensures { let d = view object.now in Gives result
-        (optional interval_id_faults (member_at (codes "id") d)
-        ++ optional period_faults (member_at (codes "intervalPeriod") d)
-        ++ required (list_faults 64 payload_faults) (member_at (codes "payloads") d)) (
-          (
-            option_map interval_id_in (member_at (codes "id") d),
-            option_map (period_in context.now.moment) (member_at (codes "intervalPeriod") d),
-          ),
-          list_in (λ _. payload_in) (the (codes "payloads") d),
-        ) }
+type IntervalMembers = ((Member<i64>, Member<Period>), Member<Payloads>);
+
+/// The interval that these members are.
+fn interval_of(context: &Context, members: IntervalMembers) -> Result<Interval, Refusal>
+    ensures { (i p s : Option Data) → Holds interval_id_faults interval_id_in members.0.0.value i
+        → Holds period_faults (period_in context.now.moment) members.0.1.value p
+        → Holds (list_faults 64 payload_faults) (list_in (λ _. payload_in)) members.1.value s
+        → Gives result (optional interval_id_faults i ++ optional period_faults p ++ required (list_faults 64 payload_faults) s)
+        (record { id = unwrap_or (option_map interval_id_in i) context.now.place; period = option_map (period_in context.now.moment) p; payloads = list_in (λ _. payload_in) (unwrap_or s null) }) }
 {
-    let id = optional_at::<i64>(alloc, context, object, "id");
-    let period = optional_at::<Period>(alloc, context, object, "intervalPeriod");
-    let payloads = required_at::<BoundedVec<Payload, 64>>(alloc, context, object, "payloads");
-    both(both(id, period), payloads)
+    let ((id, period), payloads) = members;
+    let ((id, period), payloads) = both(
+        both(id.optional(), period.optional()),
+        payloads.required(),
+    )?;
+    Ok(Interval {
+        id: id.unwrap_or(context.place),
+        period,
+        payloads,
+    })
 }
 
 impl Read for Interval {
@@ -113,15 +131,20 @@ impl Read for Interval {
     ghost stands_for = { λ c d. interval_in c.moment c.place d };
 
     #[tactic(auto, unfolding(crate::specs::Periods::interval_faults, crate::specs::Periods::interval_in))]
-    fn read(alloc: Global, context: &Context, value: &Value) -> Result<Interval, Refusal> {
-        if !value.is_object() {
-            return Err(Refusal::WrongType);
+    fn read(
+        alloc: Global,
+        context: &Context,
+        depth: usize,
+        reader: &mut Reader<'_>,
+        token: Token<'_>,
+    ) -> Reading<Interval> {
+        let id = Member::named(MemberName::Id);
+        let period = Member::named(MemberName::IntervalPeriod);
+        let payloads = Member::named(MemberName::Payloads);
+        let members = ((id, period), payloads);
+        match read_members(alloc, context.moment, depth, reader, token, members)? {
+            Some(members) => Ok(interval_of(context, members)),
+            None => Ok(Err(Refusal::WrongType)),
         }
-        let ((id, period), payloads) = interval_members(alloc, context, value)?;
-        Ok(Interval {
-            id: id.unwrap_or(context.place),
-            period,
-            payloads,
-        })
     }
 }

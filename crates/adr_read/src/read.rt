@@ -2,13 +2,16 @@
 //!
 //! A body is one JSON object (RFC 8259). An unknown member is ignored, a null one is absent, and of two members of one
 //! name the last counts. Numbers go by their exact value. Every part is looked at, so what is refused is refused with the
-//! least of the body's faults; `NoMemory` may come in place of any answer. Time and memory go with the body's length.
+//! least of the body's faults; `NoMemory` may come in place of any answer. Each byte is read once, token by token; the
+//! memory is that of the shielded text, of as many bytes again, and of the object itself.
 ghost use Rattle.adr_value.specs.Answer.{Answers};
 ghost use Rattle.adr_read.specs.Body.{program_named, ven_named, resource_named, event_named};
 
-use crate::body::object_of;
-use crate::element::Context;
-use crate::object::{event, program, resource, ven};
+use crate::body::read_object;
+use crate::event::{event, event_members};
+use crate::members::Member;
+use crate::name::MemberName;
+use crate::object::{common_members, program, resource, ven};
 use adr_object::{Event, Id, Program, Resource, Ven};
 use adr_time::Moment;
 use adr_value::Refusal;
@@ -19,8 +22,8 @@ use std::alloc::Global;
 pub fn read_program(alloc: Global, body: &[u8], id: &Id, now: Moment) -> Result<Program, Refusal>
     ensures { Answers result (program_named body.now id.now) }
 {
-    let object = object_of(alloc, body)?;
-    program(alloc, &Context::at(now), id, &object)
+    let members = (common_members(), Member::named(MemberName::ProgramName));
+    program(alloc, id, read_object(alloc, now, body, members)?)
 }
 
 /// The event (OpenADR 3.0 Definition, event) of a body on a line that names this id, in an edit at this moment, which a
@@ -29,16 +32,15 @@ pub fn read_program(alloc: Global, body: &[u8], id: &Id, now: Moment) -> Result<
 pub fn read_event(alloc: Global, body: &[u8], id: &Id, now: Moment) -> Result<Event, Refusal>
     ensures { Answers result (event_named now body.now id.now) }
 {
-    let object = object_of(alloc, body)?;
-    event(alloc, &Context::at(now), id, &object)
+    event(alloc, id, read_object(alloc, now, body, event_members())?)
 }
 
 /// The ven (OpenADR 3.0 Definition, ven) of a body on a line that names this id. The refusals are those of a program.
 pub fn read_ven(alloc: Global, body: &[u8], id: &Id, now: Moment) -> Result<Ven, Refusal>
     ensures { Answers result (ven_named body.now id.now) }
 {
-    let object = object_of(alloc, body)?;
-    ven(alloc, &Context::at(now), id, &object)
+    let members = (common_members(), Member::named(MemberName::VenName));
+    ven(alloc, id, read_object(alloc, now, body, members)?)
 }
 
 /// The resource (OpenADR 3.0 Definition, resource) of a body on a line that names this id. The refusals are those of a
@@ -46,6 +48,7 @@ pub fn read_ven(alloc: Global, body: &[u8], id: &Id, now: Moment) -> Result<Ven,
 pub fn read_resource(alloc: Global, body: &[u8], id: &Id, now: Moment) -> Result<Resource, Refusal>
     ensures { Answers result (resource_named body.now id.now) }
 {
-    let object = object_of(alloc, body)?;
-    resource(alloc, &Context::at(now), id, &object)
+    let name = Member::named(MemberName::ResourceName);
+    let members = (common_members(), (name, Member::named(MemberName::VenId)));
+    resource(alloc, id, read_object(alloc, now, body, members)?)
 }

@@ -1,15 +1,23 @@
-use Rattle.std.proofs.Common.{codes, ap, ◌∙◌}
-use Rattle.serde_json.specs.View.{view}
-use Rattle.serde_json.proofs.Views.{view-Object}
-use Rattle.adr_read.specs.Looking.{member_at, the}
-use Rattle.adr_read.specs.Sets.{required}
-use Rattle.adr_read.specs.Values.{number_faults, number_in}
-use Rattle.adr_read.proofs.Reading.{point_of_object}
+use Rattle.std.proofs.Common.{◌∷◌, ◌∙◌, refl, sym, ap}
+use Rattle.json.specs.Reads.{token_of}
+use Rattle.serde_json.specs.Data.{boolean, string}
+use Rattle.adr_read.specs.Coming.{coming}
+use Rattle.adr_read.proofs.ComingLemmas.{coming-boolean, coming-string, coming_begins}
+use Rattle.adr_read.proofs.Telling.{no_datum}
 use Rattle.adr_read.proofs.kinds.DatumRead.read.Goals as goal
 
-pub returns-in_ok-x-in-Object : goal.returns-in_ok-x-in-Object
-returns-in_ok-x-in-Object c =
-    let d = view c.args.value.now in
-    let x = required number_faults (member_at (codes "x") d) in
-    let y = required number_faults (member_at (codes "y") d) in
-    point_of_object d _ _ _ (ap view c.in-Object.is ∙ view-Object c.in-Object.field-0) (c.in_ok-x-in-Object.ensures x y (number_in (the (codes "x") d)) (number_in (the (codes "y") d)) c.required_at-x.ensures c.required_at-y.ensures)
+pub returns-in-Bool : goal.returns-in-Bool
+returns-in-Bool c =
+    let ts = c.args.reader.now in
+    (boolean c.in-Bool.truth, ap (λ t. coming c.args.depth (token_of t ∷ ts)) c.in-Bool.is ∙ coming-boolean c.args.depth c.in-Bool.truth ts, (refl, refl))
+
+pub returns-in-String : goal.returns-in-String
+returns-in-String c =
+    let ts = c.args.reader.now in
+    (string c.in-String.text.now, ap (λ t. coming c.args.depth (token_of t ∷ ts)) c.in-String.is ∙ coming-string c.args.depth c.in-String.text.now ts, c.text_datum.ensures)
+
+pub returns-in-None : goal.returns-in-None
+returns-in-None c =
+    let told = c.in_ok-x.ensures.told in
+    let begins = coming_begins c.args.depth (token_of c.args.token) c.args.reader.now c.read_members.new.reader told.0 told.1 in
+    (told.0, told.1, λ _. sym (no_datum c.args.token told.0 begins c.in_default.not-String c.in_default.not-Bool (rw c.in-None.is at told.2)))

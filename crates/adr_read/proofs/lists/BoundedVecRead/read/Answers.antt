@@ -1,69 +1,94 @@
-use Rattle.std.proofs.Common.{◌≡◌, ℕ, ◌∙◌, Ok, Err, length, take, ap, lit<, arith}
-use mir.Syntax.{w64}
-use mir.Val.{to_z}
-use Rattle.std.proofs.lemmas.Int.{to_z_pos}
-use Rattle.std.proofs.lemmas.List.{take_all, length-take}
+use Rattle.std.proofs.Common.{◌≡◌, ◌∷◌, ◌++◌, ◌∙◌, ◌-◌, [], Some, None, length, refl, sym, ap, arith}
 use Rattle.std.proofs.lemmas.Result.{err_from_is_err_and}
-use Rattle.std.specs.List.{flat_map}
-use Rattle.std.specs.Prelude.{pos}
-use Rattle.serde_json.specs.View.{view}
-use Rattle.serde_json.specs.declared.value.Value.{Value}
-use Rattle.adr_value.proofs.Judged.{least_le, number_of_le}
-use Rattle.adr_read.specs.Sets.{at_places}
-use Rattle.adr_read.proofs.ListLemmas.{pushed, least-flat_map_more, at_places_more, list_gives, list_fits, length-at_places}
+use Rattle.json.specs.Token.{Token}
+use Rattle.json.specs.Json.{parse_map, after_end_array, value}
+use Rattle.json.specs.Reads.{token_of}
+use Rattle.serde_json.specs.Data.{array}
+use Rattle.serde_json.specs.View.{items_of}
+use Rattle.adr_read.specs.Coming.{coming}
+use Rattle.adr_read.proofs.ComingLemmas.{coming-shorter, coming-as_array, coming-begin_array}
+use Rattle.adr_read.proofs.SkipLemmas.{item_passed, item_refused}
+use Rattle.adr_read.proofs.Turns.{listed, listed_end, closed-array, items_before, one_more_item, none_before, items_before-none}
+use Rattle.adr_read.proofs.Telling.{fault_of, not_begin_array}
+use Rattle.adr_read.proofs.ListLaws.{no_list}
 use Rattle.adr_read.proofs.lists.BoundedVecRead.read.Goals as goal
-use Rattle.adr_read.proofs.lists.BoundedVecRead.read.Goals.{in-Ok+in_ok-push-in-Ok, in-Err+in_ok-note-in-Err}
+
+pub returns-in_default : goal.returns-in_default
+returns-in_default g c =
+    let comes = c.in_ok-skip.ensures.ok in
+    let none = coming-as_array c.args.depth (token_of c.args.token) c.args.reader.now c.skip.new.reader comes.0 comes.1 (not_begin_array c.args.token c.in_default.not-BeginArray) in
+    (comes.0, comes.1, λ _. sym (no_list g.row.LIMIT g.T.Read.faults comes.0 none))
+
+pub returns-then-depth-eq0 : goal.returns-then-depth-eq0
+returns-then-depth-eq0 g c _ =
+    let ts = c.args.reader.now in
+    (refl, ap (λ t. coming c.args.depth (token_of t ∷ ts)) c.in-BeginArray.is ∙ ap (λ depth. coming depth (Token.begin_array ∷ ts)) c.if-depth-eq0.true ∙ closed-array ts)
+
+pub elements-init : goal.elements-init
+elements-init g c =
+    let ts = c.args.reader.now in
+    let new = c.new-elements.ensures in
+    (length ts, [], omega arith, none_before (listed (c.args.depth - 1) (length ts) ts), new.none _, omega (arith, ap length new.empty))
+
+pub returns-in_err-token : goal.returns-in_err-token
+returns-in_err-token g c =
+    let ts = c.args.reader.now in
+    let depth = c.args.depth - 1 in
+    let opened = ap (λ t. coming c.args.depth (token_of t ∷ ts)) c.in-BeginArray.is ∙ coming-begin_array c.args.depth ts (omega (arith, c.if-depth-eq0.false)) in
+    let so_far = c.elements.invariant in
+    let bad = c.in_err-token.ensures.bad in
+    let out = err_from_is_err_and c.from_residual-in_err-token.result c.from_residual-in_err-token.ensures.1 in
+    rw (out.1, out.2) (λ _. (bad.0, opened ∙ ap (parse_map array) (so_far.3 ∙ ap (parse_map (items_before so_far.1)) (bad.1 depth so_far.0))))
+
+pub returns-in_err-read : goal.returns-in_err-read
+returns-in_err-read g c =
+    let ts = c.args.reader.now in
+    let depth = c.args.depth - 1 in
+    let opened = ap (λ t. coming c.args.depth (token_of t ∷ ts)) c.in-BeginArray.is ∙ coming-begin_array c.args.depth ts (omega (arith, c.if-depth-eq0.false)) in
+    let so_far = c.elements.invariant in
+    let s = token_of c.in-Some.token ∷ c.next_element.new.reader in
+    let found : (after_end_array c.elements.reader ≡ None) × (c.elements.reader ≡ s) = rw c.in-Some.is at c.in_ok-token.ensures.found in
+    let out = err_from_is_err_and c.from_residual-in_err-read.result c.from_residual-in_err-read.ensures.1 in
+    rw (out.1, out.2) (
+    fault_of c.in_err-read.field-0.0 (coming depth s) (coming c.args.depth (token_of c.args.token ∷ ts))
+    (λ none. opened ∙ ap (parse_map array) (so_far.3 ∙ ap (parse_map (items_before so_far.1)) (item_refused (value depth) so_far.0 c.elements.reader found.0 (ap (coming depth) found.1 ∙ none)))) c.in_err-read.ensures
+    )
+
+pub elements-smaller : goal.elements-smaller
+elements-smaller g c =
+    let told = c.in_ok-read.ensures in
+    let s = token_of c.in-Some.token ∷ c.next_element.new.reader in
+    let found : (after_end_array c.elements.reader ≡ None) × (c.elements.reader ≡ s) = rw c.in-Some.is at c.in_ok-token.ensures.found in
+    omega (arith, ap length found.1, coming-shorter (c.args.depth - 1) s c.read.new.reader told.0 told.1)
 
 pub elements-preserved : goal.elements-preserved
 elements-preserved g c =
-    let vs = c.deref-element-items.result.now in
-    let i = c.elements.place in
-    let v = c.element-item.result in
+    let told = c.in_ok-read.ensures in
     let so_far = c.elements.invariant in
-    let place_is : to_z w64 i ≡ pos i = to_z_pos w64 i (omega arith) in
-    let bound = least_le (flat_map (λ v. g.T.Read.faults (view v)) (take i vs)) in
-    let more = least-flat_map_more (λ v. g.T.Read.faults (view v)) vs i v c.elements-test.true c.element-item.is in
-    let made = at_places_more (λ n v. g.T.Read.stands_for (record { moment = c.args.context.now.moment; place = pos n }) (view v)) vs i v c.elements-test.true c.element-item.is in
-    elim c.match-read.branch [
-      | in-Ok+in_ok-push-in-Ok w ↦
-          let h = w.in-Ok.ensures in
-          record {
-            faults = omega (arith, more, h.0, w.faults-is, so_far.faults, bound);
-            items = λ e.
-                let old : c.elements.items.items ≡ at_places (λ n v. g.T.Read.stands_for (record { moment = c.args.context.now.moment; place = pos n }) (view v)) 0 (take i vs) = so_far.items (omega (arith, e, w.faults-is)) in
-                pushed _ _ _ _ _ _ (ap (λ v. v.items) w.items-is ∙ w.in_ok-push-in-Ok.ensures.items) old (rw place_is at h.1) made;
-          }
-      | in-Err+in_ok-note-in-Err w ↦
-          let k = w.in_ok-note-in-Err.ensures in
-          let h = w.in-Err.ensures k.fault in
-          record {
-            faults = omega (arith, more, h, k.noted, w.faults-is, so_far.faults);
-            items = λ e. let no : ⊥ = omega (arith, e, k.noted, w.faults-is, number_of_le w.in-Err.refusal) in elim no [ ];
-          }
-    ]
+    let depth = c.args.depth - 1 in
+    let ts = c.elements.reader in
+    let s = token_of c.in-Some.token ∷ c.next_element.new.reader in
+    let r = c.read.new.reader in
+    let found : (after_end_array ts ≡ None) × (ts ≡ s) = rw c.in-Some.is at c.in_ok-token.ensures.found in
+    let less = coming-shorter depth s r told.0 told.1 in
+    let len = ap length found.1 in (
+      so_far.0 - 1,
+      so_far.1 ++ told.0 ∷ [],
+      omega (arith, so_far.2, less, len),
+      so_far.3 ∙ ap (parse_map (items_before so_far.1)) (item_passed (value depth) so_far.0 ts r told.0 (omega (arith, so_far.2, less, len)) found.0 (ap (coming depth) found.1 ∙ told.1)) ∙ one_more_item so_far.1 told.0 (listed depth (so_far.0 - 1) r),
+      c.in_ok-add.ensures.added c.args.context.now.moment so_far.1 told.0 so_far.4 (rw c.next_context-context.ensures at told.2),
+      c.in_ok-add.ensures.fits,
+    )
 
 pub returns : goal.returns
 returns g c =
-    let vs = c.deref-element-items.result.now in
-    let all : take c.elements.place vs ≡ vs = take_all c.elements.place vs c.elements-test.false in
-    let so_far = rw all at c.elements.invariant in
-    let answer = c.in_ok-answer.ensures.value in
-    list_gives (Ok c.from_vec.result) (view c.args.value.now) vs g.row.LIMIT g.T.Read.faults (λ n. g.T.Read.stands_for (record { moment = c.args.context.now.moment; place = pos n })) c.elements.faults c.elements.items.items (rw c.deref-element-items.ensures.value c.in-Some.ensures) so_far.faults so_far.items (c.from_vec.ensures ∙ ap (λ v. v.items) answer.0, answer.1) tt
-
-pub returns-in_err-answer : goal.returns-in_err-answer
-returns-in_err-answer g c =
-    let vs = c.deref-element-items.result.now in
-    let all : take c.elements.place vs ≡ vs = take_all c.elements.place vs c.elements-test.false in
-    let so_far = rw all at c.elements.invariant in
-    let out = err_from_is_err_and c.from_residual-in_err-answer.result c.from_residual-in_err-answer.ensures.1 in
-    rw (out.1, out.2) (list_gives (Err c.in_err-answer.field-0.0) (view c.args.value.now) vs g.row.LIMIT g.T.Read.faults (λ n. g.T.Read.stands_for (record { moment = c.args.context.now.moment; place = pos n })) c.elements.faults c.elements.items.items (rw c.deref-element-items.ensures.value c.in-Some.ensures) so_far.faults so_far.items tt c.in_err-answer.ensures.refused)
-
-pub from_vec-requires : goal.from_vec-requires
-from_vec-requires g c =
-    let vs = c.deref-element-items.result.now in
-    let f = λ (n : ℕ) (v : Value). g.T.Read.stands_for (record { moment = c.args.context.now.moment; place = pos n }) (view v) in
-    let answer = c.in_ok-answer.ensures.value in
+    let ts = c.args.reader.now in
+    let depth = c.args.depth - 1 in
+    let opened = ap (λ t. coming c.args.depth (token_of t ∷ ts)) c.in-BeginArray.is ∙ coming-begin_array c.args.depth ts (omega (arith, c.if-depth-eq0.false)) in
     let so_far = c.elements.invariant in
-    let fits = list_fits (length vs) g.row.LIMIT _ c.elements.faults so_far.faults answer.1 in
-    let made : c.in_ok-answer.field-0.items ≡ at_places f 0 (take c.elements.place vs) = ap (λ v. v.items) answer.0 ∙ so_far.items answer.1 in
-    (lit< tt, omega (arith, fits, ap length made, length-at_places f 0 (take c.elements.place vs), length-take c.elements.place vs))
+    let r = c.next_element.new.reader in
+    let ends : after_end_array c.elements.reader ≡ Some r = rw c.in_default-2.is at c.in_ok-token.ensures.found in (
+      array (items_of so_far.1),
+      opened ∙ ap (parse_map array) (so_far.3 ∙ ap (parse_map (items_before so_far.1)) (listed_end depth so_far.0 c.elements.reader r so_far.2 ends)) ∙ ap (λ items. Some (array items, r)) (items_before-none so_far.1),
+      c.answer.ensures c.args.context.now.moment so_far.1 so_far.4,
+    )
