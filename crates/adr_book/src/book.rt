@@ -174,8 +174,9 @@ impl Book {
         ensures unchanged { OnErr result (self.new ≡ self.old) }
         ensures refusal { IfErr result (λ refusal. refusal ≡ Refusal.NoMemory) }
     {
-        let copy = Shared::new(self.alloc, edit.copy()?)?;
-        self.record(edit, copy)
+        let shared = Shared::new(self.alloc, edit)?;
+        let copy = shared.get().copy()?;
+        self.record(copy, shared)
     }
 
     fn record(&mut self, edit: Edit, copy: Shared<Edit>) -> Result<u64, Refusal>
