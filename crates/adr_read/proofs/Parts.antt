@@ -1,6 +1,6 @@
 -- The parts of an object, from its members.
 use Rattle.std.proofs.Common.{◌≡◌, ℕ, List, [], false, Option, Some, None, option_map, unwrap_or, refl, ap, ◌∙◌, arith, inr}
-use Rattle.std.specs.Prelude.{◌⊎◌, Ok, Err, MatchOption, MatchResult, bytes_eq, is_some, if◌then◌else◌}
+use Rattle.std.specs.Prelude.{pos, ◌⊎◌, Ok, Err, MatchOption, MatchResult, bytes_eq, is_some, if◌then◌else◌}
 use Rattle.std.specs.Option.{ok_or}
 use Rattle.serde_json.specs.Data.{Data, Members, object}
 use Rattle.serde_json.specs.Find.{as_object}
@@ -8,10 +8,15 @@ use Rattle.adr_value.proofs.Judged.{number_of_le}
 use Rattle.adr_value.specs.Faults.{least, none, IsRefusedFor}
 use Rattle.adr_value.specs.declared.refusal.Refusal.{Refusal}
 use Rattle.adr_value.specs.declared.refusal.Refusal.TheVariants.{NoMemory, NotObject}
+use Rattle.adr_read.specs.declared.element.Context.{Context}
 use Rattle.adr_read.specs.Body.{value_of, object_or}
 use Rattle.adr_read.specs.Looking.{text_of}
 use Rattle.adr_read.specs.Sets.{of_kind, optional, unless}
 use Rattle.adr_read.specs.Values.{text_faults, text_in, equal_faults}
+
+-- where a value stands that doesn't depend on it
+abbrev pub anywhere : Context
+anywhere = record { moment = pos 0; place = pos 0 }
 
 -- ---- a text that has to be the wanted one
 

@@ -1,8 +1,7 @@
 -- What a call tells, from what the calls within it tell.
-use Rattle.std.proofs.Common.{◌≡◌, ◌≢◌, ℕ, List, [], ◌∷◌, ◌++◌, ◌||◌, ◌&&◌, Bool, true, false, not, Option, Some, None, Bor, refl, sym, ap, ◌∙◌}
+use Rattle.std.proofs.Common.{◌≡◌, ◌≢◌, ℕ, List, [], ◌∷◌, ◌++◌, ◌||◌, ◌&&◌, Bool, true, false, not, Option, Some, None, Bor, refl, ap, ◌∙◌}
 use Rattle.std.specs.Prelude.{Result, Ok, Err, OnOk, IfErr}
 use Rattle.std.specs.Str.{bytes_eq}
-use Rattle.std.proofs.lemmas.List.Folds.{list_any-append}
 use Rattle.std.proofs.lemmas.Slice.Eq.{bytes_eq-Decides}
 use Rattle.json.specs.Token.{Token}
 use Rattle.json.specs.Reads.{token_of}
@@ -14,6 +13,7 @@ use Rattle.serde_json.proofs.Views.{get_member-put}
 use Rattle.adr_value.specs.Faults.{least}
 use Rattle.adr_value.specs.declared.refusal.Refusal.{Refusal}
 use Rattle.adr_value.specs.declared.refusal.Refusal.TheVariants.{BadJson, NoMemory}
+use Rattle.adr_read.specs.Gathering.{among_both}
 use Rattle.adr_read.specs.Coming.{Tells}
 use Rattle.adr_read.proofs.ComingLemmas.{Begins, token_is_null, token_str}
 use Rattle.adr_read.specs.Looking.{present, member_at}
@@ -68,18 +68,11 @@ not_true : (b : Bool) → not b ≡ true → b ≡ false
 not_true true e = absurd cc
 not_true false e = refl
 
-neither : (a b : Bool) → (a || b) ≡ false → (a ≡ false) × (b ≡ false)
-neither true b e = absurd cc
-neither false b e = (refl, e)
-
-first_of : (x : List ℕ) (xs ys : List (List ℕ)) → is_among x (xs ++ ys) ≡ false → (is_among x xs ≡ false) × (is_among x ys ≡ false)
-first_of x xs ys e = neither _ _ (sym (list_any-append (bytes_eq x) xs ys) ∙ e)
-
 pub apart_left : (xs ys : List (List ℕ)) → are_apart (xs ++ ys) ≡ true → are_apart xs ≡ true
 apart_left [] ys e = refl
 apart_left (x ∷ xs) ys e =
     let h = both_true (not (is_among x (xs ++ ys))) (are_apart (xs ++ ys)) e in
-    rw ((first_of x xs ys (not_true _ h.0)).0, apart_left xs ys h.1) refl
+    rw ((among_both x xs ys (not_true _ h.0)).0, apart_left xs ys h.1) refl
 
 pub apart_right : (xs ys : List (List ℕ)) → are_apart (xs ++ ys) ≡ true → are_apart ys ≡ true
 apart_right [] ys e = e
@@ -90,7 +83,7 @@ only_left_at : (name x : List ℕ) (xs ys : List (List ℕ)) (b : Bool) → byte
     → (is_among name xs ≡ true → is_among name ys ≡ false) → is_among name ys ≡ false
 only_left_at name x xs ys true is apart e later =
     let same : name ≡ x = (bytes_eq-Decides name x).0 is in
-    rw same (first_of x xs ys apart).1
+    rw same (among_both x xs ys apart).1
 only_left_at name x xs ys false is apart e later = later e
 
 pub only_left : (name : List ℕ) (xs ys : List (List ℕ)) → are_apart (xs ++ ys) ≡ true → is_among name xs ≡ true → is_among name ys ≡ false

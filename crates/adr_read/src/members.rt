@@ -169,7 +169,9 @@ impl<A: Members, B: Members> Members for (A, B) {
         }
     }
 
-    ghost others = { λ moment x name d ms none are. (A.others moment x.0 name d ms (among_both name (A.names x.0) (B.names x.1) none).0 are.0, B.others moment x.1 name d ms (among_both name (A.names x.0) (B.names x.1) none).1 are.1) };
+    ghost others = { λ moment x name d ms none are.
+        let apart = among_both name (A.names x.0) (B.names x.1) none in
+        (A.others moment x.0 name d ms apart.0 are.0, B.others moment x.1 name d ms apart.1 are.1) };
 }
 
 /// The name of the next member and the token that its value begins with, or nothing at the object's end.

@@ -19,6 +19,7 @@ pub(crate) type Targets = BoundedVec<Target, 64>;
 /// The kind, the id and the targets.
 pub(crate) type CommonMembers = ((Member<Text>, Member<Text>), Member<Targets>);
 
+/// None of them was met yet.
 pub(crate) fn common_members() -> CommonMembers
     ensures names { (result.0.0.name ≡ MemberName.ObjectType) × (result.0.1.name ≡ MemberName.Id) × (result.1.name ≡ MemberName.Targets) }
     ensures values { (result.0.0.value ≡ None) × (result.0.1.value ≡ None) × (result.1.value ≡ None) }

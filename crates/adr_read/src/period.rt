@@ -111,7 +111,11 @@ fn interval_of(context: &Context, members: IntervalMembers) -> Result<Interval, 
         → Holds period_faults (period_in context.now.moment) members.0.1.value p
         → Holds (list_faults 64 payload_faults) (list_in (λ _. payload_in)) members.1.value s
         → Gives result (optional interval_id_faults i ++ optional period_faults p ++ required (list_faults 64 payload_faults) s)
-        (record { id = unwrap_or (option_map interval_id_in i) context.now.place; period = option_map (period_in context.now.moment) p; payloads = list_in (λ _. payload_in) (unwrap_or s null) }) }
+        (record {
+          id = unwrap_or (option_map interval_id_in i) context.now.place;
+          period = option_map (period_in context.now.moment) p;
+          payloads = list_in (λ _. payload_in) (unwrap_or s null);
+        }) }
 {
     let ((id, period), payloads) = members;
     let ((id, period), payloads) = both(

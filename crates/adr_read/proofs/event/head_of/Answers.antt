@@ -1,13 +1,9 @@
 use Rattle.std.proofs.Common.{◌++◌, option_map, unwrap_or}
-use Rattle.std.specs.Prelude.{pos}
 use Rattle.serde_json.specs.Data.{null}
 use Rattle.adr_read.specs.Sets.{required, optional}
 use Rattle.adr_read.specs.Values.{text_faults, id_faults, text_in, priority_faults, priority_in}
-use Rattle.adr_read.specs.declared.element.Context.{Context}
+use Rattle.adr_read.proofs.Parts.{anywhere}
 use Rattle.adr_read.proofs.event.head_of.Goals as goal
-
-abbrev anywhere : Context
-anywhere = record { moment = pos 0; place = pos 0 }
 
 pub returns : goal.returns
 returns c line p n r given hp hn hr =

@@ -1,16 +1,12 @@
 use Rattle.std.proofs.Common.{unwrap_or, ap}
-use Rattle.std.specs.Prelude.{pos}
 use Rattle.std.proofs.lemmas.Result.{err_from_is_err_and}
 use Rattle.serde_json.specs.Data.{null}
 use Rattle.adr_value.specs.Number.{Number as Decimal}
 use Rattle.adr_value.specs.declared.datum.Datum.TheVariants.{Point}
 use Rattle.adr_read.specs.Sets.{required}
 use Rattle.adr_read.specs.Values.{number_faults, number_in}
-use Rattle.adr_read.specs.declared.element.Context.{Context}
+use Rattle.adr_read.proofs.Parts.{anywhere}
 use Rattle.adr_read.proofs.kinds.point_of.Goals as goal
-
-abbrev anywhere : Context
-anywhere = record { moment = pos 0; place = pos 0 }
 
 pub returns : goal.returns
 returns c o p h k =

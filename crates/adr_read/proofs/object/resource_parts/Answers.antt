@@ -1,14 +1,10 @@
 use Rattle.std.proofs.Common.{◌++◌, [], codes, option_map, unwrap_or}
-use Rattle.std.specs.Prelude.{pos}
 use Rattle.serde_json.specs.Data.{null}
 use Rattle.adr_value.specs.declared.refusal.Refusal.TheVariants.{WrongKind, IdMismatch}
 use Rattle.adr_read.specs.Sets.{required, optional}
 use Rattle.adr_read.specs.Values.{name_faults, id_faults, equal_faults, text_in, targets_faults, targets_in}
-use Rattle.adr_read.specs.declared.element.Context.{Context}
+use Rattle.adr_read.proofs.Parts.{anywhere}
 use Rattle.adr_read.proofs.object.resource_parts.Goals as goal
-
-abbrev anywhere : Context
-anywhere = record { moment = pos 0; place = pos 0 }
 
 pub returns : goal.returns
 returns c k i t n v hk hi ht hn hv =

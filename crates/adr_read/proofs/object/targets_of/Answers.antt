@@ -1,12 +1,9 @@
 use Rattle.std.proofs.Common.{◌∙◌, [], List, ap, unwrap_or}
-use Rattle.std.specs.Prelude.{pos, Option}
+use Rattle.std.specs.Prelude.{Option}
 use Rattle.std.proofs.lemmas.Result.{err_from_is_err_and}
 use Rattle.adr_object.specs.declared.event.Target.{Target}
-use Rattle.adr_read.specs.declared.element.Context.{Context}
+use Rattle.adr_read.proofs.Parts.{anywhere}
 use Rattle.adr_read.proofs.object.targets_of.Goals as goal
-
-abbrev anywhere : Context
-anywhere = record { moment = pos 0; place = pos 0 }
 
 pub returns : goal.returns
 returns c o holds =
