@@ -95,7 +95,7 @@ impl<T: Read, const LIMIT: usize> Elements<T, LIMIT> {
         Ok(())
     }
 
-    /// The whole list, or its least fault.
+    /// The whole list, with no room to spare, or its least fault.
     pub(crate) fn answer(self) -> Result<BoundedVec<T, LIMIT>, Refusal>
         requires fits { length self.items.items ≤ LIMIT }
         ensures { (moment : ℤ) (ds : List Data)
@@ -104,7 +104,9 @@ impl<T: Read, const LIMIT: usize> Elements<T, LIMIT> {
             (list_in (λ n. T.stands_for (record { moment = moment; place = pos n })) (array (items_of ds))) }
     {
         let Elements { items, faults, .. } = self;
-        Ok(BoundedVec::from_vec(faults.answer(items)?))
+        let mut items = faults.answer(items)?;
+        items.shrink_to_fit();
+        Ok(BoundedVec::from_vec(items))
     }
 }
 

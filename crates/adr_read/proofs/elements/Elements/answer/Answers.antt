@@ -7,11 +7,11 @@ use Rattle.adr_read.proofs.elements.Elements.answer.Goals as goal
 pub returns : goal.returns
 returns g c moment ds so_far =
     let self = c.args.self in
-    let value = c.in_ok-answer.ensures.value in
-    list_given g.row.LIMIT g.T.Read.faults (λ n. g.T.Read.stands_for (record { moment = moment; place = pos n })) self.items.items self.count self.faults ds so_far c.from_vec.result (c.from_vec.ensures ∙ ap (λ v. v.items) value.0) value.1
+    let value = c.in_ok-items.ensures.value in
+    list_given g.row.LIMIT g.T.Read.faults (λ n. g.T.Read.stands_for (record { moment = moment; place = pos n })) self.items.items self.count self.faults ds so_far c.from_vec.result (c.from_vec.ensures ∙ c.shrink_to_fit.ensures.items ∙ ap (λ v. v.items) value.0) value.1
 
-pub returns-in_err-answer : goal.returns-in_err-answer
-returns-in_err-answer g c moment ds so_far =
+pub returns-in_err-items : goal.returns-in_err-items
+returns-in_err-items g c moment ds so_far =
     let self = c.args.self in
     let out = err_from_is_err_and c.from_residual.result c.from_residual.ensures.1 in
-    rw (out.1, out.2) (list_refused g.row.LIMIT g.T.Read.faults (λ n. g.T.Read.stands_for (record { moment = moment; place = pos n })) self.items.items self.count self.faults ds so_far c.in_err-answer.field-0.0 c.in_err-answer.ensures.refused)
+    rw (out.1, out.2) (list_refused g.row.LIMIT g.T.Read.faults (λ n. g.T.Read.stands_for (record { moment = moment; place = pos n })) self.items.items self.count self.faults ds so_far c.in_err-items.field-0.0 c.in_err-items.ensures.refused)
