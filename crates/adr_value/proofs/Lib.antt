@@ -2,6 +2,7 @@ pub mod BodyLemmas
 pub mod Judged
 pub mod NumbersLemmas
 pub mod OneCutLemmas
+pub mod PackedLemmas
 pub mod PayloadTable
 pub mod PowerLemmas
 pub mod PrefixLemmas

@@ -6,6 +6,7 @@ pub mod Faults
 pub mod Names
 pub mod Number
 pub mod Numbers
+pub mod Packed
 pub mod Payload
 pub mod Pieces
 pub mod Refusal
