@@ -1,8 +1,2 @@
-pub mod Entries
-pub mod Times
-pub mod Found
-pub mod Counted
-pub mod Accepted
 pub mod Verdict
 pub mod Joined
-pub mod Copies

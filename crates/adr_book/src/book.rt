@@ -7,13 +7,12 @@ ghost use Rattle.adr_model.specs.Book.{empty, program_by, ven_by, resource_by, e
 ghost use Rattle.adr_model.specs.Edits.{after, count_of, made, step};
 ghost use Rattle.adr_repair.specs.Whole.{IsWhole};
 ghost use Rattle.adr_book.specs.Ledger.{journal_of};
-ghost use Rattle.adr_book.specs.Numbers.{by_number};
+ghost use Rattle.adr_store.specs.Numbers.{by_number};
 
 use crate::journal::Journal;
 use crate::judging::judge_on;
-use crate::objects::Objects;
-use crate::shared::Shared;
 use adr_object::{Edit, Event, Id, Kind, Program, Resource, Ven};
+use adr_store::{Shared, Store};
 use adr_value::Refusal;
 use std::alloc::Global;
 use std::marker::Model;
@@ -23,7 +22,7 @@ use std::marker::Model;
 /// The objects of each kind stand in order of creation: a change keeps an object's place, a delete closes the
 /// gap, and a new object goes last. Copies of a book share its objects and edits.
 pub struct Book {
-    objects: Objects,
+    objects: Store,
     journal: Journal,
     alloc: Global,
 }
@@ -63,7 +62,7 @@ impl Book {
         ensures pending { result.pending ≡ [] }
     {
         Book {
-            objects: Objects::new(alloc),
+            objects: Store::new(alloc),
             journal: Journal::new(alloc),
             alloc,
         }

@@ -3,8 +3,8 @@ ghost use Rattle.std.specs.Prelude.{◌≡◌, ◌++◌, ◌∷◌, [], ◌<◌,
 ghost use Rattle.adr_value.specs.Copy.{IsCopyOf};
 
 use crate::reserved::{make_room, push_within};
-use crate::shared::Shared;
 use adr_object::Edit;
+use adr_store::Shared;
 use adr_value::{Refusal, TryClone};
 use std::alloc::Global;
 use std::marker::Model;

@@ -7,10 +7,9 @@ ghost use Rattle.adr_object.specs.Object.{kind_of, id_of};
 ghost use Rattle.adr_object.specs.declared.object.Edit.TheVariants.{Create, Change, Remove};
 ghost use Rattle.adr_model.specs.Edits.{fault_if, layout_faults, reference_faults, is_full_for, is_named as the_is_named, most_edits, most_objects as the_most_objects, has_too_many_entries as the_has_too_many_entries, has_id, faults, made, step};
 
-use crate::counting::entry_count;
-use crate::objects::Objects;
 use adr_layout::lay_out;
 use adr_object::{Edit, Id, Kind, Object};
+use adr_store::{Store, entry_count};
 use adr_value::{Refusal, both};
 use std::alloc::Global;
 
@@ -39,7 +38,7 @@ fn layout_fault(alloc: Global, object: &Object) -> Result<(), Refusal>
 }
 
 /// Whether there is an object of the kind with the id.
-fn has(objects: &Objects, kind: Kind, id: &Id) -> bool
+fn has(objects: &Store, kind: Kind, id: &Id) -> bool
     ensures { result ≡ has_id objects.now kind id.now }
 {
     match kind {
@@ -51,7 +50,7 @@ fn has(objects: &Objects, kind: Kind, id: &Id) -> bool
 }
 
 /// The fault of what a written object names.
-fn reference_fault(objects: &Objects, object: &Object) -> Result<(), Refusal>
+fn reference_fault(objects: &Store, object: &Object) -> Result<(), Refusal>
     ensures { Gives result (reference_faults objects.now object.now) tt }
 {
     match object {
@@ -69,7 +68,7 @@ fn reference_fault(objects: &Objects, object: &Object) -> Result<(), Refusal>
 }
 
 /// Whether an object names the one of that kind and id.
-fn is_named(objects: &Objects, kind: Kind, id: &Id) -> bool
+fn is_named(objects: &Store, kind: Kind, id: &Id) -> bool
     ensures { result ≡ the_is_named objects.now kind id.now }
 {
     match kind {
@@ -89,7 +88,7 @@ fn most_objects(kind: Kind) -> usize
 }
 
 /// Whether the object is an event that would bring the book above its entries.
-fn has_too_many_entries(objects: &Objects, object: &Object) -> bool
+fn has_too_many_entries(objects: &Store, object: &Object) -> bool
     ensures { result ≡ the_has_too_many_entries objects.now object.now }
 {
     match object {
@@ -100,7 +99,7 @@ fn has_too_many_entries(objects: &Objects, object: &Object) -> bool
     }
 }
 
-fn is_full_for_new(objects: &Objects, object: &Object) -> bool
+fn is_full_for_new(objects: &Store, object: &Object) -> bool
     ensures { result ≡ is_full_for objects.now (Create object.now) }
 {
     most_objects(object.kind()) <= objects.count(object.kind())
@@ -108,62 +107,62 @@ fn is_full_for_new(objects: &Objects, object: &Object) -> bool
 }
 
 /// Whether no edit or no new object of that kind has room.
-fn has_no_room_for_new(objects: &Objects, object: &Object) -> bool
+fn has_no_room_for_new(objects: &Store, object: &Object) -> bool
     ensures { result ≡ (nat_le most_edits objects.now.version || is_full_for objects.now (Create object.now)) }
 {
     MOST_EDITS <= objects.version() || is_full_for_new(objects, object)
 }
 
 /// Whether no edit or no such change has room.
-fn has_no_room_for_changed(objects: &Objects, object: &Object) -> bool
+fn has_no_room_for_changed(objects: &Store, object: &Object) -> bool
     ensures { result ≡ (nat_le most_edits objects.now.version || is_full_for objects.now (Change object.now)) }
 {
     MOST_EDITS <= objects.version() || has_too_many_entries(objects, object)
 }
 
-fn exists_fault(objects: &Objects, object: &Object) -> Result<(), Refusal>
+fn exists_fault(objects: &Store, object: &Object) -> Result<(), Refusal>
     ensures { Gives result (fault_if (has_id objects.now (kind_of object.now) (id_of object.now)) Refusal.Exists) tt }
 {
     fault_if(has(objects, object.kind(), object.id()), Refusal::Exists)
 }
 
-fn absence_fault(objects: &Objects, kind: Kind, id: &Id) -> Result<(), Refusal>
+fn absence_fault(objects: &Store, kind: Kind, id: &Id) -> Result<(), Refusal>
     ensures { Gives result (fault_if (not (has_id objects.now kind id.now)) Refusal.NotThere) tt }
 {
     fault_if(!has(objects, kind, id), Refusal::NotThere)
 }
 
-fn missing_fault(objects: &Objects, object: &Object) -> Result<(), Refusal>
+fn missing_fault(objects: &Store, object: &Object) -> Result<(), Refusal>
     ensures { Gives result (fault_if (not (has_id objects.now (kind_of object.now) (id_of object.now))) Refusal.NotThere) tt }
 {
     absence_fault(objects, object.kind(), object.id())
 }
 
-fn creation_room_fault(objects: &Objects, object: &Object) -> Result<(), Refusal>
+fn creation_room_fault(objects: &Store, object: &Object) -> Result<(), Refusal>
     ensures { Gives result (fault_if (nat_le most_edits objects.now.version || is_full_for objects.now (Create object.now)) Refusal.Full) tt }
 {
     fault_if(has_no_room_for_new(objects, object), Refusal::Full)
 }
 
-fn change_room_fault(objects: &Objects, object: &Object) -> Result<(), Refusal>
+fn change_room_fault(objects: &Store, object: &Object) -> Result<(), Refusal>
     ensures { Gives result (fault_if (nat_le most_edits objects.now.version || is_full_for objects.now (Change object.now)) Refusal.Full) tt }
 {
     fault_if(has_no_room_for_changed(objects, object), Refusal::Full)
 }
 
-fn use_fault(objects: &Objects, kind: Kind, id: &Id) -> Result<(), Refusal>
+fn use_fault(objects: &Store, kind: Kind, id: &Id) -> Result<(), Refusal>
     ensures { Gives result (fault_if (the_is_named objects.now kind id.now) Refusal.InUse) tt }
 {
     fault_if(is_named(objects, kind, id), Refusal::InUse)
 }
 
-fn removal_room_fault(objects: &Objects) -> Result<(), Refusal>
+fn removal_room_fault(objects: &Store) -> Result<(), Refusal>
     ensures { Gives result (fault_if (nat_le most_edits objects.now.version) Refusal.Full) tt }
 {
     fault_if(MOST_EDITS <= objects.version(), Refusal::Full)
 }
 
-fn least_of_create(alloc: Global, objects: &Objects, object: &Object) -> Result<(), Refusal>
+fn least_of_create(alloc: Global, objects: &Store, object: &Object) -> Result<(), Refusal>
     ensures { Gives result (faults objects.now (Create object.now)) tt }
 {
     let layout = layout_fault(alloc, object);
@@ -173,7 +172,7 @@ fn least_of_create(alloc: Global, objects: &Objects, object: &Object) -> Result<
     whole(both(both(both(layout, id), reference), room))
 }
 
-fn least_of_change(alloc: Global, objects: &Objects, object: &Object) -> Result<(), Refusal>
+fn least_of_change(alloc: Global, objects: &Store, object: &Object) -> Result<(), Refusal>
     ensures { Gives result (faults objects.now (Change object.now)) tt }
 {
     let layout = layout_fault(alloc, object);
@@ -183,7 +182,7 @@ fn least_of_change(alloc: Global, objects: &Objects, object: &Object) -> Result<
     whole(both(both(both(layout, id), reference), room))
 }
 
-fn least_of_removal(objects: &Objects, kind: Kind, id: &Id) -> Result<(), Refusal>
+fn least_of_removal(objects: &Store, kind: Kind, id: &Id) -> Result<(), Refusal>
     ensures { Gives result (faults objects.now (Remove kind id.now)) tt }
 {
     let absence = absence_fault(objects, kind, id);
@@ -193,7 +192,7 @@ fn least_of_removal(objects: &Objects, kind: Kind, id: &Id) -> Result<(), Refusa
 }
 
 /// The least fault of the edit, by the numbers of the faults.
-fn least(alloc: Global, objects: &Objects, edit: &Edit) -> Result<(), Refusal>
+fn least(alloc: Global, objects: &Store, edit: &Edit) -> Result<(), Refusal>
     ensures { Gives result (faults objects.now edit.now) tt }
 {
     match edit {
@@ -204,7 +203,7 @@ fn least(alloc: Global, objects: &Objects, edit: &Edit) -> Result<(), Refusal>
 }
 
 /// Whether the edit is accepted, or its least fault.
-pub(crate) fn judge_on(alloc: Global, objects: &Objects, edit: &Edit) -> Result<(), Refusal>
+pub(crate) fn judge_on(alloc: Global, objects: &Store, edit: &Edit) -> Result<(), Refusal>
     ensures { Answers (result_map (λ _. made objects.now edit.now) result) (step objects.now edit.now) }
 {
     least(alloc, objects, edit)

@@ -1,4 +1,4 @@
-use Rattle.adr_book.proofs.Copies.{refused_copy}
+use Rattle.adr_store.proofs.Copies.{refused_copy}
 use Rattle.adr_book.proofs.Joined.{left_whole}
 use Rattle.adr_book.proofs.book.Book.copy.Goals as goal
 

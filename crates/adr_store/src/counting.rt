@@ -1,0 +1,52 @@
+//! How many entries an event has.
+ghost use Rattle.std.specs.Prelude.{◌≡◌, ◌+◌, ◌≤◌, length, sum_by};
+ghost use Rattle.std.specs.List.{list_any};
+ghost use Rattle.adr_value.specs.Same.{same_type as the_same_type};
+ghost use Rattle.adr_model.specs.Edits.{distinct_types as the_distinct_types, entry_count as the_entry_count};
+
+use adr_object::{Event, Payload};
+use adr_value::PayloadType;
+
+fn same_type(a: &PayloadType, b: &PayloadType) -> bool
+    ensures { result ≡ the_same_type a.now b.now }
+{
+    a.name() == b.name()
+}
+
+fn has_type(payloads: &[Payload], kind: &PayloadType) -> bool
+    ensures { result ≡ list_any (λ q. the_same_type q.kind kind.now) payloads.now }
+{
+    payloads
+        .iter()
+        .any(|payload| same_type(&payload.kind, kind))
+}
+
+/// How many payload types a list has, each counted once.
+fn distinct_types(payloads: &[Payload]) -> usize
+    ensures value { result ≡ the_distinct_types payloads.now }
+    ensures bound { result ≤ length payloads.now }
+{
+    let mut count = 0;
+    let mut rest = payloads;
+    'rest: while let Some((first, more)) = rest.split_first() {
+        if !has_type(more, &first.kind) {
+            count += 1;
+        }
+        rest = more;
+    }
+    count
+}
+
+/// The entries of an event: its intervals, each with each of its payload types. At most 4,096 times 64.
+pub fn entry_count(event: &Event) -> usize
+    ensures value { result ≡ the_entry_count event.now }
+    ensures bound { result ≤ 262144 }
+{
+    let mut count = 0;
+    let mut rest = event.intervals.as_slice();
+    'rest: while let Some((first, more)) = rest.split_first() {
+        count += distinct_types(first.payloads.as_slice());
+        rest = more;
+    }
+    count
+}

@@ -1,0 +1,227 @@
+//! The events in order of creation, and what is counted of them.
+ghost use Rattle.std.specs.Prelude.{◌≡◌, ◌+◌, ◌++◌, ◌∷◌, [], ◌<◌, ◌≤◌, ℕ, List, eqb, nat_eq, not, filter, map, length, slice_get, sum_by, IsSome, None, OnOk, OnErr, IfErr};
+ghost use Rattle.std.specs.List.{IsDistinct, list_any};
+ghost use Rattle.std.specs.Option.{option_copied, option_map};
+ghost use Rattle.std.specs.Str.{bytes_eq};
+ghost use Rattle.indexmap.specs.IndexMap.{get, spare};
+ghost use Rattle.adr_value.specs.Copy.{IsCopyOf};
+ghost use Rattle.adr_model.specs.Edits.{put_at, entry_count};
+ghost use Rattle.adr_store.specs.Numbers.{all_entries, by_number as numbered, times};
+ghost use Rattle.adr_store.specs.Table.{find_by};
+
+use crate::kept::Kept;
+use crate::table::Table;
+use crate::tally::Tally;
+use crate::writes::Writes;
+use adr_object::{Event, Id};
+use adr_value::{Refusal, TryClone};
+use std::alloc::Global;
+use std::marker::Model;
+
+/// The events in order of creation, each with the number of the edit that last wrote it.
+pub(crate) struct Events {
+    table: Table<Kept>,
+    named: Tally,
+    entries: usize,
+    writes: Writes,
+    alloc: Global,
+}
+
+// A function of its own, so that callers that let a value go need not look into it.
+impl Drop for Events {
+    fn drop(self) {
+        let Events {
+            table,
+            named,
+            entries: _,
+            writes,
+            alloc: _,
+        } = self;
+        drop(table);
+        drop(named);
+        drop(writes);
+    }
+}
+
+impl Model for Events {
+    ghost use Rattle.std.specs.Prelude.{List};
+    ghost use Rattle.adr_model.specs.declared.written.Written.{Written};
+    ghost use Rattle.adr_store.specs.Numbers.{IsCounted};
+
+    ghost Value = { List Written };
+
+    ghost view = { λ e. e.table.items };
+
+    ghost invariant = { λ e. IsCounted e.table.items e.named.counts e.entries e.writes.events };
+}
+
+impl Events {
+    pub(crate) fn new(alloc: Global) -> Events
+        ensures { result ≡ [] }
+    {
+        Events {
+            table: Table::new(alloc),
+            named: Tally::new(alloc),
+            entries: 0,
+            writes: Writes::new(alloc),
+            alloc,
+        }
+    }
+
+    pub(crate) fn len(&self) -> usize
+        ensures { result ≡ length self.now }
+    {
+        self.table.len()
+    }
+
+    pub(crate) fn get(&self, id: &Id) -> Option<&Event>
+        ensures { option_copied result ≡ option_map (λ w. w.event) (find_by (λ w. w.event.id) self.now id.now) }
+    {
+        match self.table.get(id.text()) {
+            Some(kept) => Some(kept.event()),
+            None => None,
+        }
+    }
+
+    /// The number of the edit that last wrote the event with the id.
+    pub(crate) fn written(&self, id: &Id) -> Option<u64>
+        ensures { result ≡ option_map (λ w. w.written) (find_by (λ w. w.event.id) self.now id.now) }
+    {
+        match self.table.get(id.text()) {
+            Some(kept) => Some(kept.written()),
+            None => None,
+        }
+    }
+
+    pub(crate) fn at(&self, place: usize) -> Option<&Event>
+        ensures { option_copied result ≡ option_map (λ w. w.event) (slice_get self.now place) }
+    {
+        match self.table.at(place) {
+            Some(kept) => Some(kept.event()),
+            None => None,
+        }
+    }
+
+    /// The event that the edit of that number wrote last.
+    pub(crate) fn by_number(&self, number: u64) -> Option<&Event>
+        ensures { option_copied result ≡ option_map (λ w. w.event) (numbered self.now number) }
+    {
+        self.writes.get(number)
+    }
+
+    /// Whether an event names the program.
+    pub(crate) fn is_named(&self, id: &Id) -> bool
+        ensures { result ≡ list_any (λ w. bytes_eq id.now w.event.program_id) self.now }
+    {
+        0 < self.named.count(id.text())
+    }
+
+    /// The entries of all events but the one with the id.
+    pub(crate) fn entries_beside(&self, id: &Id) -> usize
+        ensures value { result ≡ sum_by (λ w. entry_count w.event) (filter (λ w. not (bytes_eq id.now w.event.id)) self.now) }
+        ensures bound { result ≤ 65536 }
+    {
+        match self.table.get(id.text()) {
+            Some(kept) => self.entries - kept.entries(),
+            None => self.entries,
+        }
+    }
+
+    /// Adds the event last.
+    pub(crate) fn push(&mut self, event: Event, written: u64) -> Result<(), Refusal>
+        requires new { find_by (λ w. w.event.id) self.old event.id ≡ None }
+        requires fresh { numbered self.old written ≡ None }
+        requires few { length self.old < 4096 }
+        requires entries { all_entries self.old + entry_count event ≤ 65536 }
+        ensures ok { OnOk result (self.new ≡ self.old ++ record { event = event; written = written } ∷ []) }
+        ensures err { OnErr result (self.new ≡ self.old) }
+        ensures refusal { IfErr result (λ refusal. refusal ≡ Refusal.NoMemory) }
+    {
+        let kept = Kept::new(self.alloc, event, written)?;
+        self.push_kept(kept)
+    }
+
+    fn push_kept(&mut self, kept: Kept) -> Result<(), Refusal>
+        requires new { find_by (λ w. w.event.id) self.old kept.event.id ≡ None }
+        requires fresh { numbered self.old kept.written ≡ None }
+        requires few { length self.old < 4096 }
+        requires entries { all_entries self.old + entry_count kept.event ≤ 65536 }
+        ensures ok { OnOk result (self.new ≡ self.old ++ kept ∷ []) }
+        ensures err { OnErr result (self.new ≡ self.old) }
+        ensures refusal { IfErr result (λ refusal. refusal ≡ Refusal.NoMemory) }
+    {
+        let key = kept.event().id.text().to_string(self.alloc)?;
+        let program = kept.event().program_id.text().to_string(self.alloc)?;
+        let shared = kept.share()?;
+        self.table.reserve()?;
+        make_room(&mut self.named, &mut self.writes)?;
+        self.named.add(program);
+        self.entries += kept.entries();
+        self.writes.add(kept.written(), shared);
+        self.table.push(key, kept);
+        Ok(())
+    }
+
+    /// The same events, which are shared.
+    pub(crate) fn copy(&self) -> Result<Events, Refusal>
+        requires { IsDistinct eqb (map (λ w. w.written) self.now) }
+        ensures { IsCopyOf result self.now }
+    {
+        let mut copy = Events::new(self.alloc);
+        for place in 0..self.table.len() {
+            let Some(kept) = self.table.at(place) else {
+                unreachable!();
+            };
+            copy.push_kept(kept.try_clone()?)?;
+        }
+        Ok(copy)
+    }
+
+    /// Puts the event in the place of the one with its id.
+    pub(crate) fn replace(&mut self, event: Event, written: u64) -> Result<(), Refusal>
+        requires there { IsSome (find_by (λ w. w.event.id) self.old event.id) }
+        requires fresh { numbered self.old written ≡ None }
+        requires apart { IsDistinct eqb (map (λ w. w.written) self.old) }
+        requires entries { sum_by (λ w. entry_count w.event) (filter (λ w. not (bytes_eq event.id w.event.id)) self.old) + entry_count event ≤ 65536 }
+        ensures ok { OnOk result (self.new ≡ put_at (λ w. bytes_eq event.id w.event.id) (record { event = event; written = written }) self.old) }
+        ensures err { OnErr result (self.new ≡ self.old) }
+        ensures refusal { IfErr result (λ refusal. refusal ≡ Refusal.NoMemory) }
+    {
+        let program = event.program_id.text().to_string(self.alloc)?;
+        let kept = Kept::new(self.alloc, event, written)?;
+        let shared = kept.share()?;
+        make_room(&mut self.named, &mut self.writes)?;
+        let entries = kept.entries();
+        let old = self.table.replace(kept);
+        self.named.take(old.event().program_id.text());
+        self.named.add(program);
+        self.entries = self.entries - old.entries() + entries;
+        self.writes.take(old.written());
+        self.writes.add(written, shared);
+        Ok(())
+    }
+
+    /// Takes out the event with the id, and closes the gap.
+    pub(crate) fn remove(&mut self, id: &Id)
+        requires apart { IsDistinct eqb (map (λ w. w.written) self.old) }
+        ensures { self.new ≡ filter (λ w. not (bytes_eq id.now w.event.id)) self.old }
+    {
+        if let Some(old) = self.table.take(id.text()) {
+            self.named.take(old.event().program_id.text());
+            self.entries -= old.entries();
+            self.writes.take(old.written());
+        }
+    }
+}
+
+/// Makes room for one more name of a program and one more write.
+fn make_room(named: &mut Tally, writes: &mut Writes) -> Result<(), Refusal>
+    ensures counts { (id : List ℕ) → times named.new.counts id ≡ times named.old.counts id }
+    ensures writes { (n : ℕ) → get nat_eq writes.new.events n ≡ get nat_eq writes.old.events n }
+    ensures named_room { OnOk result (0 < spare named.new.counts) }
+    ensures writes_room { OnOk result (0 < spare writes.new.events) }
+    ensures refusal { IfErr result (λ refusal. refusal ≡ Refusal.NoMemory) }
+{
+    named.reserve()?;
+    writes.reserve()
+}
