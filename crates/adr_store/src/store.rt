@@ -354,8 +354,8 @@ impl Store {
         }
     }
 
-    /// Makes an edit that the definition accepts. `NoMemory` leaves all as it was. Cost: the edit's size, and for a delete
-    /// the objects of the kind that come after.
+    /// Makes an edit that the definition accepts, of objects that such edits left. `NoMemory` leaves all as it was. Cost:
+    /// the edit's size, and for a delete the objects of the kind that come after.
     pub fn make(&mut self, edit: Edit) -> Result<(), Refusal>
         requires accepted { IsOk (step self.old edit) }
         requires whole { IsWhole self.old }
@@ -373,7 +373,8 @@ impl Store {
         }
     }
 
-    /// The same objects, which are shared. `NoMemory` where there is no room for the tables.
+    /// The same objects, which are shared, where edits left them, so that no two events have one number. `NoMemory` where
+    /// there is no room for the tables.
     pub fn copy(&self) -> Result<Store, Refusal>
         requires { IsDistinct eqb (map (λ w. w.written) self.now.events) }
         ensures { IsCopyOf result self.now }
