@@ -2,9 +2,8 @@
 #![tactic(auto)]
 
 use adr_start::start_program;
-use std::io;
 use std::process::ExitCode;
 
-fn main(rt: HostRuntime) -> io::Result<ExitCode> {
+fn main(rt: HostRuntime) -> ExitCode {
     start_program(&rt)
 }

@@ -23,7 +23,7 @@ fn all_time() -> Span {
 }
 
 /// The segments of a build, and its comparisons.
-pub(crate) fn measured(alloc: Global, entries: &[Entry]) -> io::Result<(usize, u64)>
+pub(crate) fn measured(alloc: Global, entries: &[Entry]) -> io::Result<(usize, u128)>
     requires { length entries.now ≤ 65536 }
 {
     let mut meter = Meter::new();

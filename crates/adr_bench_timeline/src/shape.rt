@@ -58,6 +58,7 @@ fn span_of(shape: Shape, place: u32, count: u32) -> Span {
 fn entry_of(shape: Shape, place: u32, count: u32) -> Entry {
     let rank = Rank {
         priority: u64::from(u32::MAX - place),
+        late: 0,
         written: 1,
         place,
     };

@@ -1,22 +1,80 @@
--- The edits of all batches, as the journal grows.
-use Rattle.std.proofs.Common.{◌≡◌, List, [], ◌∷◌, ◌++◌, Ok, append_assoc, refl, ap, subst, ◌∙◌}
+-- The edits of all batches, as the journal grows and as it is condensed.
+use Rattle.std.proofs.Common.{◌≡◌, ◌+◌, ◌≤◌, List, [], ◌∷◌, ◌++◌, length, Result, Ok, Err, append_assoc, length-append, refl, ap, sym, subst, ◌∙◌, arith}
+use Rattle.std.specs.Result.{result_unwrap_or}
+use Rattle.std.proofs.lemmas.Grind.{flat_map-append}
+use Rattle.std.proofs.lemmas.List.{append-nil}
+use Rattle.std.proofs.lemmas.List.Concat.{flat_map-cons}
+use Rattle.adr_value.specs.declared.limits.TheConstants.{MOST_VERSION}
+use Rattle.adr_value.specs.declared.refusal.Refusal.{Refusal}
 use Rattle.adr_object.specs.declared.object.Edit.{Edit}
-use Rattle.adr_model.specs.Book.{Book}
-use Rattle.adr_model.specs.Edits.{after, step}
-use Rattle.adr_model.proofs.EditLemmas.{after_push}
+use Rattle.adr_model.specs.Book.{Book, empty}
+use Rattle.adr_model.specs.Edits.{after_from, step}
+use Rattle.adr_model.proofs.EditLemmas.{accepted_edits_count, after_from_push, journals_go_on}
 use Rattle.adr_repair.specs.Whole.{IsWhole}
-use Rattle.adr_repair.proofs.Whole.{after_whole}
-use Rattle.adr_book.specs.Ledger.{joined}
+use Rattle.adr_repair.proofs.Whole.{after_whole, step_whole}
+use Rattle.adr_book.specs.Ledger.{Leads, closed_edits, joined}
 
-pub left_whole : (closed : List (List Edit)) (pending : List Edit) (book : Book) → after (joined closed pending) ≡ book → IsWhole book
-left_whole closed pending book h = subst (λ b. IsWhole b) h (after_whole (joined closed pending))
+-- what edits leave of a whole book is whole
+whole_after : (edits : List Edit) (book : Book) → IsWhole book → IsWhole (after_from book edits)
+unfolding after_from
+whole_after [] book w = w
+whole_after (x ∷ xs) book w = whole_after xs (result_unwrap_or (step book x) book) (by (step book x) refl)
+  where
+    by : (r : Result Book Refusal) → step book x ≡ r → IsWhole (result_unwrap_or r book)
+    by (Ok new) e = step_whole book new x w e
+    by (Err f) e = w
 
-pub left_by_one_more : (closed more : List (List Edit)) (pending now : List Edit) (x y : Edit) (old new : Book) → after (joined closed pending) ≡ old → step old x ≡ Ok new
-    → more ≡ closed → now ≡ pending ++ y ∷ [] → y ≡ x → after (joined more now) ≡ new
-left_by_one_more closed more pending now x y old new left made same also copied =
-    let apart : joined closed (pending ++ x ∷ []) ≡ joined closed pending ++ x ∷ [] = rw append_assoc refl in
-    ap (λ cs. after (joined cs now)) same
-    ∙ ap (λ ps. after (joined closed ps)) also
-    ∙ ap (λ z. after (joined closed (pending ++ z ∷ []))) copied
-    ∙ ap after apart
-    ∙ after_push (joined closed pending) x old new left made
+-- no version is further above the first than there are edits
+within : (edits : List Edit) (book : Book) → (after_from book edits).version ≤ book.version + length edits
+unfolding after_from
+within [] book = omega arith
+within (x ∷ xs) book = let next = one (step book x) refl in let rest = within xs (result_unwrap_or (step book x) book) in omega (arith, next, rest)
+  where
+    one : (r : Result Book Refusal) → step book x ≡ r → (result_unwrap_or r book).version ≤ book.version + 1
+    one (Ok new) e = let more = (accepted_edits_count MOST_VERSION book new x e).0 in omega (arith, more)
+    one (Err f) e = omega arith
+
+-- once the open batch is closed too, the closed ones have all edits
+pub all_closed : (closed : List (List Edit)) (pending : List Edit) → closed_edits (closed ++ pending ∷ []) ≡ joined closed pending
+all_closed closed pending = simp (flat_map-append, flat_map-cons, append-nil)
+
+-- no edits lead from the empty book to itself
+pub from_nothing : Leads empty [] empty
+unfolding after_from
+from_nothing = record { whole = after_whole []; leads = refl; counted = refl }
+
+module _ (base : Book) where
+  pub led_whole : (edits : List Edit) (objects : Book) → Leads base edits objects → IsWhole objects
+  led_whole edits objects l = subst (λ b. IsWhole b) l.leads (whole_after edits base l.whole)
+
+  -- an accepted edit leads on
+  pub led_on : (edits : List Edit) (x : Edit) (old new : Book) → Leads base edits old → step old x ≡ Ok new → Leads base (edits ++ x ∷ []) new
+  led_on edits x old new l s =
+      let more = (accepted_edits_count MOST_VERSION old new x s).0 in
+      record {
+        whole = l.whole;
+        leads = after_from_push base edits x old new l.leads s;
+        counted = omega (arith, more, l.counted, length-append edits (x ∷ []));
+      }
+
+  pub led_by_one_more : (closed : List (List Edit)) (pending : List Edit) (x : Edit) (old new : Book) → Leads base (joined closed pending) old → step old x ≡ Ok new
+      → Leads base (joined closed (pending ++ x ∷ [])) new
+  led_by_one_more closed pending x old new l s =
+      let apart : joined closed pending ++ x ∷ [] ≡ joined closed (pending ++ x ∷ []) = append_assoc (closed_edits closed) pending (x ∷ []) in
+      subst (λ edits. Leads base edits new) apart (led_on (joined closed pending) x old new l s)
+
+  -- from what the closed batches lead to, the open one leads to the same
+  pub led_from : (closed : List (List Edit)) (pending : List Edit) (objects at : Book) → Leads base (joined closed pending) objects → at ≡ after_from base (closed_edits closed)
+      → Leads at pending objects
+  led_from closed pending objects at l e =
+      let goes_on : after_from at pending ≡ objects =
+      ap (λ b. after_from b pending) e ∙ sym (journals_go_on base (closed_edits closed) pending) ∙ l.leads in
+      let same = ap (λ (b : Book). b.version) e in
+      let above = within (closed_edits closed) base in
+      let below = within pending at in
+      let last = ap (λ (b : Book). b.version) goes_on in
+      record {
+        whole = subst (λ b. IsWhole b) (sym e) (whole_after (closed_edits closed) base l.whole);
+        leads = goes_on;
+        counted = omega (arith, same, above, below, last, l.counted, length-append (closed_edits closed) pending);
+      }

@@ -1,2 +1,3 @@
 pub mod Verdict
 pub mod Joined
+pub mod Bounds

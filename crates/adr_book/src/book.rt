@@ -1,27 +1,29 @@
 //! The book.
-ghost use Rattle.std.specs.Prelude.{◌≡◌, ◌++◌, ◌∷◌, [], ◌≤◌, slice_get, Ok, IsOk, OnOk, OnErr, IfOk, IfErr};
+ghost use Rattle.std.specs.Prelude.{◌≡◌, ◌+◌, ◌++◌, ◌∷◌, [], ◌≤◌, length, slice_get, Ok, IsOk, OnOk, OnErr, IfOk, IfErr};
 ghost use Rattle.std.specs.Option.{option_copied, option_map};
 ghost use Rattle.adr_value.specs.Answer.{Answers, result_map};
 ghost use Rattle.adr_value.specs.Copy.{IsCopyOf};
 ghost use Rattle.adr_model.specs.Book.{empty, program_by, ven_by, resource_by, event_by};
-ghost use Rattle.adr_model.specs.Edits.{after, count_of, made, step};
-ghost use Rattle.adr_repair.specs.Whole.{IsWhole};
-ghost use Rattle.adr_book.specs.Ledger.{journal_of};
+ghost use Rattle.adr_model.specs.Edits.{after_from, count_of, full_at, made, step_to};
+ghost use Rattle.adr_book.specs.Ledger.{journal_of, sealed_of};
 ghost use Rattle.adr_store.specs.Numbers.{by_number};
 
+use crate::base::Base;
 use crate::journal::Journal;
 use crate::judging::judge_on;
 use adr_object::{Edit, Event, Id, Kind, Program, Resource, Ven};
 use adr_store::{Shared, Store};
 use adr_value::Refusal;
+use adr_value::limits::MOST_VERSION;
 use std::alloc::Global;
 use std::marker::Model;
 
-/// The objects that the accepted edits left, and those edits in batches.
+/// The objects that the accepted edits left, and those edits in batches, from the base on.
 ///
 /// The objects of each kind stand in order of creation: a change keeps an object's place, a delete closes the
 /// gap, and a new object goes last. Copies of a book share its objects and edits.
 pub struct Book {
+    base: Base,
     objects: Store,
     journal: Journal,
     alloc: Global,
@@ -31,47 +33,49 @@ pub struct Book {
 impl Drop for Book {
     fn drop(self) {
         let Book {
+            base,
             objects,
             journal,
             alloc: _,
         } = self;
+        drop(base);
         drop(objects);
         drop(journal);
     }
 }
 
 impl Model for Book {
-    ghost use Rattle.std.specs.Prelude.{◌≡◌};
-    ghost use Rattle.adr_model.specs.Edits.{after};
-    ghost use Rattle.adr_book.specs.Ledger.{Ledger, joined};
+    ghost use Rattle.adr_book.specs.Ledger.{Leads, Ledger, joined};
 
     ghost Value = { Ledger };
 
-    ghost view = { λ b. record { objects = b.objects; closed = b.journal.closed; pending = b.journal.pending } };
+    ghost view = { λ b. record { base = b.base; objects = b.objects; closed = b.journal.closed; pending = b.journal.pending } };
 
-    // The objects are what the journal's edits leave.
-    ghost invariant = { λ b. after (joined b.journal.closed b.journal.pending) ≡ b.objects };
+    // The journal's edits lead from the base to the objects.
+    ghost invariant = { λ b. Leads b.base (joined b.journal.closed b.journal.pending) b.objects };
 }
 
 impl Book {
     /// The book before any edit.
-    #[tactic(auto, unfolding(adr_model::specs::Edits::after))]
     pub fn new(alloc: Global) -> Book
+        ensures base { result.base ≡ empty }
         ensures objects { result.objects ≡ empty }
         ensures closed { result.closed ≡ [] }
         ensures pending { result.pending ≡ [] }
     {
         Book {
+            base: Base::new(alloc),
             objects: Store::new(alloc),
             journal: Journal::new(alloc),
             alloc,
         }
     }
 
-    /// The number of accepted edits.
+    /// The number of accepted edits, those before the base too.
     pub fn version(&self) -> u64
         ensures value { result ≡ self.now.objects.version }
-        ensures bound { result ≤ 1000000 }
+        ensures counted { result ≡ self.now.base.version + length (journal_of self.now) }
+        ensures bound { result ≤ MOST_VERSION }
     {
         self.objects.version()
     }
@@ -153,11 +157,18 @@ impl Book {
         self.objects.event_by(written)
     }
 
-    /// The accepted edits, which leave the book's objects.
+    /// What the journal starts from.
+    pub fn base(&self) -> &Base
+        ensures { result.now ≡ self.now.base }
+    {
+        &self.base
+    }
+
+    /// The accepted edits since the base, which lead to the book's objects.
     pub fn journal(&self) -> &Journal
         ensures closed { result.now.closed ≡ self.now.closed }
         ensures pending { result.now.pending ≡ self.now.pending }
-        ensures leaves { after (journal_of self.now) ≡ self.now.objects }
+        ensures leads { after_from self.now.base (journal_of self.now) ≡ self.now.objects }
     {
         &self.journal
     }
@@ -165,51 +176,75 @@ impl Book {
     /// Makes an edit that `judge` accepts, and answers the version. `NoMemory` leaves all as it was. Cost: the
     /// edit's size, and for a delete the objects of the kind that come after.
     pub fn commit(&mut self, edit: Edit) -> Result<u64, Refusal>
-        requires { IsOk (step self.old.objects edit) }
-        ensures objects { OnOk result (step self.old.objects edit ≡ Ok self.new.objects) }
+        requires { IsOk (step_to (full_at self.old.base.version) self.old.objects edit) }
+        ensures objects { OnOk result (step_to (full_at self.old.base.version) self.old.objects edit ≡ Ok self.new.objects) }
         ensures pending { OnOk result (self.new.pending ≡ self.old.pending ++ edit ∷ []) }
         ensures closed { self.new.closed ≡ self.old.closed }
+        ensures base { self.new.base ≡ self.old.base }
         ensures version { IfOk result (λ version. version ≡ self.new.objects.version) }
         ensures unchanged { OnErr result (self.new ≡ self.old) }
         ensures refusal { IfErr result (λ refusal. refusal ≡ Refusal.NoMemory) }
     {
         let shared = Shared::new(self.alloc, edit)?;
-        let copy = shared.get().copy()?;
-        self.record(copy, shared)
+        self.record(shared)
     }
 
-    fn record(&mut self, edit: Edit, copy: Shared<Edit>) -> Result<u64, Refusal>
-        requires accepted { IsOk (step self.old.objects edit) }
-        requires copied { copy ≡ edit }
-        ensures objects { OnOk result (step self.old.objects edit ≡ Ok self.new.objects) }
+    /// Makes the edit, which the journal shares.
+    fn record(&mut self, edit: Shared<Edit>) -> Result<u64, Refusal>
+        requires { IsOk (step_to (full_at self.old.base.version) self.old.objects edit) }
+        ensures objects { OnOk result (step_to (full_at self.old.base.version) self.old.objects edit ≡ Ok self.new.objects) }
         ensures pending { OnOk result (self.new.pending ≡ self.old.pending ++ edit ∷ []) }
         ensures closed { self.new.closed ≡ self.old.closed }
+        ensures base { self.new.base ≡ self.old.base }
         ensures version { IfOk result (λ version. version ≡ self.new.objects.version) }
         ensures unchanged { OnErr result (self.new ≡ self.old) }
         ensures refusal { IfErr result (λ refusal. refusal ≡ Refusal.NoMemory) }
     {
         self.journal.reserve()?;
-        self.objects.make(edit)?;
-        self.journal.push(copy);
+        let copy = edit.get().copy()?;
+        self.objects.make(copy)?;
+        self.journal.push(edit);
         Ok(self.objects.version())
     }
 
     /// Closes the open batch of the journal, also an empty one. `NoMemory` leaves all as it was.
     pub fn seal(&mut self) -> Result<(), Refusal>
+        ensures base { self.new.base ≡ self.old.base }
         ensures objects { self.new.objects ≡ self.old.objects }
         ensures closed { OnOk result (self.new.closed ≡ self.old.closed ++ self.old.pending ∷ []) }
         ensures pending { OnOk result (self.new.pending ≡ []) }
+        ensures sealed { OnOk result (sealed_of self.new ≡ self.new.objects) }
         ensures unchanged { OnErr result (self.new ≡ self.old) }
         ensures refusal { IfErr result (λ refusal. refusal ≡ Refusal.NoMemory) }
     {
         self.journal.seal(self.alloc)
     }
 
-    /// A book equal to this one, which shares its objects and edits.
+    /// Makes the objects of `at` the base, lets the closed batches go and answers the base's version. `at` has the
+    /// objects that the base and the closed batches lead to, as a copy made when the last of them was closed.
+    /// `NoMemory` leaves all as it was. Cost: a copy of the tables of `at`.
+    pub fn condense(&mut self, at: &Book) -> Result<u64, Refusal>
+        requires { at.now.objects ≡ sealed_of self.old }
+        ensures base { OnOk result (self.new.base ≡ at.now.objects) }
+        ensures closed { OnOk result (self.new.closed ≡ []) }
+        ensures pending { self.new.pending ≡ self.old.pending }
+        ensures objects { self.new.objects ≡ self.old.objects }
+        ensures version { IfOk result (λ version. version ≡ at.now.objects.version) }
+        ensures unchanged { OnErr result (self.new ≡ self.old) }
+        ensures refusal { IfErr result (λ refusal. refusal ≡ Refusal.NoMemory) }
+    {
+        let base = Base::of(self.alloc, at.objects.copy()?)?;
+        self.base = base;
+        self.journal.condense(self.alloc);
+        Ok(self.base.version())
+    }
+
+    /// A book equal to this one, which shares its base, objects and edits.
     pub fn copy(&self) -> Result<Book, Refusal>
         ensures { IsCopyOf result self.now }
     {
         Ok(Book {
+            base: self.base.copy()?,
             objects: self.objects.copy()?,
             journal: self.journal.copy()?,
             alloc: self.alloc,
@@ -218,11 +253,11 @@ impl Book {
 }
 
 /// Whether the book accepts the edit, or the least of its faults: of a written event's layout `NoStart`,
-/// `AfterEndless` or `TimeRange`; `Exists`, `NotThere`; `NoProgram`, `NoVen`; `InUse`; `Full` where the edits, the
-/// objects of a created kind or the entries are at their limit. `NoMemory` where there is no room to lay out the
-/// event. Cost: the edit's size.
+/// `AfterEndless` or `TimeRange`; `Exists`, `NotThere`; `NoProgram`, `NoVen`; `InUse`; `Full` where the edits since the
+/// base, the version, the objects of a created kind or the entries are at their limit. `NoMemory` where there is no room
+/// to lay out the event. Cost: the edit's size.
 pub fn judge(book: &Book, edit: &Edit) -> Result<(), Refusal>
-    ensures { Answers (result_map (λ _. made book.now.objects edit.now) result) (step book.now.objects edit.now) }
+    ensures { Answers (result_map (λ _. made book.now.objects edit.now) result) (step_to (full_at book.now.base.version) book.now.objects edit.now) }
 {
-    judge_on(book.alloc, &book.objects, edit)
+    judge_on(book.alloc, &book.objects, book.base.full_at(), edit)
 }

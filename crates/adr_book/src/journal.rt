@@ -124,6 +124,14 @@ impl Journal {
         }
     }
 
+    /// Lets the closed batches go.
+    pub(crate) fn condense(&mut self, alloc: Global)
+        ensures closed { self.new.closed ≡ [] }
+        ensures pending { self.new.pending ≡ self.old.pending }
+    {
+        self.closed = Vec::new(alloc);
+    }
+
     /// A journal of the same batches, which shares their edits.
     pub(crate) fn copy(&self) -> Result<Journal, Refusal>
         ensures closed { IfOk result (λ copy. copy.closed ≡ self.now.closed) }

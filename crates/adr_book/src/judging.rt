@@ -1,21 +1,18 @@
 //! Whether an edit is accepted.
-ghost use Rattle.std.specs.Prelude.{◌≡◌, ◌||◌, ◌<◌, nat_le, not, is_some, List};
+ghost use Rattle.std.specs.Prelude.{◌≡◌, ◌||◌, nat_le, not, is_some, List};
 ghost use Rattle.adr_value.specs.Answer.{Answers, result_map};
 ghost use Rattle.adr_value.specs.declared.refusal.Refusal.{Refusal as Refused};
 ghost use Rattle.adr_value.specs.Faults.{Gives};
 ghost use Rattle.adr_object.specs.Object.{kind_of, id_of};
 ghost use Rattle.adr_object.specs.declared.object.Edit.TheVariants.{Create, Change, Remove};
-ghost use Rattle.adr_model.specs.Edits.{fault_if, layout_faults, reference_faults, is_full_for, is_named as the_is_named, most_edits, most_objects as the_most_objects, has_too_many_entries as the_has_too_many_entries, has_id, faults, made, step};
+ghost use Rattle.adr_model.specs.Edits.{fault_if, layout_faults, reference_faults, is_full_for, is_named as the_is_named, most_objects as the_most_objects, has_too_many_entries as the_has_too_many_entries, has_id, faults_to, made, step_to};
 
 use adr_layout::lay_out;
 use adr_object::{Edit, Id, Kind, Object};
 use adr_store::{Store, entry_count};
+use adr_value::limits::{MOST_ENTRIES, MOST_EVENTS, MOST_PROGRAMS, MOST_RESOURCES, MOST_VENS};
 use adr_value::{Refusal, both};
 use std::alloc::Global;
-
-const MOST_EDITS: u64 = 1_000_000;
-
-const MOST_ENTRIES: usize = 65_536;
 
 fn fault_if(test: bool, refusal: Refusal) -> Result<(), Refusal>
     ensures { Gives result (fault_if test refusal) tt }
@@ -82,8 +79,10 @@ fn most_objects(kind: Kind) -> usize
     ensures { result ≡ the_most_objects kind }
 {
     match kind {
-        Kind::Program => 1024,
-        Kind::Event | Kind::Ven | Kind::Resource => 4096,
+        Kind::Program => MOST_PROGRAMS,
+        Kind::Event => MOST_EVENTS,
+        Kind::Ven => MOST_VENS,
+        Kind::Resource => MOST_RESOURCES,
     }
 }
 
@@ -106,18 +105,18 @@ fn is_full_for_new(objects: &Store, object: &Object) -> bool
         || has_too_many_entries(objects, object)
 }
 
-/// Whether no edit or no new object of that kind has room.
-fn has_no_room_for_new(objects: &Store, object: &Object) -> bool
-    ensures { result ≡ (nat_le most_edits objects.now.version || is_full_for objects.now (Create object.now)) }
+/// Whether no edit, as the book is full at that version, or no new object of that kind has room.
+fn has_no_room_for_new(objects: &Store, full: u64, object: &Object) -> bool
+    ensures { result ≡ (nat_le full objects.now.version || is_full_for objects.now (Create object.now)) }
 {
-    MOST_EDITS <= objects.version() || is_full_for_new(objects, object)
+    full <= objects.version() || is_full_for_new(objects, object)
 }
 
-/// Whether no edit or no such change has room.
-fn has_no_room_for_changed(objects: &Store, object: &Object) -> bool
-    ensures { result ≡ (nat_le most_edits objects.now.version || is_full_for objects.now (Change object.now)) }
+/// Whether no edit, or no such change has room.
+fn has_no_room_for_changed(objects: &Store, full: u64, object: &Object) -> bool
+    ensures { result ≡ (nat_le full objects.now.version || is_full_for objects.now (Change object.now)) }
 {
-    MOST_EDITS <= objects.version() || has_too_many_entries(objects, object)
+    full <= objects.version() || has_too_many_entries(objects, object)
 }
 
 fn exists_fault(objects: &Store, object: &Object) -> Result<(), Refusal>
@@ -138,16 +137,19 @@ fn missing_fault(objects: &Store, object: &Object) -> Result<(), Refusal>
     absence_fault(objects, object.kind(), object.id())
 }
 
-fn creation_room_fault(objects: &Store, object: &Object) -> Result<(), Refusal>
-    ensures { Gives result (fault_if (nat_le most_edits objects.now.version || is_full_for objects.now (Create object.now)) Refusal.Full) tt }
+fn creation_room_fault(objects: &Store, full: u64, object: &Object) -> Result<(), Refusal>
+    ensures { Gives result (fault_if (nat_le full objects.now.version || is_full_for objects.now (Create object.now)) Refusal.Full) tt }
 {
-    fault_if(has_no_room_for_new(objects, object), Refusal::Full)
+    fault_if(has_no_room_for_new(objects, full, object), Refusal::Full)
 }
 
-fn change_room_fault(objects: &Store, object: &Object) -> Result<(), Refusal>
-    ensures { Gives result (fault_if (nat_le most_edits objects.now.version || is_full_for objects.now (Change object.now)) Refusal.Full) tt }
+fn change_room_fault(objects: &Store, full: u64, object: &Object) -> Result<(), Refusal>
+    ensures { Gives result (fault_if (nat_le full objects.now.version || is_full_for objects.now (Change object.now)) Refusal.Full) tt }
 {
-    fault_if(has_no_room_for_changed(objects, object), Refusal::Full)
+    fault_if(
+        has_no_room_for_changed(objects, full, object),
+        Refusal::Full,
+    )
 }
 
 fn use_fault(objects: &Store, kind: Kind, id: &Id) -> Result<(), Refusal>
@@ -156,57 +158,72 @@ fn use_fault(objects: &Store, kind: Kind, id: &Id) -> Result<(), Refusal>
     fault_if(is_named(objects, kind, id), Refusal::InUse)
 }
 
-fn removal_room_fault(objects: &Store) -> Result<(), Refusal>
-    ensures { Gives result (fault_if (nat_le most_edits objects.now.version) Refusal.Full) tt }
+fn removal_room_fault(objects: &Store, full: u64) -> Result<(), Refusal>
+    ensures { Gives result (fault_if (nat_le full objects.now.version) Refusal.Full) tt }
 {
-    fault_if(MOST_EDITS <= objects.version(), Refusal::Full)
+    fault_if(full <= objects.version(), Refusal::Full)
 }
 
-fn least_of_create(alloc: Global, objects: &Store, object: &Object) -> Result<(), Refusal>
-    ensures { Gives result (faults objects.now (Create object.now)) tt }
+fn least_of_create(
+    alloc: Global,
+    objects: &Store,
+    full: u64,
+    object: &Object,
+) -> Result<(), Refusal>
+    ensures { Gives result (faults_to full objects.now (Create object.now)) tt }
 {
     let layout = layout_fault(alloc, object);
     let id = exists_fault(objects, object);
     let reference = reference_fault(objects, object);
-    let room = creation_room_fault(objects, object);
+    let room = creation_room_fault(objects, full, object);
     whole(both(both(both(layout, id), reference), room))
 }
 
-fn least_of_change(alloc: Global, objects: &Store, object: &Object) -> Result<(), Refusal>
-    ensures { Gives result (faults objects.now (Change object.now)) tt }
+fn least_of_change(
+    alloc: Global,
+    objects: &Store,
+    full: u64,
+    object: &Object,
+) -> Result<(), Refusal>
+    ensures { Gives result (faults_to full objects.now (Change object.now)) tt }
 {
     let layout = layout_fault(alloc, object);
     let id = missing_fault(objects, object);
     let reference = reference_fault(objects, object);
-    let room = change_room_fault(objects, object);
+    let room = change_room_fault(objects, full, object);
     whole(both(both(both(layout, id), reference), room))
 }
 
-fn least_of_removal(objects: &Store, kind: Kind, id: &Id) -> Result<(), Refusal>
-    ensures { Gives result (faults objects.now (Remove kind id.now)) tt }
+fn least_of_removal(objects: &Store, full: u64, kind: Kind, id: &Id) -> Result<(), Refusal>
+    ensures { Gives result (faults_to full objects.now (Remove kind id.now)) tt }
 {
     let absence = absence_fault(objects, kind, id);
     let named = use_fault(objects, kind, id);
-    let room = removal_room_fault(objects);
+    let room = removal_room_fault(objects, full);
     whole(both(both(absence, named), room))
 }
 
 /// The least fault of the edit, by the numbers of the faults.
-fn least(alloc: Global, objects: &Store, edit: &Edit) -> Result<(), Refusal>
-    ensures { Gives result (faults objects.now edit.now) tt }
+fn least(alloc: Global, objects: &Store, full: u64, edit: &Edit) -> Result<(), Refusal>
+    ensures { Gives result (faults_to full objects.now edit.now) tt }
 {
     match edit {
-        Edit::Create(object) => least_of_create(alloc, objects, object),
-        Edit::Change(object) => least_of_change(alloc, objects, object),
-        Edit::Remove(kind, id) => least_of_removal(objects, *kind, id),
+        Edit::Create(object) => least_of_create(alloc, objects, full, object),
+        Edit::Change(object) => least_of_change(alloc, objects, full, object),
+        Edit::Remove(kind, id) => least_of_removal(objects, full, *kind, id),
     }
 }
 
-/// Whether the edit is accepted, or its least fault.
-pub(crate) fn judge_on(alloc: Global, objects: &Store, edit: &Edit) -> Result<(), Refusal>
-    ensures { Answers (result_map (λ _. made objects.now edit.now) result) (step objects.now edit.now) }
+/// Whether the edit is accepted where the book is full at that version, or its least fault.
+pub(crate) fn judge_on(
+    alloc: Global,
+    objects: &Store,
+    full: u64,
+    edit: &Edit,
+) -> Result<(), Refusal>
+    ensures { Answers (result_map (λ _. made objects.now edit.now) result) (step_to full objects.now edit.now) }
 {
-    least(alloc, objects, edit)
+    least(alloc, objects, full, edit)
 }
 
 /// The verdict of several parts, without their values.

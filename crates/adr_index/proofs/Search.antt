@@ -16,7 +16,7 @@ use Rattle.adr_index.specs.Tree.{IsByStart, any_lasts, comes_after, IsGreatest, 
 
 -- the entry at the place of `start_at`
 abbrev pub no_entry : Entry
-no_entry = record { rank = record { priority = 0; written = 0; place = 0 }; span = record { start = pos 0; end = At (pos 0) } }
+no_entry = record { rank = record { priority = 0; late = pos 0; written = 0; place = 0 }; span = record { start = pos 0; end = At (pos 0) } }
 
 -- a list round one of its places
 pub parted : (es : List Entry) (m : ℕ) → m < length es → es ≡ take m es ++ get_or es m no_entry ∷ drop (m + 1) es

@@ -38,7 +38,7 @@ IsTree (suc h) es gs =
 
 -- the start of the entry at a place
 abbrev pub start_at : List Entry → ℕ → ℤ
-start_at es i = (slice_index_or es i (record { rank = record { priority = 0; written = 0; place = 0 }; span = record { start = pos 0; end = At (pos 0) } })).span.start
+start_at es i = (slice_index_or es i (record { rank = record { priority = 0; late = pos 0; written = 0; place = 0 }; span = record { start = pos 0; end = At (pos 0) } })).span.start
 
 -- how many looks a search takes
 abbrev pub probes : ℕ → List Entry → Query → ℕ

@@ -158,7 +158,7 @@ impl Index {
 
     /// The entries that are asked for, with a tick for each look.
     fn find_counted(&self, query: &Query, meter: &mut Meter) -> Result<Vec<Entry>, AllocError>
-        requires { meter.old + most_probes self.now.entries (length self.now.entries) < 2 ^ 64 }
+        requires { meter.old + most_probes self.now.entries (length self.now.entries) < 2 ^ 128 }
         ensures found { IfOk result (λ found. found.items ≡ hits self.now.entries query.now) }
         ensures probes { meter.new ≤ meter.old + most_probes self.now.entries (length (hits self.now.entries query.now)) }
     {
@@ -221,7 +221,7 @@ impl Index {
     /// `covering`, with a tick for each look at a stored entry or a stored greatest end: with n entries of d binary
     /// digits and m answered at most 4(d + 1)(m + 1).
     pub fn covering_counted(&self, at: Moment, meter: &mut Meter) -> Result<Vec<Entry>, Refusal>
-        requires { meter.old + most_probes self.now.entries (length self.now.entries) < 2 ^ 64 }
+        requires { meter.old + most_probes self.now.entries (length self.now.entries) < 2 ^ 128 }
         ensures found { IfOk result (λ found. found.items ≡ the_covering self.now.entries at) }
         ensures probes { meter.new ≤ meter.old + most_probes self.now.entries (length (the_covering self.now.entries at)) }
         ensures refused { IfErr result (λ refusal. refusal ≡ NoMemory) }
@@ -237,7 +237,7 @@ impl Index {
         window: Span,
         meter: &mut Meter,
     ) -> Result<Vec<Entry>, Refusal>
-        requires { meter.old + most_probes self.now.entries (length self.now.entries) < 2 ^ 64 }
+        requires { meter.old + most_probes self.now.entries (length self.now.entries) < 2 ^ 128 }
         ensures found { IfOk result (λ found. found.items ≡ meeting self.now.entries window) }
         ensures probes { meter.new ≤ meter.old + most_probes self.now.entries (length (meeting self.now.entries window)) }
         ensures refused { IfErr result (λ refusal. refusal ≡ NoMemory) }

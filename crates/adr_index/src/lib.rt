@@ -7,6 +7,3 @@ mod tree;
 
 pub use adr_model::Entry;
 pub use index::Index;
-
-#[cfg(test)]
-mod tests;

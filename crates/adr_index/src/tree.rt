@@ -52,7 +52,7 @@ pub(crate) fn search(
     requires lengths { length greatest.now ≡ length entries.now }
     requires tree { IsTree levels entries.now greatest.now }
     requires order { IsByStart entries.now }
-    requires room { meter.old + probes levels entries.now query.now < 2 ^ 64 }
+    requires room { meter.old + probes levels entries.now query.now < 2 ^ 128 }
     ensures found { OnOk result (found.new.items ≡ found.old.items ++ hits entries.now query.now) }
     ensures probes { meter.new ≤ meter.old + probes levels entries.now query.now }
 {

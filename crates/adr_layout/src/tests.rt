@@ -2,6 +2,7 @@ use crate::lay_out;
 use adr_model::Placed;
 use adr_object::{Event, Id, Interval, Period};
 use adr_time::{End, Span, read_length, read_moment};
+use adr_value::limits::MOST_INTERVALS;
 use adr_value::{BoundedVec, Refusal};
 use std::alloc::Global;
 use std::test::Fail;
@@ -39,7 +40,10 @@ fn period(text: &str) -> Result<Option<Period>, Refusal> {
     }))
 }
 
-fn intervals(alloc: Global, periods: &str) -> Result<BoundedVec<Interval, 4096>, Refusal> {
+fn intervals(
+    alloc: Global,
+    periods: &str,
+) -> Result<BoundedVec<Interval, MOST_INTERVALS>, Refusal> {
     let mut intervals = Vec::new(alloc);
     for text in periods.split(", ") {
         intervals.push(Interval {
@@ -48,7 +52,7 @@ fn intervals(alloc: Global, periods: &str) -> Result<BoundedVec<Interval, 4096>,
             payloads: BoundedVec::new(alloc),
         })?;
     }
-    if intervals.len() > 4096 {
+    if intervals.len() > MOST_INTERVALS {
         return Err(Refusal::TooMany);
     }
     Ok(BoundedVec::from_vec(intervals))

@@ -11,9 +11,10 @@ use Rattle.adr_time.specs.declared.span.Span.{Span}
 use Rattle.adr_model.specs.declared.entry.Entry.{Entry}
 use Rattle.adr_model.specs.declared.timeline.Winner.{Winner}
 use Rattle.adr_model.specs.Answer.{IsUntil, bounds, changes, earlier_of, earliest, end_instants, is_change, same_winner, until}
-use Rattle.adr_model.specs.Governor.{candidates, entries_for, first_of, governs, winner_at, winner_of}
+use Rattle.adr_model.specs.Governor.{first_of, ranked_entries, winner_at, winner_of}
 use Rattle.adr_model.specs.Laws.{UntilIsTheNextChange}
 use Rattle.std.specs.Option.{option_map}
+use Rattle.adr_model.proofs.Ranked.{governs_winners}
 
 -- ---- where nothing starts or ends, nothing changes
 
@@ -218,5 +219,7 @@ module _ (es : List Entry) (t : ℤ) where
       by Endless h = λ v le. same_before_next v le (rw h refl)
 
 pub until_is_the_next_change : UntilIsTheNextChange
-unfolding governs candidates until
-until_is_the_next_change book id kind t = next_is_until (entries_for book id kind) t
+unfolding until
+until_is_the_next_change tie book id kind t =
+    subst (λ (g : ℤ → Option Winner). IsUntil g t (until tie book id kind t)) (sym (governs_winners tie book id kind))
+    (next_is_until (ranked_entries tie book id kind) t)

@@ -1,5 +1,7 @@
 pub mod EditLemmas
 pub mod MachineLaws
+pub mod Order
+pub mod Ranked
 pub mod AnswerLaws
 pub mod QueryLaws
 pub mod Times

@@ -1,5 +1,5 @@
 -- Where the lines of a list begin, and which types are listed.
-use Rattle.std.proofs.Common.{◌≡◌, ◌⊎◌, inl, inr, ℤ, pos, ◌-ℤ◌, ◌≤ℤ◌, ◌<ℤ◌, Bool, true, false, not, ◌&&◌, ◌||◌, cond, List, [], ◌∷◌, refl, sym, ap, subst, ◌∙◌, filter, is_some, arith, ℕ, zero, suc, ◌+ℤ◌}
+use Rattle.std.proofs.Common.{◌≡◌, ◌⊎◌, inl, inr, ℤ, pos, ◌-ℤ◌, ◌≤ℤ◌, ◌<ℤ◌, Bool, true, false, not, ◌&&◌, ◌||◌, cond, List, [], ◌∷◌, refl, sym, ap, subst, ◌∙◌, filter, map, Option, is_some, arith, ℕ, zero, suc, ◌+ℤ◌}
 use Rattle.std.specs.Prelude.{unsigned_abs}
 use Rattle.std.specs.Prelude.{int_le, int_lt}
 use Rattle.std.specs.List.{AllByRecursion, list_any}
@@ -14,10 +14,16 @@ use Rattle.adr_time.specs.declared.span.End.{End}
 use Rattle.adr_time.specs.declared.span.End.TheVariants.{At, Endless}
 use Rattle.adr_time.specs.declared.span.Span.{Span}
 use Rattle.adr_model.specs.declared.entry.Entry.{Entry}
+use Rattle.adr_value.specs.declared.payload.PayloadType.{PayloadType}
+use Rattle.adr_model.specs.declared.entry.Tie.{Tie}
+use Rattle.adr_model.specs.declared.timeline.Winner.{Winner}
+use Rattle.adr_model.specs.Book.{Book}
+use Rattle.adr_model.specs.Rank.{ranked}
+use Rattle.adr_model.proofs.Ranked.{bounds_ranked, governs_winners, governs_wins}
 use Rattle.adr_model.specs.Answer.{IsUntil, at, bounds, same_winner, shown, state_text, until}
-use Rattle.adr_model.specs.Governor.{candidates, entries_for, first_of, governs, winner_at, winner_of}
+use Rattle.adr_model.specs.Governor.{entries_for, first_of, governs, ranked_entries, winner_at, winner_of}
 use Rattle.adr_model.specs.Laws.{IsAscending, SegmentsAreApart, SegmentsAreInOrder, SegmentsBeginAtChanges, SegmentsCoverAll, SegmentsShowOne, RollTellsEach, RollTellsWhatAtTells, TypesGovernSometime}
-use Rattle.adr_model.specs.Queries.{beginnings, end_within, in_order, put_in_order, roll}
+use Rattle.adr_model.specs.Queries.{beginnings, begins, end_within, in_order, is_governed, put_in_order, roll}
 use Rattle.adr_model.proofs.AnswerLaws.{next, next_is_until, same_before_next, same_from_winner, winner_from_same, winner_same}
 
 -- ---- lists in order
@@ -118,7 +124,7 @@ ascending-filter p (x ∷ xs) a = by (p x) (ascending-filter p xs a.1)
 
 pub segments_are_in_order : SegmentsAreInOrder
 unfolding beginnings
-segments_are_in_order book id kind from to = ascending-filter _ (in_order int_cmp (from ∷ bounds (entries_for book id kind))) (ascending-in_order (from ∷ bounds (entries_for book id kind)))
+segments_are_in_order tie book id kind from to = ascending-filter _ (in_order int_cmp (from ∷ bounds (entries_for book id kind))) (ascending-in_order (from ∷ bounds (entries_for book id kind)))
 
 -- ---- where a segment begins
 
@@ -172,9 +178,31 @@ begin_at_changes es from to u =
     ∙ kept_if (passes es from to u) (int_eq u from || list_any (int_eq u) (bounds es))
     (passes_there es from u (int_le from u) (int_lt u to) (is_some (winner_at es u)))
 
+-- where the lines of a list begin, by a governor and the instants that are looked at
+abbrev starts_by : (ℤ → Option Winner) → List ℤ → ℤ → ℤ → List ℤ
+starts_by g bs from to =
+    filter (λ u. int_le from u && (int_lt u to && (is_some (g u) && (int_eq u from || not (same_winner (g (u -ℤ pos 1)) (g u))))))
+    (in_order int_cmp (from ∷ bs))
+
+begin_by : (tie : Tie) (book : Book) (id : List ℕ) (kind : PayloadType) (from to : ℤ)
+    → beginnings tie book id kind from to
+    ≡ starts_by (winner_at (ranked_entries tie book id kind)) (bounds (ranked_entries tie book id kind)) from to
+unfolding beginnings
+begin_by tie book id kind from to =
+    ap (λ g. starts_by g (bounds (entries_for book id kind)) from to) (governs_winners tie book id kind)
+    ∙ ap (λ bs. starts_by (winner_at (ranked_entries tie book id kind)) bs from to) (sym (bounds_ranked tie (entries_for book id kind)))
+
+passes_by : (tie : Tie) (book : Book) (id : List ℕ) (kind : PayloadType) (from to u : ℤ)
+    → (int_le from u && (int_lt u to && begins tie book id kind from u)) ≡ passes (ranked_entries tie book id kind) from to u
+passes_by tie book id kind from to u =
+    ap (λ (g : ℤ → Option Winner). int_le from u && (int_lt u to && (is_some (g u) && (int_eq u from || not (same_winner (g (u -ℤ pos 1)) (g u))))))
+    (governs_winners tie book id kind)
+
 pub segments_begin_at_changes : SegmentsBeginAtChanges
-unfolding beginnings governs candidates
-segments_begin_at_changes book id kind from to u = begin_at_changes (entries_for book id kind) from to u
+segments_begin_at_changes tie book id kind from to u =
+    ap (λ (l : List ℤ). list_any (int_eq u) l) (begin_by tie book id kind from to)
+    ∙ begin_at_changes (ranked_entries tie book id kind) from to u
+    ∙ sym (passes_by tie book id kind from to u)
 
 -- ---- what a segment shows
 
@@ -187,9 +215,12 @@ before_end (At t) to v h = by (int_lt t to) refl h
 before_end Endless to v h = refl
 
 pub segments_show_one : SegmentsShowOne
-unfolding governs candidates until
-segments_show_one book id kind to u v le h =
-    same_before_next (entries_for book id kind) u v le (before_end (next (entries_for book id kind) u) to v h)
+unfolding until
+segments_show_one tie book id kind to u v le h =
+    let es = ranked_entries tie book id kind in
+    governs_wins tie book id kind v
+    ∙ same_before_next es u v le (before_end (next es u) to v h)
+    ∙ sym (governs_wins tie book id kind u)
 
 -- from an instant that is governed back to where its segment begins
 abbrev Begun : List Entry → ℤ → ℤ → Type 0
@@ -295,11 +326,11 @@ cover_all es from to v le less h =
     )
 
 pub segments_cover_all : SegmentsCoverAll
-unfolding beginnings governs candidates until
-segments_cover_all book id kind from to v le less h =
-    let es = entries_for book id kind in
-    let (u, p, high, inside) = cover_all es from to v le less h in
-    (u, begin_at_changes es from to u ∙ p, high, inside)
+unfolding until
+segments_cover_all tie book id kind from to v le less h =
+    let es = ranked_entries tie book id kind in
+    let (u, p, high, inside) = cover_all es from to v le less (sym (ap is_some (governs_wins tie book id kind v)) ∙ h) in
+    (u, segments_begin_at_changes tie book id kind from to u ∙ passes_by tie book id kind from to u ∙ p, high, inside)
 
 -- a later beginning does not lie on the line of an earlier one
 apart : (es : List Entry) (from to u w : ℤ) → passes es from to u ≡ true → passes es from to w ≡ true → u <ℤ w → end_within to (next es u) ≤ℤ w
@@ -332,10 +363,13 @@ apart es from to u w p q less = by (int_lt w (end_within to (next es u))) refl
         left_out false b n k = k
 
 pub segments_are_apart : SegmentsAreApart
-unfolding beginnings governs candidates until
-segments_are_apart book id kind from to u w p q less =
-    let es = entries_for book id kind in
-    apart es from to u w (sym (begin_at_changes es from to u) ∙ p) (sym (begin_at_changes es from to w) ∙ q) less
+unfolding until
+segments_are_apart tie book id kind from to u w p q less =
+    let es = ranked_entries tie book id kind in
+    apart es from to u w (passing u p) (passing w q) less
+  where
+    passing : (x : ℤ) → list_any (int_eq x) (beginnings tie book id kind from to) ≡ true → passes (ranked_entries tie book id kind) from to x ≡ true
+    passing x h = sym (passes_by tie book id kind from to x) ∙ sym (segments_begin_at_changes tie book id kind from to x) ∙ h
 
 -- ---- types
 
@@ -388,18 +422,33 @@ one_that_passes {X = X} p (x ∷ xs) h = by (p x) refl h (one_that_passes p xs)
     by true e k rest = (x, e)
     by false e k rest = rest k
 
+-- a test of spans alone sees no ranks
+any_ranked : (tie : Tie) (p : Span → Bool) (es : List Entry) → list_any (λ e. p e.span) (map (ranked tie) es) ≡ list_any (λ e. p e.span) es
+any_ranked tie p [] = refl
+any_ranked tie p (e ∷ es) = ap (λ b. p e.span || b) (any_ranked tie p es)
+
+governed_by : (tie : Tie) (book : Book) (id : List ℕ) (kind : PayloadType)
+    → is_governed tie book id kind
+    ≡ list_any (λ e. is_some (winner_at (ranked_entries tie book id kind) e.span.start)) (ranked_entries tie book id kind)
+governed_by tie book id kind =
+    ap (λ (g : ℤ → Option Winner). list_any (λ e. is_some (g e.span.start)) (entries_for book id kind)) (governs_winners tie book id kind)
+    ∙ sym (any_ranked tie (λ s. is_some (winner_at (ranked_entries tie book id kind) s.start)) (entries_for book id kind))
+
 pub types_govern_sometime : TypesGovernSometime
-unfolding governs candidates
-types_govern_sometime book id kind =
-    let es = entries_for book id kind in (
-      λ h. let found = one_that_passes (λ (e : Entry). is_some (winner_at es e.span.start)) es h in (found.0.span.start, found.1),
-      λ h. starts_governed h.0 es es (λ f k. k) (sym (governed_any es h.0) ∙ h.1),
+types_govern_sometime tie book id kind =
+    let es = ranked_entries tie book id kind in (
+      λ h.
+          let found = one_that_passes (λ (e : Entry). is_some (winner_at es e.span.start)) es (sym (governed_by tie book id kind) ∙ h) in
+          (found.0.span.start, ap is_some (governs_wins tie book id kind found.0.span.start) ∙ found.1),
+      λ h.
+          governed_by tie book id kind
+          ∙ starts_governed h.0 es es (λ f k. k) (sym (governed_any es h.0) ∙ sym (ap is_some (governs_wins tie book id kind h.0)) ∙ h.1),
     )
 
 pub roll_tells_each : RollTellsEach
 unfolding roll
-roll_tells_each book kind t = refl
+roll_tells_each tie book kind t = refl
 
 pub roll_tells_what_at_tells : RollTellsWhatAtTells
 unfolding at
-roll_tells_what_at_tells book kind t id h = (state_text (shown book id kind t) (until book id kind t), refl, rw h refl)
+roll_tells_what_at_tells tie book kind t id h = (state_text (shown tie book id kind t) (until tie book id kind t), refl, rw h refl)

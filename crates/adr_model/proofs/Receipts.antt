@@ -6,7 +6,7 @@ use Rattle.adr_object.specs.declared.object.Object.TheVariants.{Event as event}
 use Rattle.adr_object.specs.declared.object.Edit.TheVariants.{Create}
 use Rattle.adr_model.specs.declared.touch.Touch.{Touch}
 use Rattle.adr_model.specs.Book.{empty}
-use Rattle.adr_model.specs.Edits.{after, made}
+use Rattle.adr_model.specs.Edits.{after, after_from, made}
 use Rattle.adr_model.specs.Touches.{touches, touches_of}
 use Rattle.adr_model.proofs.EditLemmas.{after_all}
 use Rattle.adr_model.proofs.Scripts.{setting, span_between, touch}
@@ -21,7 +21,7 @@ setting-after = after_all setting (refl, (refl, (refl, tt)))
 
 -- a program, a ven and a resource, where there is no event, touch nothing
 setting-touches : touches (after []) (after setting) ≡ []
-unfolding touches after
+unfolding touches after_from
 setting-touches = rw setting-after refl
 
 -- a created event touches its span

@@ -15,10 +15,12 @@ use Rattle.adr_object.specs.declared.object.Object.TheVariants.{Program as progr
 use Rattle.adr_object.specs.declared.object.Kind.TheVariants.{Event as event_kind, Ven as ven_kind, Resource as resource_kind}
 use Rattle.adr_object.specs.declared.object.Edit.{Edit}
 use Rattle.adr_object.specs.declared.object.Edit.TheVariants.{Create, Change, Remove}
+use Rattle.adr_model.specs.Rank.{ranked}
+use Rattle.adr_model.specs.declared.entry.Tie.TheVariants.{Newest}
 use Rattle.adr_model.specs.Answer.{changes, earliest, until}
 use Rattle.adr_model.specs.Layout.{layout}
 use Rattle.adr_model.specs.Book.{empty}
-use Rattle.adr_model.specs.Edits.{after, step, made}
+use Rattle.adr_model.specs.Edits.{after, step, step_by, made}
 use Rattle.adr_model.specs.Governor.{entries_for}
 use Rattle.adr_model.proofs.EditLemmas.{after_all}
 use Rattle.adr_model.proofs.Times.{half_hours, hours, one_month, one_year, midnight_and_1, midnight_and_2, one_and_0, one_and_1, one_and_2, half_past_one_and_1, two_and_1, two_and_2, six_and_1, january_31_and_a_month, june_9999_and_a_year}
@@ -49,13 +51,13 @@ one_event-until : map (ends one_event) (1 ∷ 2 ∷ []) ≡ until_half_hour 2 �
 one_event-until = ended _ _ one_event-prices (1 ∷ 2 ∷ [])
 
 -- half a second before it nothing governs, until it starts
-one_event-before : until (after one_event) (codes "r1") Price (pos 1704067199500000000) ≡ until_half_hour 0
+one_event-before : until Newest (after one_event) (codes "r1") Price (pos 1704067199500000000) ≡ until_half_hour 0
 unfolding until
-one_event-before = ap (λ es. earliest (changes es (pos 1704067199500000000))) one_event-prices
+one_event-before = ap (λ es. earliest (changes (map (ranked Newest) es) (pos 1704067199500000000))) one_event-prices
 
 -- an id that is there comes before a program that is not
 taken_id : step (after one_event) (Create (event (record one_hour { program_id = codes "p9"; intervals = [] }))) ≡ Err Exists
-unfolding step least_fault layout
+unfolding step_by least_fault layout
 taken_id = rw one_event-after refl
 
 -- ---- a lower number goes first, and an absent one goes last
@@ -242,12 +244,12 @@ one_always-until : map (ends one_always) (1 ∷ []) ≡ Endless ∷ []
 one_always-until = ended _ _ one_always-prices (1 ∷ [])
 
 after_always : step (after one_always) (Create (event (record always { id = codes "e2"; intervals = priced (pos 0) None 9 ∷ priced (pos 1) None 9 ∷ [] }))) ≡ Err AfterEndless
-unfolding step least_fault layout
+unfolding step_by least_fault layout
 after_always = rw one_always-after refl
 
 -- an event whose first interval has no start anywhere
 startless : step (after one_always) (Create (event (record always { id = codes "e2"; interval_period = None }))) ≡ Err NoStart
-unfolding step least_fault layout
+unfolding step_by least_fault layout
 startless = rw one_always-after refl
 
 -- ---- a delete lets the event below govern again
@@ -350,7 +352,7 @@ a_month-until = ended _ _ a_month-prices (1488 ∷ [])
 
 past_the_calendar :
     step (after a_month) (Create (event (one_price (codes "e2") None (pos 253383811200000000000) (Some one_year) 10 []))) ≡ Err TimeRange
-unfolding step least_fault layout
+unfolding step_by least_fault layout
 past_the_calendar = rw (a_month-after, june_9999_and_a_year) refl
 
 -- ---- an interval of no length governs nothing, whatever its priority
@@ -464,7 +466,7 @@ two_vens-prices : prices two_vens ≡ []
 two_vens-prices = rw two_vens-after refl
 
 used_ven : step (after two_vens) without_first_ven ≡ Err InUse
-unfolding step least_fault
+unfolding step_by least_fault
 used_ven = rw two_vens-after refl
 
 one_ven_less-version : (after (two_vens ++ moved_to_w ∷ without_first_ven ∷ [])).version ≡ 7

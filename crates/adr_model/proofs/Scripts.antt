@@ -1,6 +1,6 @@
 -- What the worked rows are made of: the objects of their scripts, and how a row follows from its layouts.
 use Rattle.std.specs.Prelude.{◌≡◌, ℕ, ℤ, pos, ◌^◌, List, [], ◌∷◌, codes, Option, Some, None, Ok, refl, map}
-use Rattle.std.proofs.Common.{ap}
+use Rattle.std.proofs.Common.{ap, ◌∙◌}
 use Rattle.adr_value.specs.declared.datum.Datum.{Datum}
 use Rattle.adr_value.specs.declared.datum.Datum.TheVariants.{Number, Text}
 use Rattle.adr_value.specs.declared.payload.PayloadType.TheVariants.{Price}
@@ -22,7 +22,10 @@ use Rattle.adr_model.specs.declared.touch.Touch.{Touch}
 use Rattle.adr_model.specs.Answer.{changes, earliest, until}
 use Rattle.adr_model.specs.Layout.{layout}
 use Rattle.adr_model.specs.Edits.{after}
-use Rattle.adr_model.specs.Governor.{candidates, entries_for, governs, winner_at}
+use Rattle.adr_model.specs.Governor.{entries_for, governs, winner_at}
+use Rattle.adr_model.specs.Rank.{ranked}
+use Rattle.adr_model.specs.declared.entry.Tie.TheVariants.{Newest}
+use Rattle.adr_model.proofs.Ranked.{governs_winners}
 use Rattle.adr_model.proofs.Times.{half_hours}
 
 -- ---- objects
@@ -84,10 +87,10 @@ abbrev pub prices : List Edit → List Entry
 prices edits = entries_for (after edits) (codes "r1") Price
 
 abbrev pub governor : List Edit → ℕ → Option Winner
-governor edits n = governs (after edits) (codes "r1") Price (half_hours n)
+governor edits n = governs Newest (after edits) (codes "r1") Price (half_hours n)
 
 abbrev pub ends : List Edit → ℕ → End
-ends edits n = until (after edits) (codes "r1") Price (half_hours n)
+ends edits n = until Newest (after edits) (codes "r1") Price (half_hours n)
 
 -- the first interval of the event with that number
 abbrev pub won_by : ℕ → Option Winner
@@ -98,20 +101,21 @@ until_half_hour n = At (half_hours n)
 
 -- an entry of rank (priority, written, place) between two half hours
 abbrev pub entry : ℕ → ℕ → ℕ → Span → Entry
-entry priority written place span = record { rank = record { priority = priority; written = written; place = place }; span = span }
+entry priority written place span = record { rank = record { priority = priority; late = pos 0; written = written; place = place }; span = span }
 
 -- the priority of an event that has none
 abbrev pub absent : ℕ
 absent = 2 ^ 32
 
 module _ (edits : List Edit) (es : List Entry) (h : prices edits ≡ es) where
-  pub governed : (ns : List ℕ) → map (governor edits) ns ≡ map (λ n. winner_at es (half_hours n)) ns
-  unfolding governs candidates
-  governed ns = ap (λ xs. map (λ n. winner_at xs (half_hours n)) ns) h
+  pub governed : (ns : List ℕ) → map (governor edits) ns ≡ map (λ n. winner_at (map (ranked Newest) es) (half_hours n)) ns
+  governed ns =
+      ap (λ g. map (λ n. g (half_hours n)) ns) (governs_winners Newest (after edits) (codes "r1") Price)
+      ∙ ap (λ xs. map (λ n. winner_at (map (ranked Newest) xs) (half_hours n)) ns) h
 
-  pub ended : (ns : List ℕ) → map (ends edits) ns ≡ map (λ n. earliest (changes es (half_hours n))) ns
+  pub ended : (ns : List ℕ) → map (ends edits) ns ≡ map (λ n. earliest (changes (map (ranked Newest) es) (half_hours n))) ns
   unfolding until
-  ended ns = ap (λ xs. map (λ n. earliest (changes xs (half_hours n))) ns) h
+  ended ns = ap (λ xs. map (λ n. earliest (changes (map (ranked Newest) xs) (half_hours n))) ns) h
 
 -- a touch of r1's price between two half hours
 abbrev pub touch : ℕ → ℕ → Touch

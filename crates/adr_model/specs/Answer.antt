@@ -14,10 +14,11 @@ use Rattle.adr_time.specs.declared.span.End.{End}
 use Rattle.adr_time.specs.declared.span.End.TheVariants.{At, Endless}
 use Rattle.adr_object.specs.declared.event.Payload.{Payload}
 use Rattle.adr_model.specs.declared.entry.Entry.{Entry}
+use Rattle.adr_model.specs.declared.entry.Tie.{Tie}
 use Rattle.adr_model.specs.declared.timeline.Winner.{Winner}
 use Rattle.adr_model.specs.declared.written.Written.{Written}
 use Rattle.adr_model.specs.Book.{Book, resource_by}
-use Rattle.adr_model.specs.Governor.{entries_for, winner_at, governs}
+use Rattle.adr_model.specs.Governor.{ranked_entries, winner_at, governs}
 
 -- ---- until when
 
@@ -52,8 +53,8 @@ earliest [] = Endless
 earliest (t ∷ ts) = earlier_of t (earliest ts)
 
 -- the least later instant whose governor differs from that at t, or no end
-unfoldable pub until : Book → List ℕ → PayloadType → ℤ → End
-until book id kind t = earliest (changes (entries_for book id kind) t)
+unfoldable pub until : Tie → Book → List ℕ → PayloadType → ℤ → End
+until tie book id kind t = earliest (changes (ranked_entries tie book id kind) t)
 
 -- the same in other words, of any governor
 abbrev pub IsUntil : (ℤ → Option Winner) → ℤ → End → Type 0
@@ -86,8 +87,8 @@ abbrev pub shown_of : Book → PayloadType → Winner → Option Shown
 shown_of book kind winner = option_and_then (shown_in kind winner.place) (event_written book winner.written)
 
 -- what governs shows
-abbrev pub shown : Book → List ℕ → PayloadType → ℤ → Option Shown
-shown book id kind t = option_and_then (shown_of book kind) (governs book id kind t)
+abbrev pub shown : Tie → Book → List ℕ → PayloadType → ℤ → Option Shown
+shown tie book id kind t = option_and_then (shown_of book kind) (governs tie book id kind t)
 
 -- ---- the bytes
 
@@ -128,10 +129,10 @@ state_text (Some s) end =
     codes "event " ++ s.event ++ codes " interval " ++ signed_decimal s.interval ++ codes " until " ++ end_text end ++ codes " " ++ values_text s.values
 
 -- `version 4 ` and the state at the instant, with a line feed
-abbrev pub at_text : Book → List ℕ → PayloadType → ℤ → List ℕ
-at_text book id kind t =
-    codes "version " ++ decimal book.version ++ codes " " ++ state_text (shown book id kind t) (until book id kind t) ++ codes "\n"
+abbrev pub at_text : Tie → Book → List ℕ → PayloadType → ℤ → List ℕ
+at_text tie book id kind t =
+    codes "version " ++ decimal book.version ++ codes " " ++ state_text (shown tie book id kind t) (until tie book id kind t) ++ codes "\n"
 
 -- the answer to `at`: a resource that is not there is refused
-unfoldable pub at : Book → List ℕ → PayloadType → ℤ → Result (List ℕ) Refusal
-at book id kind t = if is_some (resource_by book id) then Ok (at_text book id kind t) else Err UnknownResource
+unfoldable pub at : Tie → Book → List ℕ → PayloadType → ℤ → Result (List ℕ) Refusal
+at tie book id kind t = if is_some (resource_by book id) then Ok (at_text tie book id kind t) else Err UnknownResource

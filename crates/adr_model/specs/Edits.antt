@@ -1,11 +1,13 @@
 -- What an edit does to the book, and which refusal it meets.
-use Rattle.std.specs.Prelude.{ℕ, ◌+◌, nat_lt, nat_le, Bool, true, false, not, ◌||◌, List, [], ◌∷◌, ◌++◌, map, filter, fold, length, is_some, Result, if◌then◌else◌, sum_by}
+use Rattle.std.specs.Prelude.{ℕ, ◌+◌, min, nat_lt, nat_le, Bool, true, false, not, ◌||◌, List, [], ◌∷◌, ◌++◌, map, filter, fold, length, is_some, Result, if◌then◌else◌, sum_by}
 use Rattle.std.specs.List.{list_any}
 use Rattle.std.specs.Str.{bytes_eq}
 use Rattle.std.specs.Result.{result_unwrap_or, result_err}
 use Rattle.std.specs.Option.{option_map_or}
 use Rattle.adr_value.specs.Faults.{judged}
+use Rattle.adr_value.specs.Limits.{Limits, limits}
 use Rattle.adr_value.specs.Same.{same_type}
+use Rattle.adr_value.specs.declared.limits.TheConstants.{MOST_EDITS, MOST_VERSION}
 use Rattle.adr_value.specs.declared.refusal.Refusal.{Refusal}
 use Rattle.adr_value.specs.declared.refusal.Refusal.TheVariants.{Exists, NotThere, NoProgram, NoVen, InUse, Full}
 use Rattle.adr_object.specs.declared.event.Event.{Event}
@@ -22,17 +24,15 @@ use Rattle.adr_model.specs.Book.{Book, empty, program_by, ven_by, resource_by, e
 
 -- ---- the limits
 
-abbrev pub most_edits : ℕ
-most_edits = 1000000
+abbrev pub most_objects_by : Limits → Kind → ℕ
+most_objects_by l program_kind = l.programs
+most_objects_by l event_kind = l.events
+most_objects_by l ven_kind = l.vens
+most_objects_by l resource_kind = l.resources
 
-abbrev pub most_entries : ℕ
-most_entries = 65536
-
-abbrev pub most_objects : Kind → ℕ
-most_objects program_kind = 1024
-most_objects event_kind = 4096
-most_objects ven_kind = 4096
-most_objects resource_kind = 4096
+-- the version at which a book whose journal starts from a base of that version is full
+abbrev pub full_at : ℕ → ℕ
+full_at base = min (base + MOST_EDITS) MOST_VERSION
 
 -- ---- what the book has
 
@@ -85,30 +85,45 @@ is_named book ven_kind id = list_any (λ r. bytes_eq id r.ven_id) book.resources
 is_named book _ id = false
 
 -- the event would bring the book above its entries
-abbrev pub has_too_many_entries : Book → Object → Bool
-has_too_many_entries book (event e) = nat_lt most_entries (entries_beside book e.id + entry_count e)
-has_too_many_entries book _ = false
+abbrev pub has_too_many_entries_by : Limits → Book → Object → Bool
+has_too_many_entries_by l book (event e) = nat_lt l.entries (entries_beside book e.id + entry_count e)
+has_too_many_entries_by l book _ = false
 
-abbrev pub is_full_for : Book → Edit → Bool
-is_full_for book (Create o) = nat_le (most_objects (kind_of o)) (count_of book (kind_of o)) || has_too_many_entries book o
-is_full_for book (Change o) = has_too_many_entries book o
-is_full_for book (Remove kind id) = false
+abbrev pub is_full_for_by : Limits → Book → Edit → Bool
+is_full_for_by l book (Create o) =
+    nat_le (most_objects_by l (kind_of o)) (count_of book (kind_of o)) || has_too_many_entries_by l book o
+is_full_for_by l book (Change o) = has_too_many_entries_by l book o
+is_full_for_by l book (Remove kind id) = false
 
-abbrev pub faults : Book → Edit → List Refusal
-faults book (Create o) =
+-- under limits, where the book is full at a version
+abbrev pub faults_by : Limits → ℕ → Book → Edit → List Refusal
+faults_by l full book (Create o) =
     layout_faults o
     ++ fault_if (has_id book (kind_of o) (id_of o)) Exists
     ++ reference_faults book o
-    ++ fault_if (nat_le most_edits book.version || is_full_for book (Create o)) Full
-faults book (Change o) =
+    ++ fault_if (nat_le full book.version || is_full_for_by l book (Create o)) Full
+faults_by l full book (Change o) =
     layout_faults o
     ++ fault_if (not (has_id book (kind_of o) (id_of o))) NotThere
     ++ reference_faults book o
-    ++ fault_if (nat_le most_edits book.version || is_full_for book (Change o)) Full
-faults book (Remove kind id) =
+    ++ fault_if (nat_le full book.version || is_full_for_by l book (Change o)) Full
+faults_by l full book (Remove kind id) =
     fault_if (not (has_id book kind id)) NotThere
     ++ fault_if (is_named book kind id) InUse
-    ++ fault_if (nat_le most_edits book.version) Full
+    ++ fault_if (nat_le full book.version) Full
+
+-- under the limits in force
+abbrev pub most_objects : Kind → ℕ
+most_objects kind = most_objects_by limits kind
+
+abbrev pub has_too_many_entries : Book → Object → Bool
+has_too_many_entries book o = has_too_many_entries_by limits book o
+
+abbrev pub is_full_for : Book → Edit → Bool
+is_full_for book edit = is_full_for_by limits book edit
+
+abbrev pub faults_to : ℕ → Book → Edit → List Refusal
+faults_to full book edit = faults_by limits full book edit
 
 -- ---- the book after the edit
 
@@ -144,9 +159,24 @@ abbrev pub made : Book → Edit → Book
 made book edit = let after : Book = edited book edit in record after { version = book.version + 1 }
 
 -- the least fault, or the book with the edit made
-unfoldable pub step : Book → Edit → Result Book Refusal
-step book edit = judged (faults book edit) (made book edit)
+unfoldable pub step_by : Limits → ℕ → Book → Edit → Result Book Refusal
+step_by l full book edit = judged (faults_by l full book edit) (made book edit)
+
+-- under the limits in force, where the book is full at a version
+abbrev pub step_to : ℕ → Book → Edit → Result Book Refusal
+step_to full book edit = step_by limits full book edit
+
+-- with no base: full at the greatest version alone
+abbrev pub step : Book → Edit → Result Book Refusal
+step book edit = step_to MOST_VERSION book edit
+
+abbrev pub faults : Book → Edit → List Refusal
+faults book edit = faults_to MOST_VERSION book edit
+
+-- what the accepted ones of the edits make of a book
+unfoldable pub after_from : Book → List Edit → Book
+after_from book edits = fold (λ b edit. result_unwrap_or (step b edit) b) book edits
 
 -- the book that the accepted edits leave
-unfoldable pub after : List Edit → Book
-after edits = fold (λ book edit. result_unwrap_or (step book edit) book) empty edits
+abbrev pub after : List Edit → Book
+after edits = after_from empty edits

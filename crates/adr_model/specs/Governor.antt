@@ -1,5 +1,5 @@
 -- Which interval governs a resource and a payload type at an instant.
-use Rattle.std.specs.Prelude.{◌↔◌, ℕ, ℤ, Bool, false, List, [], ◌∷◌, Option, Some, None, if◌then◌else◌, map, filter, flat_map, filter_map, Contains}
+use Rattle.std.specs.Prelude.{◌↔◌, ℕ, ℤ, pos, Bool, false, List, [], ◌∷◌, Option, Some, None, if◌then◌else◌, map, filter, flat_map, filter_map, Contains}
 use Rattle.std.specs.List.{enumerate_from, zip}
 use Rattle.std.specs.Bool.{then_some}
 use Rattle.std.specs.Option.{option_map_or, option_map}
@@ -10,16 +10,18 @@ use Rattle.adr_time.specs.declared.span.Span.{Span}
 use Rattle.adr_object.specs.declared.party.Resource.{Resource}
 use Rattle.adr_model.specs.declared.entry.Entry.{Entry}
 use Rattle.adr_model.specs.declared.entry.Rank.{Rank}
+use Rattle.adr_model.specs.declared.entry.Tie.{Tie}
 use Rattle.adr_model.specs.declared.timeline.Winner.{Winner}
 use Rattle.adr_model.specs.Layout.{layout}
 use Rattle.adr_model.specs.Matching.{applies}
-use Rattle.adr_model.specs.Rank.{carries, priority_of, goes_before}
+use Rattle.adr_model.specs.Rank.{carries, priority_of, goes_before, ranked}
 use Rattle.adr_model.specs.declared.written.Written.{Written}
 use Rattle.adr_model.specs.Book.{Book, resource_by, scene_of}
 
--- interval k of the written event as an entry, at that span
+-- interval k of the written event as an entry, at that span; the rule for ties says later how late it counts
 abbrev pub entry_at : Written → ℕ → Span → Entry
-entry_at w k span = record { rank = record { priority = priority_of w.event.priority; written = w.written; place = k }; span = span }
+entry_at w k span =
+    record { rank = record { priority = priority_of w.event.priority; late = pos 0; written = w.written; place = k }; span = span }
 
 -- an entry for each interval that carries the type
 abbrev pub entries_of : PayloadType → Written → List Entry
@@ -53,9 +55,13 @@ winner_of e = record { written = e.rank.written; place = e.rank.place }
 abbrev pub winner_at : List Entry → ℤ → Option Winner
 winner_at entries t = option_map winner_of (first_of (filter (λ e. covers e.span t) entries))
 
--- the candidate of least rank, or none where there is no candidate
-unfoldable pub governs : Book → List ℕ → PayloadType → ℤ → Option Winner
-governs book id kind t = option_map winner_of (first_of (candidates book id kind t))
+-- the entries as they compete under a rule for ties
+abbrev pub ranked_entries : Tie → Book → List ℕ → PayloadType → List Entry
+ranked_entries tie book id kind = map (ranked tie) (entries_for book id kind)
+
+-- the candidate of least rank under the rule, or none where there is no candidate
+unfoldable pub governs : Tie → Book → List ℕ → PayloadType → ℤ → Option Winner
+governs tie book id kind t = option_map winner_of (first_of (map (ranked tie) (candidates book id kind t)))
 
 -- the candidates of the two books, taken by rank, are not the same set
 abbrev pub Disturbed : Book → Book → List ℕ → PayloadType → ℤ → Type 0

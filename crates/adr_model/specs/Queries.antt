@@ -1,4 +1,4 @@
--- What `list`, `roll` and `types` answer, from what governs alone, down to the bytes.
+-- What the queries answer: `list`, `roll` and `types`, from what governs alone, down to the bytes.
 use Rattle.std.specs.Prelude.{ℕ, ℤ, pos, ◌-ℤ◌, ◌&&◌, ◌||◌, ◌==◌, nat_le, int_lt, int_le, Bool, not, List, [], ◌∷◌, ◌++◌, map, filter, flat_map, is_some, Result, Ok, Err, if◌then◌else◌, codes}
 use Rattle.std.specs.Ordering.{int_eq, int_cmp, nat_cmp, is_eq, is_lt}
 use Rattle.std.specs.declared.cmp.Ordering.{Ordering}
@@ -14,7 +14,8 @@ use Rattle.adr_value.specs.declared.refusal.Refusal.TheVariants.{BadWindow, Unkn
 use Rattle.adr_time.specs.Text.{moment_text}
 use Rattle.adr_time.specs.declared.span.End.{End}
 use Rattle.adr_time.specs.declared.span.End.TheVariants.{At, Endless}
-use Rattle.adr_model.specs.Answer.{Shown, bounds, same_winner, shown, state_text, until, quoted, values_text}
+use Rattle.adr_model.specs.declared.entry.Tie.{Tie}
+use Rattle.adr_model.specs.Answer.{Shown, at, bounds, same_winner, shown, state_text, until, quoted, values_text}
 use Rattle.adr_model.specs.Book.{Book, resource_by}
 use Rattle.adr_model.specs.Governor.{entries_for, governs}
 
@@ -34,15 +35,15 @@ in_order cmp (x ∷ xs) = put_in_order cmp x (in_order cmp xs)
 -- ---- `list`: the segments of a window
 
 -- something governs at the instant, and it is the window's first or what governs differs from the instant before
-abbrev pub begins : Book → List ℕ → PayloadType → ℤ → ℤ → Bool
-begins book id kind from u =
-    is_some (governs book id kind u)
-    && (int_eq u from || not (same_winner (governs book id kind (u -ℤ pos 1)) (governs book id kind u)))
+abbrev pub begins : Tie → Book → List ℕ → PayloadType → ℤ → ℤ → Bool
+begins tie book id kind from u =
+    is_some (governs tie book id kind u)
+    && (int_eq u from || not (same_winner (governs tie book id kind (u -ℤ pos 1)) (governs tie book id kind u)))
 
 -- the instants of the window at which a segment begins, which are among its first and those where entries start or end
-unfoldable pub beginnings : Book → List ℕ → PayloadType → ℤ → ℤ → List ℤ
-beginnings book id kind from to =
-    filter (λ u. int_le from u && (int_lt u to && begins book id kind from u)) (in_order int_cmp (from ∷ bounds (entries_for book id kind)))
+unfoldable pub beginnings : Tie → Book → List ℕ → PayloadType → ℤ → ℤ → List ℤ
+beginnings tie book id kind from to =
+    filter (λ u. int_le from u && (int_lt u to && begins tie book id kind from u)) (in_order int_cmp (from ∷ bounds (entries_for book id kind)))
 
 -- the end, or the window's if that is earlier
 abbrev pub end_within : ℤ → End → ℤ
@@ -56,37 +57,37 @@ segment_text start end s =
     ++ codes " " ++ values_text s.values ++ codes "\n"
 
 -- the line of the segment that begins at an instant
-abbrev pub segment_line : Book → List ℕ → PayloadType → ℤ → ℤ → List ℕ
-segment_line book id kind to u = option_map_or (segment_text u (end_within to (until book id kind u))) (shown book id kind u) []
+abbrev pub segment_line : Tie → Book → List ℕ → PayloadType → ℤ → ℤ → List ℕ
+segment_line tie book id kind to u = option_map_or (segment_text u (end_within to (until tie book id kind u))) (shown tie book id kind u) []
 
 -- the first line and the last of an answer of several
 abbrev pub in_lines : Book → List ℕ → List ℕ
 in_lines book lines = codes "version " ++ decimal book.version ++ codes "\n" ++ lines ++ codes ".\n"
 
-abbrev pub list_text : Book → List ℕ → PayloadType → ℤ → ℤ → List ℕ
-list_text book id kind from to = in_lines book (flat_map (segment_line book id kind to) (beginnings book id kind from to))
+abbrev pub list_text : Tie → Book → List ℕ → PayloadType → ℤ → ℤ → List ℕ
+list_text tie book id kind from to = in_lines book (flat_map (segment_line tie book id kind to) (beginnings tie book id kind from to))
 
 -- the answer to `list`: a window that does not begin before it ends is refused, and then a resource that is not there
-unfoldable pub list : Book → List ℕ → PayloadType → ℤ → ℤ → Result (List ℕ) Refusal
-list book id kind from to =
-    if int_lt from to then (if is_some (resource_by book id) then Ok (list_text book id kind from to) else Err UnknownResource)
+unfoldable pub list : Tie → Book → List ℕ → PayloadType → ℤ → ℤ → Result (List ℕ) Refusal
+list tie book id kind from to =
+    if int_lt from to then (if is_some (resource_by book id) then Ok (list_text tie book id kind from to) else Err UnknownResource)
     else Err BadWindow
 
 -- ---- `roll`: the state of each resource
 
 -- `r1 event e1 interval 0 until end values 10` and a line feed
-abbrev pub roll_line : Book → PayloadType → ℤ → List ℕ → List ℕ
-roll_line book kind t id = id ++ codes " " ++ state_text (shown book id kind t) (until book id kind t) ++ codes "\n"
+abbrev pub roll_line : Tie → Book → PayloadType → ℤ → List ℕ → List ℕ
+roll_line tie book kind t id = id ++ codes " " ++ state_text (shown tie book id kind t) (until tie book id kind t) ++ codes "\n"
 
 -- the answer to `roll`, in order of creation: nothing is refused
-unfoldable pub roll : Book → PayloadType → ℤ → Result (List ℕ) Refusal
-roll book kind t = Ok (in_lines book (flat_map (λ r. roll_line book kind t r.id) book.resources))
+unfoldable pub roll : Tie → Book → PayloadType → ℤ → Result (List ℕ) Refusal
+roll tie book kind t = Ok (in_lines book (flat_map (λ r. roll_line tie book kind t r.id) book.resources))
 
 -- ---- `types`: what governs a resource at some time
 
 -- something of the type governs at the start of some interval
-abbrev pub is_governed : Book → List ℕ → PayloadType → Bool
-is_governed book id kind = list_any (λ e. is_some (governs book id kind e.span.start)) (entries_for book id kind)
+abbrev pub is_governed : Tie → Book → List ℕ → PayloadType → Bool
+is_governed tie book id kind = list_any (λ e. is_some (governs tie book id kind e.span.start)) (entries_for book id kind)
 
 abbrev pub private_name : PayloadType → List (List ℕ)
 private_name (Private name) = name ∷ []
@@ -101,8 +102,8 @@ abbrev pub types_in_order : Book → List PayloadType
 types_in_order book = map (λ r. r.case) table ++ map Private (in_order (slice_cmp nat_cmp) (private_names book))
 
 -- those of them that govern the resource at some instant
-unfoldable pub governing_types : Book → List ℕ → List PayloadType
-governing_types book id = filter (is_governed book id) (types_in_order book)
+unfoldable pub governing_types : Tie → Book → List ℕ → List PayloadType
+governing_types tie book id = filter (is_governed tie book id) (types_in_order book)
 
 -- a byte from `!` to `~` that is no quotation mark
 abbrev pub is_bare_byte : ℕ → Bool
@@ -112,9 +113,24 @@ is_bare_byte b = nat_le 33 b && (nat_le b 126 && not (b == 34))
 abbrev pub type_text : List ℕ → List ℕ
 type_text name = if list_all is_bare_byte name then name else quoted name
 
-abbrev pub types_text : Book → List ℕ → List ℕ
-types_text book id = in_lines book (flat_map (λ kind. type_text (name_of kind) ++ codes "\n") (governing_types book id))
+abbrev pub types_text : Tie → Book → List ℕ → List ℕ
+types_text tie book id = in_lines book (flat_map (λ kind. type_text (name_of kind) ++ codes "\n") (governing_types tie book id))
 
 -- the answer to `types`: a resource that is not there is refused
-unfoldable pub types : Book → List ℕ → Result (List ℕ) Refusal
-types book id = if is_some (resource_by book id) then Ok (types_text book id) else Err UnknownResource
+unfoldable pub types : Tie → Book → List ℕ → Result (List ℕ) Refusal
+types tie book id = if is_some (resource_by book id) then Ok (types_text tie book id) else Err UnknownResource
+
+-- ---- all queries
+
+pub data Query : Type 0 where
+  at_query : List ℕ → PayloadType → ℤ → Query
+  list_query : List ℕ → PayloadType → ℤ → ℤ → Query
+  roll_query : PayloadType → ℤ → Query
+  types_query : List ℕ → Query
+
+-- the answer to a query under a rule for ties
+abbrev pub answer : Tie → Book → Query → Result (List ℕ) Refusal
+answer tie book (at_query id kind t) = at tie book id kind t
+answer tie book (list_query id kind from to) = list tie book id kind from to
+answer tie book (roll_query kind t) = roll tie book kind t
+answer tie book (types_query id) = types tie book id

@@ -1,3 +1,4 @@
+//! Intervals as they compete: where they lie, and what decides between two of them.
 use adr_time::Span;
 
 /// Where an interval lies in time, and its place in its event.
@@ -7,11 +8,26 @@ pub struct Placed {
     pub place: u32,
 }
 
-/// What decides between two intervals that cover one instant.
+/// Which of two intervals of one priority goes before the other.
+#[derive(Clone, Copy, PartialEq, Eq, Debug)]
+pub enum Tie {
+    /// The one that was written later.
+    Newest,
+    /// The one that starts later, and of two that start together the one that was written later.
+    LatestStart,
+}
+
+/// What decides between two intervals that cover one instant: the lesser rank goes before the other, by its fields
+/// in order, but for `written`, of which the greater comes first.
 #[derive(Clone, Copy)]
 pub struct Rank {
+    /// The event's priority, or 2^32 where it has none.
     pub priority: u64,
+    /// Under [`Tie::LatestStart`] minus the start of the span, in nanoseconds; else 0.
+    pub late: i128,
+    /// The number of the edit that last wrote the event.
     pub written: u64,
+    /// The interval's place in its event.
     pub place: u32,
 }
 

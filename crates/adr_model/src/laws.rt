@@ -1,12 +1,14 @@
 //! What follows from the definitions. Each function's clause is a law, and its body does nothing.
-ghost use Rattle.adr_model.specs.Laws.{AcceptedEditsCount, JournalsGoOn, JournalsGrow, LooksShowNoEarlier, PublicationsStay, RefusedEditsChangeNothing, RepeatsAreOneEntry, RollTellsEach, RollTellsWhatAtTells, SeenNeverFalls, SegmentsAreApart, SegmentsAreInOrder, SegmentsBeginAtChanges, SegmentsCoverAll, SegmentsShowOne, TypesGovernSometime, UntilIsTheNextChange, VersionsAreEdits};
+ghost use Rattle.adr_model.specs.Laws.{AcceptedEditsCount, BasesOnlyRefuse, JournalsGoOn, LooksShowNoEarlier, PublicationsAreTheirEdits, PublicationsFollow, PublicationsStay, ReadersStayBehind, RefusedEditsChangeNothing, RepeatsAreOneEntry, RollTellsEach, RollTellsWhatAtTells, SeenNeverFalls, SegmentsAreApart, SegmentsAreInOrder, SegmentsBeginAtChanges, SegmentsCoverAll, SegmentsShowOne, TypesGovernSometime, UntilIsTheNextChange, VersionsAreEdits, VersionsCountEdits};
 
 /// The laws of edits: one that is refused changes nothing, one that is accepted makes the version one more, and
-/// the book after a journal is where the rest of the journal goes on. A version is at most the number of edits.
-#[tactic(auto, using(crate::proofs::EditLemmas::refused_edits_change_nothing, crate::proofs::EditLemmas::accepted_edits_count, crate::proofs::EditLemmas::journals_go_on, crate::proofs::EditLemmas::versions_are_edits))]
+/// the book after a journal is where the rest of the journal goes on. A version is at most the number of edits. The
+/// base of a journal only says when the book is full: what is accepted does the same on any base.
+#[tactic(auto, using(crate::proofs::EditLemmas::refused_edits_change_nothing, crate::proofs::EditLemmas::accepted_edits_count, crate::proofs::EditLemmas::bases_only_refuse, crate::proofs::EditLemmas::journals_go_on, crate::proofs::EditLemmas::versions_are_edits))]
 pub fn edit_laws()
     ensures refused { RefusedEditsChangeNothing }
     ensures accepted { AcceptedEditsCount }
+    ensures bases { BasesOnlyRefuse }
     ensures journals { JournalsGoOn }
     ensures versions { VersionsAreEdits }
 {}
@@ -34,12 +36,17 @@ pub fn answer_laws()
     ensures types { TypesGovernSometime }
 {}
 
-/// The laws of the machine of one editor and many readers: what a reader has seen never falls, a look shows
-/// nothing earlier than that, publications stay, and the journal of each is a prefix of the next one's.
-#[tactic(auto, using(crate::proofs::MachineLaws::seen_never_falls, crate::proofs::MachineLaws::looks_show_no_earlier, crate::proofs::MachineLaws::publications_stay, crate::proofs::MachineLaws::journals_grow))]
+/// The laws of the machine of one editor and many readers. What a reader has seen never falls and is no later than
+/// the last publication, and a look shows nothing earlier than that. Publications stay; the book of each is what its
+/// batch makes of the one before, and so what all batches up to it, joined, leave of the empty book, whatever was
+/// condensed; its version is the number of those edits.
+#[tactic(auto, using(crate::proofs::MachineLaws::seen_never_falls, crate::proofs::MachineLaws::looks_show_no_earlier, crate::proofs::MachineLaws::publications_stay, crate::proofs::MachineLaws::publications_follow, crate::proofs::MachineLaws::publications_are_their_edits, crate::proofs::MachineLaws::versions_count_edits, crate::proofs::MachineLaws::readers_stay_behind))]
 pub fn machine_laws()
     ensures seen { SeenNeverFalls }
+    ensures behind { ReadersStayBehind }
     ensures look { LooksShowNoEarlier }
     ensures publications { PublicationsStay }
-    ensures journals { JournalsGrow }
+    ensures batches { PublicationsFollow }
+    ensures edits { PublicationsAreTheirEdits }
+    ensures versions { VersionsCountEdits }
 {}

@@ -1,7 +1,9 @@
+//! Events with their intervals, and the targets and payloads that they carry.
 ghost use Rattle.adr_value.specs.Copy.{IsCopyOf};
 
 use crate::id::Id;
 use adr_time::{Length, Moment};
+use adr_value::limits::MOST_INTERVALS;
 use adr_value::{BoundedVec, Datum, Name, PayloadType, Refusal, Text, TryClone};
 
 /// Values under one type, which a resource or its ven has, or which an event or its program asks for (OpenADR 3.0
@@ -47,7 +49,7 @@ pub struct Event {
     pub priority: Option<u32>,
     pub targets: BoundedVec<Target, 64>,
     pub interval_period: Option<Period>,
-    pub intervals: BoundedVec<Interval, 4096>,
+    pub intervals: BoundedVec<Interval, MOST_INTERVALS>,
 }
 
 impl Target {

@@ -1,3 +1,4 @@
+//! Ids.
 ghost use Rattle.std.specs.Prelude.{◌≡◌, ◌↔◌, IsTrue, if◌then◌else◌};
 ghost use Rattle.std.specs.List.{list_all};
 ghost use Rattle.adr_value.specs.Answer.{Answers};

@@ -1,3 +1,4 @@
+//! Programs, vens and their resources.
 ghost use Rattle.adr_value.specs.Copy.{IsCopyOf};
 
 use crate::event::Target;

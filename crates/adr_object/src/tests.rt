@@ -2,6 +2,7 @@ use crate::{
     Edit, Event, Id, Interval, Kind, Object, Payload, Period, Program, Resource, Target, Ven,
 };
 use adr_time::{Length, Moment, end_of, read_length};
+use adr_value::limits::MOST_INTERVALS;
 use adr_value::{BoundedVec, Datum, Name, PayloadType, Refusal, Text, TryClone};
 use std::alloc::Global;
 use std::test::Fail;
@@ -84,7 +85,7 @@ fn period() -> Result<Period, Fail> {
     })
 }
 
-fn intervals(alloc: Global) -> Result<BoundedVec<Interval, 4096>, Fail> {
+fn intervals(alloc: Global) -> Result<BoundedVec<Interval, MOST_INTERVALS>, Fail> {
     let period = Some(period()?);
     let payloads = payloads(alloc, "a b")?;
     one(

@@ -1,4 +1,4 @@
-// The grammar on lines that are written out.
+//! The grammar on lines that are written out.
 ghost use Rattle.std.specs.Prelude.{◌≡◌, ◌<◌, ◌∷◌, [], Some, codes, length};
 ghost use Rattle.clap.specs.Words.{fault_of};
 ghost use Rattle.adr_options.specs.Grammar.{adr_grammar, workers_text};

@@ -2,14 +2,13 @@ ghost use Rattle.std.specs.Prelude.{◌≡◌, ◌+◌, ◌-◌, ◌≤◌, ◌<
 ghost use Rattle.std.specs.List.{list_any};
 ghost use Rattle.std.specs.Str.{bytes_eq};
 ghost use Rattle.adr_value.specs.Same.{same_type as the_same_type};
-ghost use Rattle.adr_model.specs.Edits.{distinct_types as the_distinct_types, entry_count, entries_beside, most_entries};
+ghost use Rattle.adr_model.specs.Edits.{distinct_types as the_distinct_types, entry_count, entries_beside};
 
 use crate::objects::Objects;
 use adr_model::Written;
 use adr_object::{Event, Id, Interval, Payload};
 use adr_value::PayloadType;
-
-const MOST_ENTRIES: usize = 65_536;
+use adr_value::limits::MOST_ENTRIES;
 
 /// Whether two payload types are one.
 pub(crate) fn same_type(a: &PayloadType, b: &PayloadType) -> bool
@@ -74,7 +73,7 @@ fn take_beside(left: usize, id: &Id, events: &[Written]) -> Option<usize>
 
 /// Whether the event would bring the objects above their entries.
 pub(crate) fn has_too_many_entries(objects: &Objects, event: &Event) -> bool
-    ensures { result ≡ nat_lt most_entries (entries_beside objects.now event.now.id + entry_count event.now) }
+    ensures { result ≡ nat_lt MOST_ENTRIES (entries_beside objects.now event.now.id + entry_count event.now) }
 {
     let Some(left) = take_entries(MOST_ENTRIES, event.intervals.as_slice()) else {
         return true;

@@ -5,15 +5,16 @@ ghost use Rattle.std.specs.Result.{result_unwrap_or};
 ghost use Rattle.adr_model.specs.Layout.{layout, placed_from};
 ghost use Rattle.adr_plain.specs.Scan.{placed_entries};
 ghost use Rattle.adr_value.specs.Same.{same_type as the_same_type};
-ghost use Rattle.adr_model.specs.Governor.{entry_at, entries_of, applies_to, entries_for};
-ghost use Rattle.adr_model.specs.Rank.{carries as the_carries, priority_of};
+ghost use Rattle.adr_model.specs.Governor.{entry_at, entries_of, applies_to, entries_for, ranked_entries};
+ghost use Rattle.adr_model.specs.Rank.{carries as the_carries, late_of, priority_of, ranked};
 
 use crate::counting::same_type;
 use crate::objects::Objects;
 use adr_layout::{Placed, lay_out};
-use adr_model::{Entry, Rank, Written};
+use adr_model::{Entry, Rank, Tie, Written};
 use adr_object::{Event, Id, Interval, Resource};
 use adr_rule::{Scene, applies};
+use adr_time::Moment;
 use adr_value::{PayloadType, Refusal};
 use std::alloc::Global;
 
@@ -43,6 +44,7 @@ fn entry(written: &Written, placed: &Placed) -> Entry
     Entry {
         rank: Rank {
             priority: priority_of(written.event.priority),
+            late: 0,
             written: written.written,
             place: placed.place,
         },
@@ -124,7 +126,7 @@ fn add_placed(
 }
 
 /// The entries of the type in the events that apply to the resource.
-pub(crate) fn entries_for(
+fn entries_for(
     alloc: Global,
     objects: &Objects,
     id: &Id,
@@ -145,4 +147,46 @@ pub(crate) fn entries_for(
         rest = more;
     }
     Ok(entries)
+}
+
+/// How late an interval counts that starts then.
+fn late_of(tie: Tie, start: Moment) -> i128
+    ensures { result ≡ late_of tie start }
+{
+    match tie {
+        Tie::Newest => 0,
+        Tie::LatestStart => -start.nanoseconds(),
+    }
+}
+
+fn ranked(tie: Tie, entry: &Entry) -> Entry
+    ensures { result ≡ ranked tie entry.now }
+{
+    Entry {
+        rank: Rank {
+            late: late_of(tie, entry.span.start),
+            ..entry.rank
+        },
+        span: entry.span,
+    }
+}
+
+/// The same entries as they compete under the rule for ties.
+pub(crate) fn ranked_entries(
+    alloc: Global,
+    objects: &Objects,
+    tie: Tie,
+    id: &Id,
+    kind: &PayloadType,
+) -> Result<Vec<Entry>, Refusal>
+    ensures ok { IfOk result (λ entries. entries.items ≡ ranked_entries tie objects.now id.now kind.now) }
+    ensures memory { IfErr result (λ refusal. refusal ≡ Refusal.NoMemory) }
+{
+    let entries = entries_for(alloc, objects, id, kind)?;
+    Ok(
+        entries
+            .iter()
+            .map(|entry| ranked(tie, entry))
+            .collect(alloc)?,
+    )
 }

@@ -15,7 +15,9 @@ fn goes_before(a: &Rank, b: &Rank) -> bool
 {
     a.priority < b.priority
         || (a.priority == b.priority
-            && (b.written < a.written || (a.written == b.written && a.place < b.place)))
+            && (a.late < b.late
+                || (a.late == b.late
+                    && (b.written < a.written || (a.written == b.written && a.place < b.place)))))
 }
 
 /// The entry, or the one that was found where it goes before.

@@ -1,19 +1,29 @@
-ghost use Rattle.std.specs.Prelude.{◌≡◌, ◌||◌, nat_le, not, is_some, List, ◌<◌, OnOk};
+ghost use Rattle.std.specs.Prelude.{◌≡◌, ◌||◌, nat_le, not, is_some, List, ◌≤◌, ◌<◌, OnOk};
 ghost use Rattle.adr_value.specs.Answer.{Answers, result_map};
 ghost use Rattle.adr_value.specs.declared.refusal.Refusal.{Refusal as Refused};
 ghost use Rattle.adr_value.specs.Faults.{Gives};
 ghost use Rattle.adr_object.specs.Object.{kind_of, id_of};
 ghost use Rattle.adr_object.specs.declared.object.Edit.TheVariants.{Create};
-ghost use Rattle.adr_model.specs.Edits.{fault_if, layout_faults, reference_faults, is_full_for, most_edits, most_objects as the_most_objects, has_too_many_entries as the_has_too_many_entries, has_id, faults, made, step};
+ghost use Rattle.adr_model.specs.Edits.{fault_if, layout_faults, reference_faults, is_full_for, most_objects as the_most_objects, has_too_many_entries as the_has_too_many_entries, has_id, faults_to, full_at as the_full_at, made, step_to};
 
 use crate::counting::has_too_many_entries;
 use crate::objects::Objects;
 use adr_layout::lay_out;
 use adr_object::{Kind, Object};
+use adr_value::limits::{
+    MOST_EDITS, MOST_EVENTS, MOST_PROGRAMS, MOST_RESOURCES, MOST_VENS, MOST_VERSION,
+};
 use adr_value::{Refusal, both};
 use std::alloc::Global;
 
-const MOST_EDITS: u64 = 1_000_000;
+/// The version at which a book on a base of that version is full.
+pub(crate) fn full_at(base: u64) -> u64
+    requires { base ≤ MOST_VERSION }
+    ensures value { result ≡ the_full_at base }
+    ensures bound { result ≤ MOST_VERSION }
+{
+    (base + MOST_EDITS).min(MOST_VERSION)
+}
 
 fn fault_if(test: bool, refusal: Refusal) -> Result<(), Refusal>
     ensures { Gives result (fault_if test refusal) tt }
@@ -57,8 +67,10 @@ fn most_objects(kind: Kind) -> usize
     ensures { result ≡ the_most_objects kind }
 {
     match kind {
-        Kind::Program => 1024,
-        Kind::Event | Kind::Ven | Kind::Resource => 4096,
+        Kind::Program => MOST_PROGRAMS,
+        Kind::Event => MOST_EVENTS,
+        Kind::Ven => MOST_VENS,
+        Kind::Resource => MOST_RESOURCES,
     }
 }
 
@@ -78,10 +90,10 @@ fn is_full_for(objects: &Objects, object: &Object) -> bool
         || brings_too_many_entries(objects, object)
 }
 
-fn has_no_room(objects: &Objects, object: &Object) -> bool
-    ensures { result ≡ (nat_le most_edits objects.now.version || is_full_for objects.now (Create object.now)) }
+fn has_no_room(objects: &Objects, full: u64, object: &Object) -> bool
+    ensures { result ≡ (nat_le full objects.now.version || is_full_for objects.now (Create object.now)) }
 {
-    MOST_EDITS <= objects.version() || is_full_for(objects, object)
+    full <= objects.version() || is_full_for(objects, object)
 }
 
 fn id_fault(objects: &Objects, object: &Object) -> Result<(), Refusal>
@@ -90,29 +102,39 @@ fn id_fault(objects: &Objects, object: &Object) -> Result<(), Refusal>
     fault_if(objects.has(object.kind(), object.id()), Refusal::Exists)
 }
 
-fn room_fault(objects: &Objects, object: &Object) -> Result<(), Refusal>
-    ensures { Gives result (fault_if (nat_le most_edits objects.now.version || is_full_for objects.now (Create object.now)) Refusal.Full) tt }
+fn room_fault(objects: &Objects, full: u64, object: &Object) -> Result<(), Refusal>
+    ensures { Gives result (fault_if (nat_le full objects.now.version || is_full_for objects.now (Create object.now)) Refusal.Full) tt }
 {
-    fault_if(has_no_room(objects, object), Refusal::Full)
+    fault_if(has_no_room(objects, full, object), Refusal::Full)
 }
 
 /// The least fault of a create, by the numbers of the faults.
-fn least_of_create(alloc: Global, objects: &Objects, object: &Object) -> Result<(), Refusal>
-    ensures { Gives result (faults objects.now (Create object.now)) tt }
+fn least_of_create(
+    alloc: Global,
+    objects: &Objects,
+    full: u64,
+    object: &Object,
+) -> Result<(), Refusal>
+    ensures { Gives result (faults_to full objects.now (Create object.now)) tt }
 {
     let layout = layout_fault(alloc, object);
     let id = id_fault(objects, object);
     let reference = reference_fault(objects, object);
-    let room = room_fault(objects, object);
+    let room = room_fault(objects, full, object);
     whole(both(both(both(layout, id), reference), room))
 }
 
-/// The least fault of a create.
-pub(crate) fn judge_create(alloc: Global, objects: &Objects, object: &Object) -> Result<(), Refusal>
-    ensures answers { Answers (result_map (λ _. made objects.now (Create object.now)) result) (step objects.now (Create object.now)) }
-    ensures room { OnOk result (objects.now.version < 1000000) }
+/// The least fault of a create, where the book is full at a version.
+pub(crate) fn judge_create(
+    alloc: Global,
+    objects: &Objects,
+    full: u64,
+    object: &Object,
+) -> Result<(), Refusal>
+    ensures answers { Answers (result_map (λ _. made objects.now (Create object.now)) result) (step_to full objects.now (Create object.now)) }
+    ensures room { OnOk result (objects.now.version < full) }
 {
-    least_of_create(alloc, objects, object)
+    least_of_create(alloc, objects, full, object)
 }
 
 /// The verdict of several parts, without their values.

@@ -8,6 +8,7 @@ ghost use Rattle.adr_object.specs.declared.object.Edit.TheVariants.{Create};
 
 use adr_model::Written;
 use adr_object::{Id, Kind, Object, Program, Resource, Ven};
+use adr_value::limits::MOST_VERSION;
 use adr_value::{Refusal, TryClone};
 use std::alloc::Global;
 use std::marker::Model;
@@ -25,12 +26,13 @@ pub struct Objects {
 impl Model for Objects {
     ghost use Rattle.std.specs.Prelude.{◌≤◌};
     ghost use Rattle.adr_model.specs.Book.{Book};
+    ghost use Rattle.adr_value.specs.declared.limits.TheConstants.{MOST_VERSION};
 
     ghost Value = { Book };
 
     ghost view = { λ o. record { version = o.version; programs = o.programs.items; vens = o.vens.items; resources = o.resources.items; events = o.events.items } };
 
-    ghost invariant = { λ o. o.version ≤ 1000000 };
+    ghost invariant = { λ o. o.version ≤ MOST_VERSION };
 }
 
 fn copy_all<T: TryClone>(items: &Vec<T>) -> Result<Vec<T>, Refusal>
@@ -73,7 +75,7 @@ impl Objects {
     /// The number of accepted edits.
     pub fn version(&self) -> u64
         ensures value { result ≡ self.now.version }
-        ensures bound { result ≤ 1000000 }
+        ensures bound { result ≤ MOST_VERSION }
     {
         self.version
     }
@@ -145,7 +147,7 @@ impl Objects {
 
     /// Adds an object last, as the next accepted edit. `NoMemory` leaves all as it was.
     pub fn create(&mut self, object: Object) -> Result<(), Refusal>
-        requires { self.old.version < 1000000 }
+        requires { self.old.version < MOST_VERSION }
         ensures ok { OnOk result (self.new ≡ made self.old (Create object)) }
         ensures err { OnErr result (self.new ≡ self.old) }
         ensures memory { IfErr result (λ refusal. refusal ≡ Refusal.NoMemory) }

@@ -1,3 +1,4 @@
+pub mod Larger
 pub mod TextLemmas
 pub mod ComingLemmas
 pub mod SkipLemmas

@@ -6,6 +6,7 @@ use Rattle.serde_json.specs.Find.{as_object}
 use Rattle.serde_json.specs.Read.{read}
 use Rattle.adr_value.specs.Answer.{result_and_then}
 use Rattle.adr_value.specs.Faults.{judged}
+use Rattle.adr_value.specs.Limits.{Limits, limits}
 use Rattle.adr_value.specs.Shield.{shield_of}
 use Rattle.adr_value.specs.declared.refusal.Refusal.{Refusal}
 use Rattle.adr_value.specs.declared.refusal.Refusal.TheVariants.{BadNumber, BadJson, NotObject}
@@ -13,7 +14,7 @@ use Rattle.adr_object.specs.declared.event.Event.{Event}
 use Rattle.adr_object.specs.declared.party.Program.{Program}
 use Rattle.adr_object.specs.declared.party.Ven.{Ven}
 use Rattle.adr_object.specs.declared.party.Resource.{Resource}
-use Rattle.adr_read.specs.Objects.{program_faults, program_in, ven_faults, ven_in, resource_faults, resource_in, event_faults, event_in}
+use Rattle.adr_read.specs.Objects.{program_faults, program_in, ven_faults, ven_in, resource_faults, resource_in, event_faults_by, event_in}
 
 -- the value of a text, where it is JSON: UTF-8 that `serde_json` reads
 abbrev pub value_of : List ℕ → Option Data
@@ -43,5 +44,9 @@ ven_named body id = result_and_then (λ d. judged (ven_faults id d) (ven_in id d
 unfoldable pub resource_named : List ℕ → List ℕ → Result Resource Refusal
 resource_named body id = result_and_then (λ d. judged (resource_faults id d) (resource_in id d)) (object_named body)
 
-unfoldable pub event_named : ℤ → List ℕ → List ℕ → Result Event Refusal
-event_named now body id = result_and_then (λ d. judged (event_faults id d) (event_in now id d)) (object_named body)
+unfoldable pub event_named_by : Limits → ℤ → List ℕ → List ℕ → Result Event Refusal
+event_named_by l now body id = result_and_then (λ d. judged (event_faults_by l id d) (event_in now id d)) (object_named body)
+
+-- under the limits in force
+abbrev pub event_named : ℤ → List ℕ → List ℕ → Result Event Refusal
+event_named now body id = event_named_by limits now body id

@@ -7,5 +7,6 @@ pub mod Body
 pub mod Coming
 pub mod Members
 pub mod Names
+pub mod Larger
 pub mod Listed
 pub mod Gathering

@@ -1,6 +1,7 @@
 -- The objects: what is wrong with each, and what it stands for.
 use Rattle.std.specs.Prelude.{ℕ, ℤ, pos, List, [], ◌++◌, codes, option_map, unwrap_or}
 use Rattle.serde_json.specs.Data.{Data}
+use Rattle.adr_value.specs.Limits.{Limits, limits}
 use Rattle.adr_value.specs.declared.refusal.Refusal.{Refusal}
 use Rattle.adr_value.specs.declared.refusal.Refusal.TheVariants.{WrongKind, IdMismatch}
 use Rattle.adr_object.specs.declared.event.Event.{Event}
@@ -64,13 +65,22 @@ abbrev pub event_head_faults : List ℕ → Data → List Refusal
 event_head_faults id d =
     common_faults (codes "EVENT") id d ++ required id_faults (member_at (codes "programID") d) ++ optional text_faults (member_at (codes "eventName") d) ++ optional priority_faults (member_at (codes "priority") d)
 
--- perhaps targets and a default period, and at most 4,096 intervals
-abbrev pub event_tail_faults : Data → List Refusal
-event_tail_faults d =
-    own_targets_faults d ++ optional period_faults (member_at (codes "intervalPeriod") d) ++ required (list_faults 4096 interval_faults) (member_at (codes "intervals") d)
+-- perhaps targets and a default period, and intervals up to a limit
+abbrev pub event_tail_faults_by : Limits → Data → List Refusal
+event_tail_faults_by l d =
+    own_targets_faults d
+    ++ optional period_faults (member_at (codes "intervalPeriod") d)
+    ++ required (list_faults l.intervals interval_faults) (member_at (codes "intervals") d)
 
-unfoldable pub event_faults : List ℕ → Data → List Refusal
-event_faults id d = event_head_faults id d ++ event_tail_faults d
+unfoldable pub event_faults_by : Limits → List ℕ → Data → List Refusal
+event_faults_by l id d = event_head_faults id d ++ event_tail_faults_by l d
+
+-- under the limits in force
+abbrev pub event_tail_faults : Data → List Refusal
+event_tail_faults d = event_tail_faults_by limits d
+
+abbrev pub event_faults : List ℕ → Data → List Refusal
+event_faults id d = event_faults_by limits id d
 
 unfoldable pub event_in : ℤ → List ℕ → Data → Event
 event_in now id d = record {

@@ -1,3 +1,4 @@
+//! A body as a whole: its numbers are shielded, and it is one object.
 ghost use Rattle.std.specs.Prelude.{◌≡◌, ◌⊎◌, Ok, Err, IfOk, MatchResult, true};
 ghost use Rattle.serde_json.specs.Data.{Data, object, no_members};
 ghost use Rattle.adr_read.specs.Body.{value_of, object_or, object_named};

@@ -1,3 +1,4 @@
+//! The elements of a list, one after the other.
 ghost use Rattle.std.specs.Prelude.{◌≡◌, ◌≢◌, ◌≤◌, ◌∷◌, ◌++◌, [], ℕ, ℤ, pos, List, length, MatchOption, None, Some, OnOk, IfOk, IfErr, IfSome, nat_lt, min, ◌+◌, if◌then◌else◌};
 ghost use Rattle.json.specs.Json.{items, value, after_end_array};
 ghost use Rattle.json.specs.Print.{IsPrintable};

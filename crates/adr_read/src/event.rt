@@ -1,3 +1,4 @@
+//! Events.
 ghost use Rattle.std.specs.Prelude.{◌≡◌, ◌++◌, codes, ℤ, Option, None, List, [], option_map, pos, unwrap_or};
 ghost use Rattle.serde_json.specs.Data.{Data, null};
 ghost use Rattle.adr_value.specs.Faults.{Gives};
@@ -13,10 +14,11 @@ use crate::members::Member;
 use crate::name::MemberName;
 use crate::object::{CommonMembers, Targets, check_line, common_members, targets_of};
 use adr_object::{Event, Id, Interval, Period};
+use adr_value::limits::MOST_INTERVALS;
 use adr_value::{BoundedVec, Refusal, Text, both};
 use std::alloc::Global;
 
-pub(crate) type Intervals = BoundedVec<Interval, 4096>;
+pub(crate) type Intervals = BoundedVec<Interval, MOST_INTERVALS>;
 
 /// The program, the name and the priority of an event.
 pub(crate) type HeadMembers = ((Member<Id>, Member<Text>), Member<u32>);
@@ -69,8 +71,8 @@ fn tail_of(
 ) -> Result<((Targets, Option<Period>), Intervals), Refusal>
     ensures { (moment : ℤ) (t p s : Option Data) → Holds targets_faults targets_in targets.value t
         → Holds period_faults (period_in moment) members.0.value p
-        → Holds (list_faults 4096 interval_faults) (list_in (λ place. interval_in moment (pos place))) members.1.value s
-        → Gives result (optional targets_faults t ++ optional period_faults p ++ required (list_faults 4096 interval_faults) s)
+        → Holds (list_faults MOST_INTERVALS interval_faults) (list_in (λ place. interval_in moment (pos place))) members.1.value s
+        → Gives result (optional targets_faults t ++ optional period_faults p ++ required (list_faults MOST_INTERVALS interval_faults) s)
         ((unwrap_or (option_map targets_in t) [], option_map (period_in moment) p), list_in (λ place. interval_in moment (pos place)) (unwrap_or s null)) }
 {
     let (period, intervals) = members;
@@ -79,7 +81,7 @@ fn tail_of(
 }
 
 /// The event that these members are.
-#[tactic(auto, unfolding(crate::specs::Objects::event_faults, crate::specs::Objects::event_in))]
+#[tactic(auto, unfolding(crate::specs::Objects::event_faults_by, crate::specs::Objects::event_in))]
 pub(crate) fn event(alloc: Global, id: &Id, members: EventMembers) -> Result<Event, Refusal>
     ensures { (moment : ℤ) (d : Data) → Holds text_faults text_in members.0.0.0.value (member_at (codes "objectType") d)
         → Holds text_faults text_in members.0.0.1.value (member_at (codes "id") d)
@@ -88,7 +90,7 @@ pub(crate) fn event(alloc: Global, id: &Id, members: EventMembers) -> Result<Eve
         → Holds text_faults text_in members.1.0.0.1.value (member_at (codes "eventName") d)
         → Holds priority_faults priority_in members.1.0.1.value (member_at (codes "priority") d)
         → Holds period_faults (period_in moment) members.1.1.0.value (member_at (codes "intervalPeriod") d)
-        → Holds (list_faults 4096 interval_faults) (list_in (λ place. interval_in moment (pos place))) members.1.1.1.value (member_at (codes "intervals") d)
+        → Holds (list_faults MOST_INTERVALS interval_faults) (list_in (λ place. interval_in moment (pos place))) members.1.1.1.value (member_at (codes "intervals") d)
         → Gives result (event_faults id.now d) (event_in moment id.now d) }
 {
     let (((body_kind, body_id), targets), (head, tail)) = members;

@@ -1,3 +1,4 @@
+//! The plain values: texts, names, ids, types, numbers and data.
 ghost use Rattle.std.specs.Prelude.{◌≡◌, ◌∷◌, ◌++◌, Option, Some, None, pos, unsigned_abs, unwrap_or, if◌then◌else◌};
 ghost use Rattle.json.specs.Reads.{token_of};
 ghost use Rattle.serde_json.specs.Data.{Data, null, string};

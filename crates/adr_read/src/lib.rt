@@ -13,8 +13,6 @@ mod object;
 mod period;
 mod read;
 mod skip;
-#[cfg(test)]
-mod tests;
 mod text;
 
-pub use read::{read_event, read_program, read_resource, read_ven};
+pub use read::{limit_laws, read_event, read_program, read_resource, read_ven};

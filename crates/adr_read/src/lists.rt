@@ -1,3 +1,4 @@
+//! Lists of values, and the targets and payloads that hold them.
 ghost use Rattle.std.specs.Prelude.{◌≡◌, ◌≢◌, ◌∷◌, ◌++◌, codes, pos, Option, [], unwrap_or};
 ghost use Rattle.json.specs.Print.{IsPrintable};
 ghost use Rattle.json.specs.Reads.{token_of};

@@ -1,3 +1,4 @@
+//! The members of an object, one after the other, each read by its name.
 ghost use Rattle.std.specs.Prelude.{◌≡◌, ◌≢◌, ◌∷◌, ◌++◌, ◌||◌, [], List, ℕ, ℤ, pos, Option, Some, None, false, true, option_map, unwrap_or, MatchOption, OnOk, IfOk, IfErr, IfSome};
 ghost use Rattle.std.specs.Str.{bytes_eq};
 ghost use Rattle.json.specs.Print.{IsPrintable};

@@ -1,3 +1,4 @@
+//! The names of members.
 ghost use Rattle.std.specs.Prelude.{◌≡◌};
 ghost use Rattle.adr_read.specs.Names.{member_text};
 

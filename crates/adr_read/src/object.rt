@@ -1,3 +1,4 @@
+//! Programs, vens and resources, and what all objects share.
 ghost use Rattle.std.specs.Prelude.{◌≡◌, ◌++◌, codes, Option, None, [], option_map, unwrap_or};
 ghost use Rattle.serde_json.specs.Data.{Data, null};
 ghost use Rattle.adr_value.specs.Faults.{Gives};

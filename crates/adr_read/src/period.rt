@@ -1,3 +1,4 @@
+//! Starts, lengths, periods and intervals.
 ghost use Rattle.std.specs.Prelude.{◌≡◌, ◌++◌, ℤ, Option, option_map, unwrap_or};
 ghost use Rattle.serde_json.specs.Data.{Data, null};
 ghost use Rattle.adr_value.specs.Faults.{Gives};

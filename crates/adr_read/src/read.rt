@@ -6,6 +6,7 @@
 //! memory is that of the shielded text, of as many bytes again, and of the object itself.
 ghost use Rattle.adr_value.specs.Answer.{Answers};
 ghost use Rattle.adr_read.specs.Body.{program_named, ven_named, resource_named, event_named};
+ghost use Rattle.adr_read.specs.Larger.{LargerLimitsReadTheSame};
 
 use crate::body::read_object;
 use crate::event::{event, event_members};
@@ -52,3 +53,9 @@ pub fn read_resource(alloc: Global, body: &[u8], id: &Id, now: Moment) -> Result
     let members = (common_members(), (name, Member::named(MemberName::VenId)));
     resource(alloc, id, read_object(alloc, now, body, members)?)
 }
+
+/// What a larger limit of intervals changes: nothing of a body that is not refused for a list above the lesser one.
+#[tactic(auto, using(crate::proofs::Larger::larger_limits_read_the_same))]
+pub fn limit_laws()
+    ensures { LargerLimitsReadTheSame }
+{}

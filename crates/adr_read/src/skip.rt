@@ -74,6 +74,8 @@ fn skip_members(alloc: Global, depth: usize, reader: &mut Reader<'_>) -> Result<
 }
 
 /// Passes where the text of a number is within the range of a float. `BadJson` where it is not.
+/// It stands out of line, so that a level of a value takes little of the stack.
+#[inline(never)]
 fn check_number(alloc: Global, text: &str) -> Result<(), Refusal>
     requires { IsNumber text.now }
     ensures ok { OnOk result (IsSome (number_of text.now)) }

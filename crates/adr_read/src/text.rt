@@ -1,3 +1,4 @@
+//! Texts and numbers of a body, in which a number is a text behind a NUL.
 ghost use Rattle.std.specs.Prelude.{◌≡◌, ◌≢◌, ◌∷◌, option_map};
 ghost use Rattle.json.specs.Print.{IsPrintable};
 ghost use Rattle.json.specs.Reads.{token_of};

@@ -4,6 +4,8 @@ use Rattle.std.specs.Option.{option_map}
 use Rattle.std.proofs.lemmas.Bool.{cases_Bool}
 use Rattle.adr_value.specs.declared.payload.PayloadType.{PayloadType}
 use Rattle.adr_model.specs.declared.entry.Entry.{Entry}
+use Rattle.adr_model.specs.declared.entry.Tie.{Tie}
+use Rattle.adr_model.specs.Rank.{ranked}
 use Rattle.adr_model.specs.Book.{Book}
 use Rattle.adr_model.specs.Edits.{after}
 use Rattle.adr_model.specs.Governor.{candidates, governs, first_of, winner_of, Disturbed}
@@ -19,12 +21,12 @@ candidates_stay edits edit new e id kind t h =
     same_candidates (after edits) new id kind t s.ids (step_sound (after edits) new edit s e).ids (step_succeeds (after edits) new edit s e) h
 
 -- the same candidates, the same governor
-same_governor : (old new : Book) (id : List ℕ) (kind : PayloadType) (t : ℤ) → candidates old id kind t ≡ candidates new id kind t → governs old id kind t ≡ governs new id kind t
+same_governor : (tie : Tie) (old new : Book) (id : List ℕ) (kind : PayloadType) (t : ℤ) → candidates old id kind t ≡ candidates new id kind t → governs tie old id kind t ≡ governs tie new id kind t
 unfolding governs
-same_governor old new id kind t e = ap (λ (l : List Entry). option_map winner_of (first_of l)) e
+same_governor tie old new id kind t e = ap (λ (l : List Entry). option_map winner_of (first_of (map (ranked tie) l))) e
 
-pub governor_stays : AtEachEdit GovernorStays
-governor_stays edits edit new e id kind t h = same_governor (after edits) new id kind t (candidates_stay edits edit new e id kind t h)
+pub governor_stays : (tie : Tie) → AtEachEdit (GovernorStays tie)
+governor_stays tie edits edit new e id kind t h = same_governor tie (after edits) new id kind t (candidates_stay edits edit new e id kind t h)
 
 -- the same candidates are the same set
 undisturbed : (old new : Book) (id : List ℕ) (kind : PayloadType) (t : ℤ) → candidates old id kind t ≡ candidates new id kind t → Disturbed old new id kind t → ⊥

@@ -1,5 +1,5 @@
 -- The first of a list goes before the others.
-use Rattle.std.proofs.Common.{◌≡◌, ℕ, ℤ, ◌==◌, ◌&&◌, Bool, true, false, List, [], ◌∷◌, Option, Some, None, if◌then◌else◌, refl, ap, sym, subst, ◌∙◌, arith, inl, inr, ◌⊎◌}
+use Rattle.std.proofs.Common.{◌≡◌, ℕ, ℤ, ◌==◌, ◌&&◌, Bool, true, false, List, [], ◌∷◌, Option, Some, None, if◌then◌else◌, map, refl, ap, sym, subst, ◌∙◌, arith, inl, inr, ◌⊎◌}
 use Rattle.std.specs.List.{IsDistinct}
 use Rattle.std.proofs.lemmas.Bool.{both_ways}
 use Rattle.std.proofs.lemmas.Bool.Decides.{nat_tests}
@@ -7,30 +7,24 @@ use Rattle.std.specs.Option.{option_map, option_map_or}
 use Rattle.adr_value.specs.declared.payload.PayloadType.{PayloadType}
 use Rattle.adr_model.specs.declared.entry.Entry.{Entry}
 use Rattle.adr_model.specs.declared.entry.Rank.{Rank}
-use Rattle.adr_model.specs.Rank.{goes_before}
+use Rattle.std.proofs.lemmas.Int.{ints}
+use Rattle.adr_model.specs.declared.entry.Tie.{Tie}
+use Rattle.adr_model.specs.Rank.{goes_before, ranked}
+use Rattle.adr_model.proofs.Order.{none_goes_before_itself, not_both_ways, not_going_before_passes_on}
 use Rattle.adr_model.specs.Book.{Book}
 use Rattle.adr_model.specs.Governor.{candidates, governs, first_of, winner_of}
 use Rattle.adr_repair.specs.Lists.{In}
 use Rattle.adr_repair.specs.Ranks.{IsLeast, IsGovernor, same_mark}
 use Rattle.adr_repair.proofs.Lists.{In_from_each}
 
-not_self : (a : Rank) → goes_before a a ≡ false
-not_self a = grind arith
-
-not_both : (a b : Rank) → goes_before a b ≡ true → goes_before b a ≡ false
-not_both a b h = grind arith
-
-not_over : (a b c : Rank) → goes_before a b ≡ false → goes_before b c ≡ false → goes_before a c ≡ false
-not_over a b c h k = grind (arith, nat_tests)
-
 module _ (x f : Entry) (xs : List Entry) (least : IsLeast xs f) where
   none_over_old : goes_before f.rank x.rank ≡ true → (g : Entry) → (x ≡ g) ⊎ In g xs → goes_before g.rank f.rank ≡ false
-  none_over_old t g (inl e) = subst (λ (z : Entry). goes_before z.rank f.rank ≡ false) e (not_both f.rank x.rank t)
+  none_over_old t g (inl e) = subst (λ (z : Entry). goes_before z.rank f.rank ≡ false) e (not_both_ways f.rank x.rank t)
   none_over_old t g (inr m) = least.1 g m
 
   none_over_new : goes_before f.rank x.rank ≡ false → (g : Entry) → (x ≡ g) ⊎ In g xs → goes_before g.rank x.rank ≡ false
-  none_over_new t g (inl e) = subst (λ (z : Entry). goes_before z.rank x.rank ≡ false) e (not_self x.rank)
-  none_over_new t g (inr m) = not_over g.rank f.rank x.rank (least.1 g m) t
+  none_over_new t g (inl e) = subst (λ (z : Entry). goes_before z.rank x.rank ≡ false) e (none_goes_before_itself x.rank)
+  none_over_new t g (inr m) = not_going_before_passes_on g.rank f.rank x.rank (least.1 g m) t
 
   chosen : (b : Bool) → goes_before f.rank x.rank ≡ b → IsLeast (x ∷ xs) (if b then f else x)
   chosen true t = (inr least.0, none_over_old t)
@@ -49,22 +43,27 @@ first_is_least (x ∷ xs) = by (first_of xs) (first_is_least xs)
     by None none = rw none (inl refl, λ g m. none_over_nothing g m)
       where
         none_over_nothing : (g : Entry) → (x ≡ g) ⊎ ⊥ → goes_before g.rank x.rank ≡ false
-        none_over_nothing g (inl e) = subst (λ (z : Entry). goes_before z.rank x.rank ≡ false) e (not_self x.rank)
+        none_over_nothing g (inl e) = subst (λ (z : Entry). goes_before z.rank x.rank ≡ false) e (none_goes_before_itself x.rank)
         none_over_nothing g (inr m) = absurd m
     by (Some f) least = chosen x f xs least (goes_before f.rank x.rank) refl
 
-pub governor_is_least : (book : Book) (id : List ℕ) (kind : PayloadType) (t : ℤ) → IsGovernor book id kind t (governs book id kind t)
+no_ranked : (tie : Tie) (es : List Entry) → map (ranked tie) es ≡ [] → es ≡ []
+no_ranked tie [] h = refl
+no_ranked tie (e ∷ es) h = absurd (cc)
+
+pub governor_is_least : (tie : Tie) (book : Book) (id : List ℕ) (kind : PayloadType) (t : ℤ) → IsGovernor tie book id kind t (governs tie book id kind t)
 unfolding governs
-governor_is_least book id kind t = by (first_of (candidates book id kind t)) (first_is_least (candidates book id kind t))
+governor_is_least tie book id kind t =
+    by (first_of (map (ranked tie) (candidates book id kind t))) (first_is_least (map (ranked tie) (candidates book id kind t)))
   where
-    by : (o : Option Entry) → IsFirst (candidates book id kind t) o → IsGovernor book id kind t (option_map winner_of o)
-    by None none = none
+    by : (o : Option Entry) → IsFirst (map (ranked tie) (candidates book id kind t)) o → IsGovernor tie book id kind t (option_map winner_of o)
+    by None none = no_ranked tie (candidates book id kind t) none
     by (Some e) least = (e, least, refl)
 
 -- ---- of distinct marks there is one least entry
 
 one_mark : (a b : Rank) → goes_before a b ≡ false → goes_before b a ≡ false → ((a.written == b.written) && (a.place == b.place)) ≡ true
-one_mark a b h k = grind (arith, nat_tests)
+one_mark a b h k = grind (arith, ints, nat_tests)
 
 flip_mark : (a b : Entry) → same_mark a b ≡ true → same_mark b a ≡ true
 flip_mark a b h = grind (arith, nat_tests)

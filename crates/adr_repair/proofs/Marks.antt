@@ -13,7 +13,8 @@ use Rattle.adr_model.specs.declared.entry.Entry.{Entry}
 use Rattle.adr_model.specs.declared.entry.Rank.{Rank}
 use Rattle.adr_model.specs.declared.written.Written.{Written}
 use Rattle.adr_model.specs.Layout.{layout}
-use Rattle.adr_model.specs.Rank.{carries}
+use Rattle.adr_model.specs.Rank.{carries, ranked}
+use Rattle.adr_model.specs.declared.entry.Tie.{Tie}
 use Rattle.adr_model.specs.Book.{Book, resource_by}
 use Rattle.adr_model.specs.Governor.{entry_at, entries_of, entries_for, applies_to}
 use Rattle.adr_repair.specs.Lists.{In}
@@ -88,6 +89,6 @@ module _ (kind : PayloadType) where
       by (Some r) = events_apart (filter (applies_to book r) book.events) (distinct_filter eqb (λ (w : Written). w.written) (applies_to book r) book.events s.writes)
 
 -- two intervals of one rank are one
-pub one_interval : (book : Book) → IsSound book → (w v : Written) → In w book.events → In v book.events → (i j : ℕ) (a b : Span)
-    → (entry_at w i a).rank ≡ (entry_at v j b).rank → (w ≡ v) × (i ≡ j)
-one_interval book s w v m n i j a b e = (one_write book.events s.writes w v m n (ap (λ (r : Rank). r.written) e), ap (λ (r : Rank). r.place) e)
+pub one_interval : (tie : Tie) (book : Book) → IsSound book → (w v : Written) → In w book.events → In v book.events → (i j : ℕ) (a b : Span)
+    → (ranked tie (entry_at w i a)).rank ≡ (ranked tie (entry_at v j b)).rank → (w ≡ v) × (i ≡ j)
+one_interval tie book s w v m n i j a b e = (one_write book.events s.writes w v m n (ap (λ (r : Rank). r.written) e), ap (λ (r : Rank). r.place) e)

@@ -11,7 +11,8 @@ use Rattle.adr_object.specs.declared.object.Edit.{Edit}
 use Rattle.adr_object.specs.declared.object.Edit.TheVariants.{Create, Change, Remove}
 use Rattle.adr_model.specs.Book.{Book, empty, event_by}
 use Rattle.adr_model.proofs.EditLemmas.{accepted}
-use Rattle.adr_model.specs.Edits.{step, after, faults, edited, fault_if, layout_faults, reference_faults, is_full_for, most_edits}
+use Rattle.adr_model.specs.Edits.{step, after, faults, edited, fault_if, layout_faults, reference_faults, is_full_for, after_from}
+use Rattle.adr_value.specs.declared.limits.TheConstants.{MOST_VERSION}
 use Rattle.adr_repair.specs.Whole.{IsSound}
 use Rattle.adr_repair.proofs.Keyed.{event_id, is_found}
 use Rattle.adr_repair.proofs.Succession.{Succeeds}
@@ -40,7 +41,7 @@ KeptBy old new = Kept old.version old.events new.events × (new.version ≡ old.
 created_absent : (old : Book) (e : Event) → faults old (Create (event e)) ≡ [] → is_some (event_by old e.id) ≡ false
 created_absent old e f =
     let exists : List Refusal = fault_if (is_some (event_by old e.id)) Exists in
-    let full : List Refusal = fault_if (nat_le most_edits old.version || is_full_for old (Create (event e))) Full in
+    let full : List Refusal = fault_if (nat_le MOST_VERSION old.version || is_full_for old (Create (event e))) Full in
     let first_three = no_faults_before ((layout_faults (event e) ++ exists) ++ reference_faults old (event e)) full f in
     let first_two = no_faults_before (layout_faults (event e) ++ exists) (reference_faults old (event e)) first_three in
     no_fault (is_some (event_by old e.id)) Exists (no_faults_after (layout_faults (event e)) exists first_two)
@@ -93,5 +94,5 @@ fold_sound (x ∷ xs) book s = fold_sound xs (result_unwrap_or (step book x) boo
     by (Err f) e = s
 
 pub after_sound : (edits : List Edit) → IsSound (after edits)
-unfolding after
+unfolding after_from
 after_sound edits = fold_sound edits empty empty_sound

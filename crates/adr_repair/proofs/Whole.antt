@@ -23,7 +23,8 @@ use Rattle.adr_model.specs.declared.written.Written.{Written}
 use Rattle.adr_model.specs.Layout.{layout}
 use Rattle.adr_model.specs.Book.{Book, empty}
 use Rattle.adr_model.proofs.EditLemmas.{accepted}
-use Rattle.adr_model.specs.Edits.{step, after, faults, edited, fault_if, layout_faults, reference_faults, is_named, is_full_for, has_id, most_edits}
+use Rattle.adr_model.specs.Edits.{step, after, faults, edited, fault_if, layout_faults, reference_faults, is_named, is_full_for, has_id, after_from}
+use Rattle.adr_value.specs.declared.limits.TheConstants.{MOST_VERSION}
 use Rattle.adr_repair.specs.Lists.{In}
 use Rattle.adr_repair.specs.Whole.{IsWhole}
 use Rattle.adr_repair.proofs.Steps.{no_fault, no_faults_before, no_faults_after, step_sound, empty_sound}
@@ -40,7 +41,7 @@ written_parts a b c d h =
     (no_faults_before a b ab, no_faults_after a b ab, no_faults_after (a ++ b) c abc)
 
 full_fault : Book → Edit → List Refusal
-full_fault book edit = fault_if (nat_le most_edits book.version || is_full_for book edit) Full
+full_fault book edit = fault_if (nat_le MOST_VERSION book.version || is_full_for book edit) Full
 
 pub created_parts : (book : Book) (o : Object) → faults book (Create o) ≡ []
     → (layout_faults o ≡ []) × (fault_if (has_id book (kind_of o) (id_of o)) Exists ≡ []) × (reference_faults book o ≡ [])
@@ -56,7 +57,7 @@ pub unnamed : (book : Book) (kind : Kind) (id : List ℕ) → faults book (Remov
 unnamed book kind id h =
     no_fault (is_named book kind id) InUse
     (no_faults_after (fault_if (not (has_id book kind id)) NotThere) (fault_if (is_named book kind id) InUse)
-    (no_faults_before (fault_if (not (has_id book kind id)) NotThere ++ fault_if (is_named book kind id) InUse) (fault_if (nat_le most_edits book.version) Full) h))
+    (no_faults_before (fault_if (not (has_id book kind id)) NotThere ++ fault_if (is_named book kind id) InUse) (fault_if (nat_le MOST_VERSION book.version) Full) h))
 
 laid_out : (e : Event) → layout_faults (event e) ≡ [] → IsOk (layout e)
 laid_out e = by (layout e)
@@ -233,5 +234,5 @@ fold_whole (x ∷ xs) book s = fold_whole xs (result_unwrap_or (step book x) boo
     by (Err f) e = s
 
 pub after_whole : (edits : List Edit) → IsWhole (after edits)
-unfolding after
+unfolding after_from
 after_whole edits = fold_whole edits empty empty_whole

@@ -2,6 +2,7 @@
 use Rattle.std.specs.Prelude.{◌≡◌, ◌↔◌, ℕ, ℤ, false, IsTrue, List, Ok, if◌then◌else◌}
 use Rattle.adr_value.specs.declared.payload.PayloadType.{PayloadType}
 use Rattle.adr_object.specs.declared.object.Edit.{Edit}
+use Rattle.adr_model.specs.declared.entry.Tie.{Tie}
 use Rattle.adr_model.specs.Book.{Book}
 use Rattle.adr_model.specs.Edits.{step, after}
 use Rattle.adr_model.specs.Governor.{candidates, governs, Disturbed}
@@ -18,15 +19,15 @@ AtEachEdit P =
 abbrev pub CandidatesStay : Book → Book → List ℕ → PayloadType → ℤ → Type 0
 CandidatesStay old new id kind t = is_touched old new id kind t ≡ false → candidates old id kind t ≡ candidates new id kind t
 
--- and the same one governs
-abbrev pub GovernorStays : Book → Book → List ℕ → PayloadType → ℤ → Type 0
-GovernorStays old new id kind t = is_touched old new id kind t ≡ false → governs old id kind t ≡ governs new id kind t
+-- and the same one governs, under either rule for ties
+abbrev pub GovernorStays : Tie → Book → Book → List ℕ → PayloadType → ℤ → Type 0
+GovernorStays tie old new id kind t = is_touched old new id kind t ≡ false → governs tie old id kind t ≡ governs tie new id kind t
 
 -- the windows cover the disturbed instants and no others
 abbrev pub WindowsAreDisturbed : Book → Book → List ℕ → PayloadType → ℤ → Type 0
 WindowsAreDisturbed old new id kind t = IsTrue (is_touched old new id kind t) ↔ Disturbed old new id kind t
 
 -- what governed before, repaired inside the windows alone, is what governs now
-abbrev pub RepairsAll : Book → Book → List ℕ → PayloadType → ℤ → Type 0
-RepairsAll old new id kind t =
-    (if any_covers (windows_of id kind (touches old new)) t then governs new id kind t else governs old id kind t) ≡ governs new id kind t
+abbrev pub RepairsAll : Tie → Book → Book → List ℕ → PayloadType → ℤ → Type 0
+RepairsAll tie old new id kind t =
+    (if any_covers (windows_of id kind (touches old new)) t then governs tie new id kind t else governs tie old id kind t) ≡ governs tie new id kind t

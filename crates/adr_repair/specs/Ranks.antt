@@ -1,5 +1,5 @@
 -- No two intervals of one book have one rank, and what governs is the candidate of least rank.
-use Rattle.std.specs.Prelude.{◌≡◌, ◌==◌, ◌&&◌, ℕ, ℤ, Bool, false, List, [], Option, Some, None}
+use Rattle.std.specs.Prelude.{◌≡◌, ◌==◌, ◌&&◌, ℕ, ℤ, Bool, false, List, [], map, Option, Some, None}
 use Rattle.std.specs.List.{IsDistinct}
 use Rattle.adr_value.specs.declared.payload.PayloadType.{PayloadType}
 use Rattle.adr_time.specs.declared.span.Span.{Span}
@@ -7,7 +7,8 @@ use Rattle.adr_object.specs.declared.object.Edit.{Edit}
 use Rattle.adr_model.specs.declared.entry.Entry.{Entry}
 use Rattle.adr_model.specs.declared.timeline.Winner.{Winner}
 use Rattle.adr_model.specs.declared.written.Written.{Written}
-use Rattle.adr_model.specs.Rank.{goes_before}
+use Rattle.adr_model.specs.declared.entry.Tie.{Tie}
+use Rattle.adr_model.specs.Rank.{goes_before, ranked}
 use Rattle.adr_model.specs.Book.{Book}
 use Rattle.adr_model.specs.Edits.{after}
 use Rattle.adr_model.specs.Governor.{entry_at, entries_for, candidates, governs, winner_of}
@@ -17,11 +18,11 @@ use Rattle.adr_repair.specs.Lists.{In}
 abbrev pub same_mark : Entry → Entry → Bool
 same_mark a b = (a.rank.written == b.rank.written) && (a.rank.place == b.rank.place)
 
--- two intervals of one rank are one interval of one event
+-- two intervals of one rank are one interval of one event, under either rule for ties
 abbrev pub IntervalsAreApart : Type 0
 IntervalsAreApart =
-    (edits : List Edit) (w v : Written) → In w (after edits).events → In v (after edits).events
-    → (i j : ℕ) (a b : Span) → (entry_at w i a).rank ≡ (entry_at v j b).rank → (w ≡ v) × (i ≡ j)
+    (tie : Tie) (edits : List Edit) (w v : Written) → In w (after edits).events → In v (after edits).events
+    → (i j : ℕ) (a b : Span) → (ranked tie (entry_at w i a)).rank ≡ (ranked tie (entry_at v j b)).rank → (w ≡ v) × (i ≡ j)
 
 -- no two entries of a resource and a type are of one write and one place
 abbrev pub EntriesAreApart : Type 0
@@ -31,13 +32,13 @@ EntriesAreApart = (edits : List Edit) (id : List ℕ) (kind : PayloadType) → I
 abbrev pub IsLeast : List Entry → Entry → Type 0
 IsLeast es e = In e es × ((f : Entry) → In f es → goes_before f.rank e.rank ≡ false)
 
--- the winner of a least candidate, or none where there is no candidate
-abbrev pub IsGovernor : Book → List ℕ → PayloadType → ℤ → Option Winner → Type 0
-IsGovernor book id kind t None = candidates book id kind t ≡ []
-IsGovernor book id kind t (Some w) = (e : Entry) × IsLeast (candidates book id kind t) e × (w ≡ winner_of e)
+-- the winner of a least candidate under the rule for ties, or none where there is no candidate
+abbrev pub IsGovernor : Tie → Book → List ℕ → PayloadType → ℤ → Option Winner → Type 0
+IsGovernor tie book id kind t None = candidates book id kind t ≡ []
+IsGovernor tie book id kind t (Some w) = (e : Entry) × IsLeast (map (ranked tie) (candidates book id kind t)) e × (w ≡ winner_of e)
 
 abbrev pub GovernsTheLeast : Type 0
-GovernsTheLeast = (book : Book) (id : List ℕ) (kind : PayloadType) (t : ℤ) → IsGovernor book id kind t (governs book id kind t)
+GovernsTheLeast = (tie : Tie) (book : Book) (id : List ℕ) (kind : PayloadType) (t : ℤ) → IsGovernor tie book id kind t (governs tie book id kind t)
 
 -- a list of distinct marks has one least entry
 abbrev pub LeastIsOne : Type 0

@@ -5,16 +5,17 @@
 //! An edit's windows are the spans of the events that it brings in, takes away or lets apply otherwise, each with
 //! a resource and a payload type.
 
+ghost use Rattle.adr_model.specs.declared.entry.Tie.{Tie};
 ghost use Rattle.adr_repair.specs.Laws.{AtEachEdit, CandidatesStay, GovernorStays, RepairsAll, WindowsAreDisturbed};
 ghost use Rattle.adr_repair.specs.Ranks.{EntriesAreApart, GovernsTheLeast, IntervalsAreApart, LeastIsOne};
 ghost use Rattle.adr_repair.specs.Table.{TouchesAreTheTable};
 ghost use Rattle.adr_repair.specs.Whole.{BooksAreWhole, StepsKeepWhole};
 
 /// Outside the windows of an accepted edit everything stays: at an instant that no window covers, the same
-/// intervals compete as before, and the same one governs.
+/// intervals compete as before, and the same one governs, under either rule for ties.
 pub fn stays_outside_windows()
     ensures candidates { AtEachEdit CandidatesStay }
-    ensures governor { AtEachEdit GovernorStays }
+    ensures governor { (tie : Tie) → AtEachEdit (GovernorStays tie) }
 {}
 
 /// No window is too wide: at each instant of a window other intervals compete than before the edit, and at no
@@ -26,7 +27,7 @@ pub fn disturbed_inside_windows()
 /// To repair inside the windows is to repair all: take what governs now inside them and what governed before
 /// outside, and you have what governs now.
 pub fn repaired_inside_windows()
-    ensures { AtEachEdit RepairsAll }
+    ensures { (tie : Tie) → AtEachEdit (RepairsAll tie) }
 {}
 
 /// The windows by the kind of the edit: an event that is written or removed touches its old and its new spans,

@@ -5,7 +5,7 @@ mod matching;
 mod ranking;
 mod scene;
 
-pub use adr_model::Rank;
+pub use adr_model::{Rank, Tie};
 pub use matching::{applies, matches};
 pub use ranking::{Meter, before, rank_laws};
 pub use scene::Scene;

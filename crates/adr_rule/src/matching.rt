@@ -1,8 +1,9 @@
+//! Whether the targets of an event and of its program match a resource and its ven.
 ghost use Rattle.std.specs.Prelude.{◌≡◌, ◌&&◌, Option, option_map};
 ghost use Rattle.std.specs.List.{list_any};
 ghost use Rattle.std.specs.Str.{bytes_eq};
 ghost use Rattle.adr_value.specs.Same.{same_datum};
-ghost use Rattle.adr_model.specs.Matching.{is_name as the_is_name, is_event_name as the_is_event_name, has_value as the_has_value, is_matched as the_is_matched, matches as the_matches, applies as the_applies};
+ghost use Rattle.adr_model.specs.Matching.{is_name, is_event_name, has_value, is_matched, matches, applies};
 ghost use Rattle.adr_rule.specs.Scene.{scene_view};
 
 use crate::scene::Scene;
@@ -12,7 +13,7 @@ use adr_value::{Datum, Text};
 /// Whether an event applies to a resource: its own targets and its program's both match (OpenADR 3.0 User Guide,
 /// targeting). It takes no memory. Cost: that of `matches` on the two lists.
 pub fn applies(scene: &Scene<'_>) -> bool
-    ensures { result ≡ the_applies (scene_view scene.now) }
+    ensures { result ≡ applies (scene_view scene.now) }
 {
     matches(scene.event.targets.as_slice(), scene)
         && matches(scene.program.targets.as_slice(), scene)
@@ -26,28 +27,28 @@ pub fn applies(scene: &Scene<'_>) -> bool
 /// It takes no memory. Cost: for each map the list is gone through once, and each value of its type is compared
 /// with the targets of the resource and of its ven, up to the first that matches.
 pub fn matches(targets: &[Target], scene: &Scene<'_>) -> bool
-    ensures { result ≡ the_matches targets.now (scene_view scene.now) }
+    ensures { result ≡ matches targets.now (scene_view scene.now) }
 {
     targets.iter().all(|target| is_type_matched(targets, target.kind.as_str(), scene))
 }
 
 /// Whether some value under the type is matched.
 fn is_type_matched(targets: &[Target], kind: &str, scene: &Scene<'_>) -> bool
-    ensures { result ≡ list_any (λ u. bytes_eq u.kind kind.now && list_any (the_is_matched (scene_view scene.now) kind.now) u.values) targets.now }
+    ensures { result ≡ list_any (λ u. bytes_eq u.kind kind.now && list_any (is_matched (scene_view scene.now) kind.now) u.values) targets.now }
 {
     targets.iter().any(|other| other.kind.as_str() == kind
         && is_any_matched(other.values.as_slice(), kind, scene))
 }
 
 fn is_any_matched(values: &[Datum], kind: &str, scene: &Scene<'_>) -> bool
-    ensures { result ≡ list_any (the_is_matched (scene_view scene.now) kind.now) values.now }
+    ensures { result ≡ list_any (is_matched (scene_view scene.now) kind.now) values.now }
 {
     values.iter().any(|value| is_matched(scene, kind, value))
 }
 
 /// Whether one value under the type is matched.
 fn is_matched(scene: &Scene<'_>, kind: &str, value: &Datum) -> bool
-    ensures { result ≡ the_is_matched (scene_view scene.now) kind.now value.now }
+    ensures { result ≡ is_matched (scene_view scene.now) kind.now value.now }
 {
     if kind == "RESOURCE_NAME" {
         return is_name(value, scene.resource.resource_name.as_str());
@@ -67,7 +68,7 @@ fn is_matched(scene: &Scene<'_>, kind: &str, value: &Datum) -> bool
 
 /// Whether the value is a text equal to the name.
 fn is_name(value: &Datum, name: &str) -> bool
-    ensures { result ≡ the_is_name value.now name.now }
+    ensures { result ≡ is_name value.now name.now }
 {
     match value {
         Datum::Text(text) => text.as_str() == name,
@@ -77,7 +78,7 @@ fn is_name(value: &Datum, name: &str) -> bool
 
 /// An event without a name matches none.
 fn is_event_name(value: &Datum, name: &Option<Text>) -> bool
-    ensures { result ≡ the_is_event_name value.now name.now }
+    ensures { result ≡ is_event_name value.now name.now }
 {
     match name {
         Some(name) => is_name(value, name.as_str()),
@@ -87,7 +88,7 @@ fn is_event_name(value: &Datum, name: &Option<Text>) -> bool
 
 /// Whether the targets have the value under the type.
 fn has_value(targets: &[Target], kind: &str, value: &Datum) -> bool
-    ensures { result ≡ the_has_value targets.now kind.now value.now }
+    ensures { result ≡ has_value targets.now kind.now value.now }
 {
     targets.iter().any(|target| target.kind.as_str() == kind
         && has_datum(target.values.as_slice(), value))

@@ -1,5 +1,6 @@
+//! Which of two ranks goes first, and the count of such comparisons.
 ghost use Rattle.std.specs.Prelude.{◌≡◌, ◌+◌, ◌<◌, ◌^◌};
-ghost use Rattle.adr_model.specs.Rank.{goes_before};
+ghost use Rattle.adr_model.specs.Rank.{breaks_tie, goes_before};
 ghost use Rattle.adr_rule.specs.Laws.{GoingBeforePassesOn, NoneGoesBeforeItself, OneOfTwoGoesBefore};
 
 use adr_model::Rank;
@@ -8,7 +9,7 @@ use std::marker::Model;
 /// Counts comparisons and probes. Contracts see the count.
 #[derive(Drop, Debug)]
 pub struct Meter {
-    count: u64,
+    count: u128,
 }
 
 impl Model for Meter {
@@ -28,38 +29,46 @@ impl Meter {
     }
 
     /// How much was counted.
-    pub fn count(&self) -> u64
+    pub fn count(&self) -> u128
         ensures value { result ≡ self.now }
-        ensures range { result < 2 ^ 64 }
+        ensures range { result < 2 ^ 128 }
     {
         self.count
     }
 
     /// Counts one more.
     pub fn tick(&mut self)
-        requires { self.old + 1 < 2 ^ 64 }
+        requires { self.old + 1 < 2 ^ 128 }
         ensures { self.new ≡ self.old + 1 }
     {
         self.count += 1;
     }
 }
 
+// Which of two ranks of one priority goes before the other.
+fn goes_first(a: &Rank, b: &Rank) -> bool
+    ensures { result ≡ breaks_tie a.now b.now }
+{
+    a.late < b.late
+        || (a.late == b.late
+            && (b.written < a.written || (a.written == b.written && a.place < b.place)))
+}
+
 /// Whether the first rank goes before the second: the lower priority number does (an absent one is 2^32), then the
-/// later write, then the earlier place. It counts one comparison.
+/// lesser `late` (where ties go to the latest start, minus the start), then the later write, then the earlier place.
+/// It counts one comparison.
 pub fn before(a: &Rank, b: &Rank, meter: &mut Meter) -> bool
-    requires room { meter.old + 1 < 2 ^ 64 }
+    requires room { meter.old + 1 < 2 ^ 128 }
     ensures order { result ≡ goes_before a.now b.now }
     ensures counted { meter.new ≡ meter.old + 1 }
 {
     meter.tick();
-    a.priority < b.priority
-        || (a.priority == b.priority
-            && (b.written < a.written || (a.written == b.written && a.place < b.place)))
+    a.priority < b.priority || (a.priority == b.priority && goes_first(a, b))
 }
 
 /// The order of ranks is strict and total: no rank goes before itself, the order passes on, and of two ranks one goes
 /// before the other.
-#[tactic(auto, using(crate::proofs::Order::none_goes_before_itself, crate::proofs::Order::going_before_passes_on, crate::proofs::Order::one_of_two_goes_before))]
+#[tactic(auto, using(adr_model::proofs::Order::none_goes_before_itself, adr_model::proofs::Order::going_before_passes_on, adr_model::proofs::Order::one_of_two_goes_before))]
 pub fn rank_laws()
     ensures strict { NoneGoesBeforeItself }
     ensures passes_on { GoingBeforePassesOn }

@@ -1,3 +1,4 @@
+//! What targets are held against.
 use adr_object::{Event, Program, Resource, Ven};
 
 /// What a list of targets is held against: a resource with its ven, and an event with its program.

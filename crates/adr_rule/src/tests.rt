@@ -216,6 +216,7 @@ const ABSENT: u64 = 4294967296;
 fn rank(priority: u64, written: u64, place: u32) -> Rank {
     Rank {
         priority,
+        late: 0,
         written,
         place,
     }

@@ -4,7 +4,7 @@ use Rattle.std.proofs.lemmas.List.Elements.{recursion_from_All}
 use Rattle.adr_script.specs.Lines.{complete_from, rest_from, last_line, IsPlain}
 use Rattle.adr_script.specs.Script.{LineStep, Told, IsToldInPart}
 use Rattle.adr_script.proofs.Cutting.{complete-append, rest-append, complete-line, rest-line, complete-plain, rest-plain}
-use Rattle.adr_script.proofs.Telling.{told-append, told-one, part-behind, part-one, part-more}
+use Rattle.adr_script.proofs.Telling.{told-append, told-one, part-more}
 
 pub plain : (xs : List ℕ) → All (λ byte. byte ≢ 10) xs → IsPlain xs
 plain xs h = recursion_from_All (λ byte. byte ≢ 10) xs h
@@ -26,16 +26,14 @@ module _ {S : Type 0} (answers : S → List ℕ → List ℕ → S → Type 0) w
       subst (λ ls. Told answers s ls (out ++ reply) u) (sym (lines_more line front end h))
       (told-append answers s t u (complete_from line front) ((rest_from line front ++ end) ∷ []) out reply told (told-one answers t u (rest_from line front ++ end) reply step))
 
-  -- the line's reply is cut short
-  pub told_short : (s t u : S) (line piece front rest end behind out part more : List ℕ) → piece ≡ front ++ rest → rest ≡ end ++ 10 ∷ behind → IsPlain end
-      → Told answers s (complete_from line front) out t → LineStep answers t (rest_from line front ++ end) (part ++ more) u → IsToldInPart answers s (complete_from line piece) (out ++ part) u
-  told_short s t u line piece front rest end behind out part more e split h told step =
-      let here = part-behind answers s t u (complete_from line front) ((rest_from line front ++ end) ∷ []) out part told (part-one answers t u (rest_from line front ++ end) part more step) in
+  -- of the replies to a front of the piece and a line more, some are written
+  pub told_short : (s t : S) (line piece front rest end behind out : List ℕ) → piece ≡ front ++ rest → rest ≡ end ++ 10 ∷ behind
+      → IsToldInPart answers s (complete_from line (front ++ (end ++ 10 ∷ []))) out t → IsToldInPart answers s (complete_from line piece) out t
+  told_short s t line piece front rest end behind out e split here =
       let front' = front ++ (end ++ 10 ∷ []) in
-      let all : complete_from line piece ≡ (complete_from line front ++ (rest_from line front ++ end) ∷ []) ++ complete_from (rest_from line front') behind =
-      ap (complete_from line) (split_more piece front rest end behind e split) ∙ complete-append line front' behind ∙ ap (λ ls. ls ++ complete_from (rest_from line front') behind) (lines_more line front end h) in
-      subst (λ ls. IsToldInPart answers s ls (out ++ part) u) (sym all)
-      (part-more answers s u _ (complete_from (rest_from line front') behind) (out ++ part) here)
+      let all : complete_from line piece ≡ complete_from line front' ++ complete_from (rest_from line front') behind =
+      ap (complete_from line) (split_more piece front rest end behind e split) ∙ complete-append line front' behind in
+      subst (λ ls. IsToldInPart answers s ls out t) (sym all) (part-more answers s t _ (complete_from (rest_from line front') behind) out here)
 
 pub lines_none : (line piece front rest : List ℕ) → piece ≡ front ++ rest → IsPlain rest → complete_from line piece ≡ complete_from line front
 lines_none line piece front rest e h =
@@ -44,6 +42,11 @@ lines_none line piece front rest e h =
 pub rest_none : (line piece front rest : List ℕ) → piece ≡ front ++ rest → IsPlain rest → rest_from line piece ≡ rest_from line front ++ rest
 rest_none line piece front rest e h = ap (rest_from line) e ∙ rest-append line front rest ∙ rest-plain (rest_from line front) rest h
 
-pub last_byte : (line : List ℕ) → 0 < length line → last_line line ≡ line ∷ []
+last_byte : (line : List ℕ) → 0 < length line → last_line line ≡ line ∷ []
 last_byte [] h = absurd (omega arith)
 last_byte (b ∷ line) h = refl
+
+-- the reply to a last line
+pub told_last : {S : Type 0} (answers : S → List ℕ → List ℕ → S → Type 0) (s t : S) (line told : List ℕ) → 0 < length line → LineStep answers s line told t
+    → Told answers s (last_line line) told t
+told_last answers s t line told some step = subst (λ ls. Told answers s ls told t) (sym (last_byte line some)) (told-one answers s t line told step)

@@ -1,13 +1,13 @@
-// One line's reply.
-ghost use Rattle.std.specs.Prelude.{◌≡◌, ◌≤◌, ◌++◌, ℕ, List, [], OnOk, OnErr, IfErr, IfOk, ◌⊎◌, length, vec_capacity};
+//! One line's reply.
+ghost use Rattle.std.specs.Prelude.{◌≡◌, ◌≤◌, ◌++◌, ℕ, List, [], true, false, OnOk, OnErr, IfErr, IfOk, ◌⊎◌, length, vec_capacity};
 ghost use Rattle.std.specs.Io.BufRead.{strip_last};
-ghost use Rattle.std.specs.Io.KnownBytes.{Appends};
 ghost use Rattle.adr_script.specs.Begun.{Holds};
-ghost use Rattle.adr_script.specs.Logs.{IsReplyFault};
+ghost use Rattle.adr_script.specs.Logs.{IsReplyFault, has_write_failed};
 ghost use Rattle.adr_script.specs.Script.{LineStep, no_memory};
+ghost use Rattle.adr_script.specs.Waiting.{IsFresh, Sends};
 
 use crate::line::{Begun, Lost};
-use crate::output::write_fully;
+use crate::output::Waiting;
 use crate::{Fault, Machine, Unanswered, WriteLog};
 use std::alloc::{AllocError, Global};
 use std::io::Write;
@@ -20,71 +20,83 @@ const LONG_LINE: &[u8] = b"refused 1 LongLine\n";
 
 const NO_MEMORY: &[u8] = b"refused 99 NoMemory\n";
 
-/// The line that has begun, and room for a reply.
+/// The line that has begun, room for its reply, and the replies before it.
 #[derive(Drop)]
-pub(crate) struct Desk {
+pub(crate) struct Session {
     pub(crate) begun: Begun,
     pub(crate) reply: Vec<u8>,
+    pub(crate) waiting: Waiting,
 }
 
-impl Desk {
-    pub(crate) fn new(alloc: Global) -> Result<Desk, AllocError>
-        ensures { IfOk result (λ desk. Holds desk.begun [] × (64 ≤ vec_capacity desk.reply)) }
+impl Session {
+    pub(crate) fn new(alloc: Global) -> Result<Session, AllocError>
+        ensures { IfOk result IsFresh }
     {
-        Ok(Desk {
+        Ok(Session {
             begun: Begun::new(alloc),
             reply: Vec::with_capacity(alloc, REPLY_ROOM)?,
+            waiting: Waiting::new(alloc),
         })
     }
 }
 
-/// Answers the line that has begun, and forgets it.
+/// Has the reply to the line that has begun wait, and forgets the line. Where the machine halts, it
+/// writes the replies before.
 pub(crate) fn answer_line<H: AllocGlobal + Threads + Wait, W: Write, M: Machine>(
     rt: &H,
     writer: &mut W,
     writes: &mut WriteLog,
     machine: &mut M,
-    desk: &mut Desk,
+    session: &mut Session,
 ) -> Result<(), Fault>
-    requires { 64 ≤ vec_capacity desk.old.reply }
-    ensures room { 64 ≤ vec_capacity desk.new.reply }
-    ensures cleared { OnOk result (Holds desk.new.begun []) }
+    requires room { 64 ≤ vec_capacity session.old.reply }
+    requires fresh { has_write_failed writes.old ≡ false }
+    ensures unfailed { OnOk result (has_write_failed writes.new ≡ false) }
+    ensures ends { has_write_failed writes.new ≡ true → result ≡ Err Fault.Writing }
+    ensures room { 64 ≤ vec_capacity session.new.reply }
+    ensures cleared { OnOk result (Holds session.new.begun []) }
     ensures fault { IfErr result (IsReplyFault writes.new M.halts) }
-    ensures ok { OnOk result ((line : List ℕ) → Holds desk.old.begun line → (told : List ℕ)
+    ensures ok { OnOk result ((line : List ℕ) → Holds session.old.begun line → (told : List ℕ)
         × LineStep M.answers machine.old line told machine.new
-        × Appends (W.contents writer.old) (W.contents writer.new) told) }
-    ensures err { OnErr result ((line : List ℕ) → Holds desk.old.begun line
-        → (part : List ℕ) × (more : List ℕ)
-        × LineStep M.answers machine.old line (part ++ more) machine.new
-        × Appends (W.contents writer.old) (W.contents writer.new) part) }
+        × Sends (W.contents writer.old) (W.contents writer.new)
+        session.old.waiting.bytes.items session.new.waiting.bytes.items told) }
+    ensures err { OnErr result ((line : List ℕ) → Holds session.old.begun line
+        → (told : List ℕ) × (lost : List ℕ)
+        × LineStep M.answers machine.old line told machine.new
+        × Sends (W.contents writer.old) (W.contents writer.new)
+        session.old.waiting.bytes.items lost told) }
 {
-    make_reply(rt, machine, desk)?;
-    desk.begun.clear();
-    write_fully(writes, writer, &desk.reply)
+    if let Err(fault) = make_reply(rt, machine, session) {
+        session.waiting.flush(writer, writes)?;
+        return Err(fault);
+    }
+    session.begun.clear();
+    session.waiting.send(writer, writes, &session.reply)
 }
 
 /// Makes the reply to the line that has begun.
 fn make_reply<H: AllocGlobal + Threads + Wait, M: Machine>(
     rt: &H,
     machine: &mut M,
-    desk: &mut Desk,
+    session: &mut Session,
 ) -> Result<(), Fault>
-    requires { 64 ≤ vec_capacity desk.old.reply }
-    ensures room { 64 ≤ vec_capacity desk.new.reply }
-    ensures ok { OnOk result ((line : List ℕ) → Holds desk.old.begun line
-        → LineStep M.answers machine.old line desk.new.reply.items machine.new) }
+    requires { 64 ≤ vec_capacity session.old.reply }
+    ensures room { 64 ≤ vec_capacity session.new.reply }
+    ensures waiting { session.new.waiting.bytes.items ≡ session.old.waiting.bytes.items }
+    ensures ok { OnOk result ((line : List ℕ) → Holds session.old.begun line
+        → LineStep M.answers machine.old line session.new.reply.items machine.new) }
     ensures err { OnErr result (machine.new ≡ machine.old) }
     ensures fault { OnErr result ((result ≡ Err Fault.Runtime) × M.halts) }
 {
-    desk.reply.clear();
-    match desk.begun.lost {
-        Some(Lost::TooLong) => put(&mut desk.reply, LONG_LINE),
-        Some(Lost::NoMemory) => put(&mut desk.reply, NO_MEMORY),
+    session.reply.clear();
+    match session.begun.lost {
+        Some(Lost::TooLong) => put(&mut session.reply, LONG_LINE),
+        Some(Lost::NoMemory) => put(&mut session.reply, NO_MEMORY),
         None => ask(
             rt,
             machine,
-            without_return(&desk.begun.bytes),
-            &mut desk.reply,
+            without_return(&session.begun.bytes),
+            &mut session.reply,
         )?,
     }
     Ok(())

@@ -1,4 +1,4 @@
-// How a run ended.
+//! How a run ended.
 ghost use Rattle.std.specs.Prelude.{◌≡◌, OnOk, OnErr};
 
 use thiserror::Error;
@@ -12,7 +12,7 @@ pub enum Fault {
     /// 4,294,967,296 reads were made, and the input hadn't ended.
     #[error("too many reads")]
     Reads,
-    /// A write failed, or took no byte.
+    /// A write failed, took no byte, or was interrupted 4,294,967,296 times in a row.
     #[error("writing failed")]
     Writing,
     /// There was no memory to start with, or the machine found no runtime for a line.

@@ -1,4 +1,4 @@
-// How bytes are cut into lines, and which text machines tell, in other words.
+//! How bytes are cut into lines, and which text machines tell, in other words.
 ghost use Rattle.std.specs.Prelude.{◌≡◌, ℕ, Bool, List, [], IsTrue};
 ghost use Rattle.adr_script.specs.Lines.{complete_lines, rest_from, Cuts};
 ghost use Rattle.adr_script.specs.Text.{text, text_but};

@@ -22,6 +22,3 @@ pub use laws::{
 pub use log::{ReadLog, WriteLog};
 pub use machine::{Machine, Unanswered};
 pub use reading::serve;
-
-#[cfg(test)]
-mod tests;

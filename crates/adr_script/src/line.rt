@@ -1,4 +1,4 @@
-// The line that has begun.
+//! The line that has begun.
 ghost use Rattle.std.specs.Prelude.{◌≡◌, ◌+◌, ◌<◌, ◌≤◌, ◌++◌, ℕ, List, [], length, IsTrue, ◌↔◌};
 ghost use Rattle.adr_script.specs.Begun.{Holds};
 

@@ -1,11 +1,16 @@
-// What a run's reads and writes met. The fields are private here, so only a read or a write that
-// was made can set them.
-ghost use Rattle.std.specs.Prelude.{◌≡◌, ◌+◌, ◌^◌, ◌≤◌, ◌<◌, ℕ, true, false, length, take, IfOk, OnErr, []};
+//! What a run's reads and writes met. The fields are private here, so only a read or a write that
+//! was made can set them.
+ghost use Rattle.std.specs.Prelude.{◌≡◌, ◌≢◌, ◌+◌, ◌^◌, ◌≤◌, ◌<◌, ℕ, true, false, length, take, Ok, Err, Some, None, IfOk, IfErr, OnOk, OnErr, []};
+ghost use Rattle.std.specs.IoError.{error_kind};
 ghost use Rattle.std.specs.Io.KnownBytes.{Appends, Keeps};
 ghost use Rattle.adr_script.specs.Logs.{reads_made, has_read_failed, has_ended, has_write_failed, Gives};
 
 use crate::Fault;
+use std::io;
 use std::io::{ErrorKind, Read, Write};
+
+/// How often an interrupted write is tried.
+const MAX_TRIES: u64 = 4_294_967_296;
 
 /// What one read gave.
 #[derive(Clone, Copy, PartialEq, Eq)]
@@ -46,16 +51,30 @@ impl ReadLog {
         ensures ok { IfOk result (Gives (R.remaining reader.old) (R.remaining reader.new)
             piece.new self.new) }
         ensures kept { OnErr result (Keeps (R.remaining reader.old) (R.remaining reader.new)) }
+        ensures unfailed { OnOk result (has_read_failed self.new ≡ has_read_failed self.old) }
         ensures err { OnErr result ((has_read_failed self.new ≡ true)
             × (result ≡ Err Fault.Reading)) }
     {
         self.made += 1;
-        match reader.read(piece) {
+        let outcome = reader.read(piece);
+        self.note(&outcome)
+    }
+
+    /// What a read gave. An error that is no interruption is a fault.
+    fn note(&mut self, outcome: &io::Result<usize>) -> Result<Given, Fault>
+        ensures made { reads_made self.new ≡ reads_made self.old }
+        ensures end { outcome.now ≡ Ok 0 → (result ≡ Ok Given.End) × (has_ended self.new ≡ true) }
+        ensures bytes { IfOk outcome.now (λ n. 0 < n → result ≡ Ok (Given.Bytes n)) }
+        ensures interrupted { IfErr outcome.now (λ e. error_kind e ≡ ErrorKind.Interrupted → result ≡ Ok Given.Nothing) }
+        ensures failed { IfErr outcome.now (λ e. error_kind e ≢ ErrorKind.Interrupted → (result ≡ Err Fault.Reading) × (has_read_failed self.new ≡ true)) }
+        ensures unfailed { OnOk result (has_read_failed self.new ≡ has_read_failed self.old) }
+    {
+        match outcome {
             Ok(0) => {
                 self.ended = true;
                 Ok(Given::End)
             }
-            Ok(count) => Ok(Given::Bytes(count)),
+            Ok(count) => Ok(Given::Bytes(*count)),
             Err(error) if error.kind() == ErrorKind::Interrupted => Ok(Given::Nothing),
             Err(_) => {
                 self.failed = true;
@@ -79,20 +98,44 @@ impl WriteLog {
         WriteLog { failed: false }
     }
 
-    /// One write, which takes a byte or more at `Ok`.
+    /// One write, which takes a byte or more at `Ok`. It is tried again while it is interrupted.
     pub(crate) fn write<W: Write>(&mut self, writer: &mut W, bytes: &[u8]) -> Result<usize, Fault>
         requires { 0 < length bytes.now }
         ensures ok { IfOk result (λ n. (0 < n) × (n ≤ length bytes.now)
             × Appends (W.contents writer.old) (W.contents writer.new) (take n bytes.now)) }
+        ensures unfailed { OnOk result (has_write_failed self.new ≡ has_write_failed self.old) }
         ensures err { OnErr result (Appends (W.contents writer.old) (W.contents writer.new) []
             × (has_write_failed self.new ≡ true) × (result ≡ Err Fault.Writing)) }
     {
-        match writer.write(bytes) {
-            Ok(0) | Err(_) => {
+        for _ in 0..MAX_TRIES {
+            let outcome = writer.write(bytes);
+            if let Some(count) = self.note(&outcome)? {
+                return Ok(count);
+            }
+        }
+        self.failed = true;
+        Err(Fault::Writing)
+    }
+
+    /// How many bytes a write took, or `None` where it was interrupted. No byte is a fault, and so
+    /// is any other error.
+    fn note(&mut self, outcome: &io::Result<usize>) -> Result<Option<usize>, Fault>
+        ensures taken { IfOk outcome.now (λ n. 0 < n → result ≡ Ok (Some n)) }
+        ensures nothing { outcome.now ≡ Ok 0 → (result ≡ Err Fault.Writing)
+            × (has_write_failed self.new ≡ true) }
+        ensures interrupted { IfErr outcome.now (λ e. error_kind e ≡ ErrorKind.Interrupted
+            → result ≡ Ok None) }
+        ensures failed { IfErr outcome.now (λ e. error_kind e ≢ ErrorKind.Interrupted
+            → (result ≡ Err Fault.Writing) × (has_write_failed self.new ≡ true)) }
+        ensures unfailed { OnOk result (has_write_failed self.new ≡ has_write_failed self.old) }
+    {
+        match outcome {
+            Ok(count) if *count > 0 => Ok(Some(*count)),
+            Err(error) if error.kind() == ErrorKind::Interrupted => Ok(None),
+            Ok(_) | Err(_) => {
                 self.failed = true;
                 Err(Fault::Writing)
             }
-            Ok(count) => Ok(count),
         }
     }
 }

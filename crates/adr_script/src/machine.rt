@@ -1,4 +1,4 @@
-// What a script's lines are handed to.
+//! What a script's lines are handed to.
 ghost use Rattle.std.specs.Prelude.{◌≡◌, ◌≤◌, ℕ, List, [], OnOk, OnErr, IsErrOf, vec_capacity};
 ghost use Rattle.adr_script.specs.declared.machine.Unanswered.TheVariants.{NoMemory};
 

@@ -1,12 +1,14 @@
-// The read loop.
-ghost use Rattle.std.specs.Prelude.{◌≡◌, ◌⊎◌, ◌≤◌, ◌<◌, ◌^◌, ◌∷◌, ◌++◌, ◌≢◌, ℕ, List, [], true, OnOk, OnErr, IsErrOf, IfOk, IfErr, IfSome, IfNone, All, take, slice_index, vec_capacity, vec_len, length};
+//! The read loop.
+ghost use Rattle.std.specs.Prelude.{◌≡◌, ◌⊎◌, ◌≤◌, ◌<◌, ◌^◌, ◌∷◌, ◌++◌, ◌≢◌, ℕ, List, [], true, false, OnOk, OnErr, IsErrOf, IfOk, IfErr, IfSome, IfNone, All, take, slice_index, vec_capacity, vec_len, length};
 ghost use Rattle.std.specs.Io.KnownBytes.{Appends, Keeps, IsAtEnd};
 ghost use Rattle.adr_script.specs.Begun.{Holds};
 ghost use Rattle.adr_script.specs.Logs.{reads_made, has_read_failed, has_ended, has_write_failed, IsReplyFault};
 ghost use Rattle.adr_script.specs.Lines.{all_lines, complete_lines, complete_from, rest_from, last_line};
 ghost use Rattle.adr_script.specs.Script.{Told, IsToldInPart, Moves};
+ghost use Rattle.adr_script.specs.Ending.{Ends};
+ghost use Rattle.adr_script.specs.Waiting.{IsFresh};
 
-use crate::answering::{Desk, answer_line};
+use crate::answering::{Session, answer_line};
 use crate::log::Given;
 use crate::{Fault, Machine, ReadLog, WriteLog};
 use std::alloc::{AllocError, Global};
@@ -35,7 +37,9 @@ pub fn serve<H: AllocGlobal + Threads + Wait, R: Read, W: Write, M: Machine>(
     writes: &mut WriteLog,
     machine: &mut M,
 ) -> Result<(), Fault>
-    requires { reads_made reads.old ≡ 0 }
+    requires made { reads_made reads.old ≡ 0 }
+    requires no_read { has_read_failed reads.old ≡ false }
+    requires no_write { has_write_failed writes.old ≡ false }
 
     // All was read, and each line was answered.
     ensures ok { OnOk result (Moves (R.remaining reader.old)
@@ -67,21 +71,67 @@ pub fn serve<H: AllocGlobal + Threads + Wait, R: Read, W: Write, M: Machine>(
 
     // A fault has a cause: a read or a write that failed, or all the reads that there are; and
     // `Ok` has the end.
+    ensures bound { reads_made reads.new ≤ 2 ^ 32 }
     ensures ended { OnOk result (has_ended reads.new ≡ true) }
+    ensures read_ends { has_read_failed reads.new ≡ true → result ≡ Err Fault.Reading }
+    ensures write_ends { has_write_failed writes.new ≡ true → result ≡ Err Fault.Writing }
     ensures read_failed { IsErrOf result Fault.Reading → has_read_failed reads.new ≡ true }
     ensures no_more_reads { IsErrOf result Fault.Reads → reads_made reads.new ≡ 2 ^ 32 }
     ensures write_failed { IsErrOf result Fault.Writing → has_write_failed writes.new ≡ true }
 {
-    let (Ok(mut buffer), Ok(mut desk)) = (zeros(rt.alloc(), PIECE), Desk::new(rt.alloc())) else {
-        return Err(Fault::Runtime);
-    };
-    let piece = buffer.as_mut_slice();
+    match Buffers::new(rt.alloc()) {
+        Ok(mut buffers) => serve_reads(rt, reader, reads, writer, writes, machine, &mut buffers),
+        Err(_) => Err(Fault::Runtime),
+    }
+}
+
+/// What a run keeps in memory beside its machine: a piece of the input, and what is made of it.
+#[derive(Drop)]
+struct Buffers {
+    piece: Vec<u8>,
+    session: Session,
+}
+
+impl Buffers {
+    fn new(alloc: Global) -> Result<Buffers, AllocError>
+        ensures piece { IfOk result (λ buffers. 0 < vec_len buffers.piece) }
+        ensures session { IfOk result (λ buffers. IsFresh buffers.session) }
+    {
+        Ok(Buffers {
+            piece: zeros(alloc, PIECE)?,
+            session: Session::new(alloc)?,
+        })
+    }
+}
+
+/// Reads pieces to the end, and answers the lines of each before the next.
+fn serve_reads<H: AllocGlobal + Threads + Wait, R: Read, W: Write, M: Machine>(
+    rt: &H,
+    reader: &mut R,
+    reads: &mut ReadLog,
+    writer: &mut W,
+    writes: &mut WriteLog,
+    machine: &mut M,
+    buffers: &mut Buffers,
+) -> Result<(), Fault>
+    requires piece { 0 < vec_len buffers.old.piece }
+    requires session { IsFresh buffers.old.session }
+    requires made { reads_made reads.old ≡ 0 }
+    requires no_read { has_read_failed reads.old ≡ false }
+    requires no_write { has_write_failed writes.old ≡ false }
+    ensures bound { reads_made reads.new ≤ 2 ^ 32 }
+    ensures ends { Ends M.answers M.halts (R.remaining reader.old) (R.remaining reader.new)
+        (W.contents writer.old) (W.contents writer.new) machine.old machine.new
+        reads.new writes.new result }
+{
+    let piece = buffers.piece.as_mut_slice();
+    let session = &mut buffers.session;
     for _ in 0..MAX_READS {
         match reads.read(reader, piece)? {
             Given::Bytes(count) => {
-                serve_piece(rt, &piece[..count], writer, writes, machine, &mut desk)?
+                serve_piece(rt, &piece[..count], writer, writes, machine, session)?
             }
-            Given::End => return finish(rt, writer, writes, machine, &mut desk),
+            Given::End => return finish(rt, writer, writes, machine, session),
             Given::Nothing => {}
         }
     }
@@ -100,21 +150,26 @@ fn finish<H: AllocGlobal + Threads + Wait, W: Write, M: Machine>(
     writer: &mut W,
     writes: &mut WriteLog,
     machine: &mut M,
-    desk: &mut Desk,
+    session: &mut Session,
 ) -> Result<(), Fault>
-    requires { 64 ≤ vec_capacity desk.old.reply }
+    requires room { 64 ≤ vec_capacity session.old.reply }
+    requires none { session.old.waiting.bytes.items ≡ [] }
+    requires fresh { has_write_failed writes.old ≡ false }
+    ensures unfailed { OnOk result (has_write_failed writes.new ≡ false) }
+    ensures ends { has_write_failed writes.new ≡ true → result ≡ Err Fault.Writing }
     ensures fault { IfErr result (IsReplyFault writes.new M.halts) }
-    ensures ok { OnOk result ((line : List ℕ) → Holds desk.old.begun line → (out : List ℕ)
+    ensures ok { OnOk result ((line : List ℕ) → Holds session.old.begun line → (out : List ℕ)
         × Appends (W.contents writer.old) (W.contents writer.new) out
         × Told M.answers machine.old (last_line line) out machine.new) }
-    ensures err { OnErr result ((line : List ℕ) → Holds desk.old.begun line → (out : List ℕ)
+    ensures err { OnErr result ((line : List ℕ) → Holds session.old.begun line → (out : List ℕ)
         × Appends (W.contents writer.old) (W.contents writer.new) out
         × IsToldInPart M.answers machine.old (last_line line) out machine.new) }
 {
-    if desk.begun.has_byte() {
-        answer_line(rt, writer, writes, machine, desk)?;
+    if !session.begun.has_byte() {
+        return Ok(());
     }
-    Ok(())
+    answer_line(rt, writer, writes, machine, session)?;
+    session.waiting.flush(writer, writes)
 }
 
 /// Takes a piece of the input, and answers each line that is complete now.
@@ -124,27 +179,32 @@ fn serve_piece<H: AllocGlobal + Threads + Wait, W: Write, M: Machine>(
     writer: &mut W,
     writes: &mut WriteLog,
     machine: &mut M,
-    desk: &mut Desk,
+    session: &mut Session,
 ) -> Result<(), Fault>
-    requires { 64 ≤ vec_capacity desk.old.reply }
-    ensures room { 64 ≤ vec_capacity desk.new.reply }
+    requires room { 64 ≤ vec_capacity session.old.reply }
+    requires none { session.old.waiting.bytes.items ≡ [] }
+    requires fresh { has_write_failed writes.old ≡ false }
+    ensures unfailed { OnOk result (has_write_failed writes.new ≡ false) }
+    ensures ends { has_write_failed writes.new ≡ true → result ≡ Err Fault.Writing }
+    ensures room { 64 ≤ vec_capacity session.new.reply }
+    ensures none { OnOk result (session.new.waiting.bytes.items ≡ []) }
     ensures fault { IfErr result (IsReplyFault writes.new M.halts) }
-    ensures ok { OnOk result ((line : List ℕ) → Holds desk.old.begun line
-        → Holds desk.new.begun (rest_from line piece.now)
+    ensures ok { OnOk result ((line : List ℕ) → Holds session.old.begun line
+        → Holds session.new.begun (rest_from line piece.now)
         × ((out : List ℕ) × Appends (W.contents writer.old) (W.contents writer.new) out
         × Told M.answers machine.old (complete_from line piece.now) out machine.new)) }
-    ensures err { OnErr result ((line : List ℕ) → Holds desk.old.begun line → (out : List ℕ)
+    ensures err { OnErr result ((line : List ℕ) → Holds session.old.begun line → (out : List ℕ)
         × Appends (W.contents writer.old) (W.contents writer.new) out
         × IsToldInPart M.answers machine.old (complete_from line piece.now) out machine.new) }
 {
     let mut rest = piece;
     while let Some((end, behind)) = split_line(rest) {
-        desk.begun.add(end);
-        answer_line(rt, writer, writes, machine, desk)?;
+        session.begun.add(end);
+        answer_line(rt, writer, writes, machine, session)?;
         rest = behind;
     }
-    desk.begun.add(rest);
-    Ok(())
+    session.begun.add(rest);
+    session.waiting.flush(writer, writes)
 }
 
 /// What stands before the first line feed, and behind it.

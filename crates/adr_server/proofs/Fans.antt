@@ -6,21 +6,22 @@ use Rattle.std.specs.Io.BufRead.{strip_last}
 use Rattle.std.proofs.lemmas.List.{length_push}
 use Rattle.adr_value.specs.declared.refusal.Refusal.{Refusal}
 use Rattle.adr_model.specs.Book.{Book}
-use Rattle.adr_model.specs.Edits.{step, after}
-use Rattle.adr_model.specs.Machine.{State, Reply, refused, published as published_as, last_number, after_edit, most_publications}
+use Rattle.adr_value.specs.declared.limits.TheConstants.{MOST_PUBLICATIONS}
+use Rattle.adr_model.specs.Edits.{full_at, step_to}
+use Rattle.adr_model.specs.Machine.{Publication, State, Reply, refused, published as published_as, last_number, after_edit}
+use Rattle.adr_model.specs.Queries.{Query, at_query}
 use Rattle.adr_value.specs.declared.refusal.Refusal.TheVariants.{Full}
 use Rattle.adr_object.specs.declared.object.Edit.{Edit as Change}
-use Rattle.adr_script.specs.Lines.{all_lines}
 use Rattle.adr_script.specs.Text.{state_but, after_line}
 use Rattle.adr_server.specs.declared.command.Command.{Command}
-use Rattle.adr_server.specs.declared.command.Command.TheVariants.{Edit, Publish, At}
+use Rattle.adr_server.specs.declared.command.Command.TheVariants.{Edit, Publish, Condense, At}
 use Rattle.adr_server.specs.Line.{line_named}
 use Rattle.adr_server.specs.Text.{command_next, next_or}
 use Rattle.adr_server.specs.Fan.{Sent, Fan, fan_start, most_queries, with_query, editor_next, fan_next, answer_from, IsReaderPart, AreReaderParts, part_from_last, parts_from_last, parts_after, FanRunsTheScript, ReadersMayAnswerAtTheEnd}
 
 -- ---- the editor's machine
 
-unsent : (fan : Fan) (query : Command) (b : Bool) → (if b then record fan { sent = fan.sent ++ (record { query = query; number = last_number fan.machine }) ∷ [] } else fan).machine ≡ fan.machine
+unsent : (fan : Fan) (query : Query) (b : Bool) → (if b then record fan { sent = fan.sent ++ (record { query = query; number = last_number fan.machine }) ∷ [] } else fan).machine ≡ fan.machine
 unsent fan query true = refl
 unsent fan query false = refl
 
@@ -28,7 +29,8 @@ next_machine : (fan : Fan) (r : Result Command Refusal) → (next_or fan (editor
 next_machine fan (Err f) = refl
 next_machine fan (Ok (Edit x)) = refl
 next_machine fan (Ok Publish) = refl
-next_machine fan (Ok (At id kind moment)) = unsent fan (At id kind moment) (nat_lt (length fan.sent) most_queries)
+next_machine fan (Ok Condense) = refl
+next_machine fan (Ok (At id kind moment)) = unsent fan (at_query id kind moment) (nat_lt (length fan.sent) most_queries)
 
 pub fan_runs_the_script : FanRunsTheScript
 fan_runs_the_script fan line = next_machine fan (line_named line)
@@ -54,19 +56,22 @@ edited fan x (Ok book) h = h
 edited fan x (Err f) h = h
 
 published : (fan : Fan) (b : Bool) (reply full : Reply) → IsTimely fan
-    → IsTimely (record fan { machine = (if◌then◌else◌ {A = Reply × State} b (reply, record fan.machine { published = fan.machine.published ++ fan.machine.journal ∷ [] }) (full, fan.machine)).1 })
-published fan true reply full h = later (last_number fan.machine) (length (fan.machine.published ++ fan.machine.journal ∷ []) - 1) fan.sent (rw (length_push fan.machine.published fan.machine.journal) grind arith) h
+    → IsTimely (record fan { machine = (if◌then◌else◌ {A = Reply × State} b (reply, record fan.machine { published = fan.machine.published ++ record { book = fan.machine.current; batch = fan.machine.pending } ∷ []; pending = [] }) (full, fan.machine)).1 })
+published fan true reply full h =
+    let one : Publication = record { book = fan.machine.current; batch = fan.machine.pending } in
+    later (last_number fan.machine) (length (fan.machine.published ++ one ∷ []) - 1) fan.sent (rw (length_push fan.machine.published one) grind arith) h
 published fan false reply full h = h
 
-sent_on : (fan : Fan) (query : Command) (b : Bool) → IsTimely fan → IsTimely (if b then record fan { sent = fan.sent ++ (record { query = query; number = last_number fan.machine }) ∷ [] } else fan)
+sent_on : (fan : Fan) (query : Query) (b : Bool) → IsTimely fan → IsTimely (if b then record fan { sent = fan.sent ++ (record { query = query; number = last_number fan.machine }) ∷ [] } else fan)
 sent_on fan query true h = pushed (last_number fan.machine) fan.sent (record { query = query; number = last_number fan.machine }) (grind arith) h
 sent_on fan query false h = h
 
 timely_next : (fan : Fan) (r : Result Command Refusal) → IsTimely fan → IsTimely (next_or fan (editor_next fan) r)
 timely_next fan (Err f) h = h
-timely_next fan (Ok (Edit x)) h = edited fan x (step (after fan.machine.journal) x) h
-timely_next fan (Ok Publish) h = published fan (nat_lt (last_number fan.machine) most_publications) (published_as (length fan.machine.published) (length fan.machine.journal)) (refused Full) h
-timely_next fan (Ok (At id kind moment)) h = sent_on fan (At id kind moment) (nat_lt (length fan.sent) most_queries) h
+timely_next fan (Ok (Edit x)) h = edited fan x (step_to (full_at fan.machine.base) fan.machine.current x) h
+timely_next fan (Ok Publish) h = published fan (nat_lt (last_number fan.machine) MOST_PUBLICATIONS) (published_as (length fan.machine.published) fan.machine.current.version) (refused Full) h
+timely_next fan (Ok Condense) h = h
+timely_next fan (Ok (At id kind moment)) h = sent_on fan (at_query id kind moment) (nat_lt (length fan.sent) most_queries) h
 
 timely_if : (b : Bool) (fan next : Fan) → IsTimely fan → IsTimely next → IsTimely (if b then fan else next)
 timely_if true fan next h k = h
@@ -91,6 +96,6 @@ parts_are s sent reader (suc count) all =
     (part_from_last s sent, parts_from_last s sent (reader + 1) count, part_is s sent 0 (grind arith) all, parts_are s sent (reader + 1) count all, refl)
 
 pub readers_may_answer_at_the_end : ReadersMayAnswerAtTheEnd
-readers_may_answer_at_the_end bytes readers =
-    let end : Fan = state_but fan_next [] fan_start (all_lines bytes) in
-    ([], parts_after end readers, parts_are end.machine end.sent 0 readers (timely_after (all_lines bytes) fan_start tt), refl)
+readers_may_answer_at_the_end tie lines readers =
+    let end : Fan = state_but fan_next [] (fan_start tie) lines in
+    ([], parts_after end readers, parts_are end.machine end.sent 0 readers (timely_after lines (fan_start tie) tt), refl)

@@ -1,5 +1,6 @@
 mod Digits
 mod Fans
 mod Journals
+mod Larger
 mod Printed
 mod Words

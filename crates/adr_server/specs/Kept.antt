@@ -1,17 +1,17 @@
--- The same machine, seen by what the plain machine keeps: the objects, and not the journals that left them.
-use Rattle.std.specs.Prelude.{◌≡◌, ◌≤◌, ◌<◌, ℕ, ◌+◌, nat_lt, List, length, Result, Ok, Err, if◌then◌else◌}
+-- The same machine, seen by what the plain machine keeps: the objects, and not the batches that left them.
+use Rattle.std.specs.Prelude.{◌≡◌, ℕ, ◌+◌, nat_lt, List, [], length, Option, Some, None, Result, Ok, Err, if◌then◌else◌}
+use Rattle.adr_value.specs.declared.limits.TheConstants.{MOST_PUBLICATIONS}
 use Rattle.adr_value.specs.declared.refusal.Refusal.{Refusal}
 use Rattle.adr_value.specs.declared.refusal.Refusal.TheVariants.{Full}
-use Rattle.adr_object.specs.declared.object.Edit.{Edit as Change}
-use Rattle.adr_model.specs.Answer.{at}
 use Rattle.adr_model.specs.Book.{Book}
-use Rattle.adr_model.specs.Edits.{step, after}
-use Rattle.adr_model.specs.Machine.{State, last_journal, last_number, most_publications}
+use Rattle.adr_model.specs.Edits.{full_at, step_to}
+use Rattle.adr_model.specs.Machine.{State, last_book}
+use Rattle.adr_model.specs.Queries.{Query, answer}
 use Rattle.adr_plain.specs.Kept.{Kept}
 use Rattle.adr_server.specs.declared.command.Command.{Command}
-use Rattle.adr_server.specs.declared.command.Command.TheVariants.{Edit, Publish, At}
+use Rattle.adr_server.specs.declared.command.Command.TheVariants.{Edit, Publish, Condense}
 use Rattle.adr_server.specs.Line.{line_named}
-use Rattle.adr_server.specs.Text.{ok_line, published_line, refusal_line, answer_line, reply_or, next_or}
+use Rattle.adr_server.specs.Text.{ok_line, published_line, condensed_line, refusal_line, answer_line, query_of, reply_or, next_or}
 
 abbrev pub edit_reply : Result Book Refusal → List ℕ
 edit_reply (Ok book) = ok_line book.version
@@ -22,23 +22,29 @@ edit_next k (Ok book) = record k { current = book }
 edit_next k (Err f) = k
 
 abbrev pub publish_reply : Kept → List ℕ
-publish_reply k = if nat_lt k.number most_publications then published_line (k.number + 1) k.current.version else refusal_line Full
+publish_reply k = if nat_lt k.number MOST_PUBLICATIONS then published_line (k.number + 1) k.current.version else refusal_line Full
 
 abbrev pub publish_next : Kept → Kept
 publish_next k =
-    if nat_lt k.number most_publications
-    then record { current = k.current; published = k.current; number = k.number + 1 }
+    if nat_lt k.number MOST_PUBLICATIONS
+    then record k { published = k.current; number = k.number + 1 }
     else k
 
+abbrev pub asked_reply : Kept → Option Query → List ℕ
+asked_reply k None = []
+asked_reply k (Some query) = answer_line (answer k.tie k.published query)
+
 abbrev pub kept_command_reply : Kept → Command → List ℕ
-kept_command_reply k (Edit x) = edit_reply (step k.current x)
+kept_command_reply k (Edit x) = edit_reply (step_to (full_at k.base) k.current x)
 kept_command_reply k Publish = publish_reply k
-kept_command_reply k (At id kind moment) = answer_line (at k.published id kind moment)
+kept_command_reply k Condense = condensed_line k.published.version
+kept_command_reply k query = asked_reply k (query_of query)
 
 abbrev pub kept_command_next : Kept → Command → Kept
-kept_command_next k (Edit x) = edit_next k (step k.current x)
+kept_command_next k (Edit x) = edit_next k (step_to (full_at k.base) k.current x)
 kept_command_next k Publish = publish_next k
-kept_command_next k (At id kind moment) = k
+kept_command_next k Condense = record k { base = k.published.version }
+kept_command_next k query = k
 
 abbrev pub kept_reply : Kept → List ℕ → List ℕ
 kept_reply k line = reply_or (kept_command_reply k) (line_named line)
@@ -46,9 +52,10 @@ kept_reply k line = reply_or (kept_command_reply k) (line_named line)
 abbrev pub kept_next : Kept → List ℕ → Kept
 kept_next k line = next_or k (kept_command_next k) (line_named line)
 
--- what is kept is what the journals left
+-- what is kept is what the state has
 pub record IsKept (k : Kept) (s : State) : Type 0 where
-  pub current : k.current ≡ after s.journal
-  pub version : k.current.version ≡ length s.journal
-  pub published : k.published ≡ after (last_journal s)
+  pub tie : k.tie ≡ s.tie
+  pub base : k.base ≡ s.base
+  pub current : k.current ≡ s.current
+  pub published : k.published ≡ last_book s
   pub number : k.number + 1 ≡ length s.published

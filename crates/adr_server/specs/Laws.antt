@@ -1,23 +1,25 @@
 -- What the text of a script promises, in the subject's words.
-use Rattle.std.specs.Prelude.{◌≡◌, ℕ, ◌+◌, ℤ, List, [], Ok, Err, length, ◌++◌, ◌∷◌}
+use Rattle.std.specs.Prelude.{◌≡◌, ℕ, ℤ, List, [], Option, Some, Ok, Err, ◌++◌, ◌∷◌}
 use Rattle.adr_value.specs.declared.payload.PayloadType.{PayloadType}
 use Rattle.adr_value.specs.declared.refusal.Refusal.{Refusal}
 use Rattle.adr_object.specs.declared.object.Edit.{Edit as Change}
 use Rattle.adr_model.specs.Book.{Book}
-use Rattle.adr_model.specs.Edits.{step, after}
+use Rattle.adr_model.specs.Edits.{full_at, step_to}
 use Rattle.adr_model.specs.Governor.{governs}
-use Rattle.adr_model.specs.Machine.{State, last_journal}
+use Rattle.adr_model.specs.Machine.{State, last_book}
+use Rattle.adr_model.specs.Queries.{Query}
 use Rattle.adr_repair.specs.Ranks.{IsGovernor}
-use Rattle.adr_server.specs.declared.command.Command.TheVariants.{Edit, At}
+use Rattle.adr_server.specs.declared.command.Command.{Command}
+use Rattle.adr_server.specs.declared.command.Command.TheVariants.{Edit}
 use Rattle.adr_server.specs.Line.{line_named}
-use Rattle.adr_server.specs.Text.{ok_line, refusal_line, command_reply, command_next, script_reply, script_next}
+use Rattle.adr_server.specs.Text.{ok_line, refusal_line, command_reply, command_next, query_of, script_reply, script_next}
 
 -- What governs at each published version, resource, payload type and instant: the least matching interval of the
 -- objects that the accepted edits left, and none where none matches.
 abbrev pub GovernsTheLeastMatching : Type 0
 GovernsTheLeastMatching =
     (s : State) (id : List ℕ) (kind : PayloadType) (t : ℤ)
-    → IsGovernor (after (last_journal s)) id kind t (governs (after (last_journal s)) id kind t)
+    → IsGovernor s.tie (last_book s) id kind t (governs s.tie (last_book s) id kind t)
 
 -- a line that is refused changes nothing, and neither does an edit
 abbrev pub RefusalsChangeNothing : Type 0
@@ -26,17 +28,16 @@ RefusalsChangeNothing =
 
 abbrev pub RefusedEditsChangeNothing : Type 0
 RefusedEditsChangeNothing =
-    (s : State) (x : Change) (f : Refusal) → step (after s.journal) x ≡ Err f
+    (s : State) (x : Change) (f : Refusal) → step_to (full_at s.base) s.current x ≡ Err f
     → (command_reply s (Edit x) ≡ refusal_line f) × (command_next s (Edit x) ≡ s)
 
--- an accepted edit is the last of the journal, and is answered `ok` with its length
+-- an accepted edit is the last of the open batch, and is answered `ok` with its version
 abbrev pub AcceptedEditsAreKept : Type 0
 AcceptedEditsAreKept =
-    (s : State) (x : Change) (book : Book) → step (after s.journal) x ≡ Ok book
-    → (command_reply s (Edit x) ≡ ok_line (length s.journal + 1))
-    × ((command_next s (Edit x)).journal ≡ s.journal ++ x ∷ [])
-    × ((command_next s (Edit x)).published ≡ s.published)
+    (s : State) (x : Change) (book : Book) → step_to (full_at s.base) s.current x ≡ Ok book
+    → (command_reply s (Edit x) ≡ ok_line book.version)
+    × (command_next s (Edit x) ≡ record s { current = book; pending = s.pending ++ x ∷ [] })
 
 -- a query changes nothing
 abbrev pub QueriesChangeNothing : Type 0
-QueriesChangeNothing = (s : State) (id : List ℕ) (kind : PayloadType) (t : ℤ) → command_next s (At id kind t) ≡ s
+QueriesChangeNothing = (s : State) (command : Command) (query : Query) → query_of command ≡ Some query → command_next s command ≡ s

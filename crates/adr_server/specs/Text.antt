@@ -1,14 +1,16 @@
 -- What a script is answered: the machine of edits and publications, run over its lines.
-use Rattle.std.specs.Prelude.{ℕ, List, [], ◌∷◌, ◌++◌, codes, Result, Ok, Err}
+use Rattle.std.specs.Prelude.{ℕ, List, [], ◌∷◌, ◌++◌, codes, Option, Some, None, Result, Ok, Err}
 use Rattle.std.specs.Fmt.{decimal}
+use Rattle.adr_value.specs.Limits.{Limits, limits}
 use Rattle.adr_value.specs.Refusal.{number_of, name_of}
 use Rattle.adr_value.specs.declared.refusal.Refusal.{Refusal}
-use Rattle.adr_model.specs.Answer.{at}
-use Rattle.adr_model.specs.Edits.{step, after}
-use Rattle.adr_model.specs.Machine.{State, Reply, refused, done, published, told, seen, start, after_edit, after_publish, last_journal}
+use Rattle.adr_model.specs.declared.entry.Tie.{Tie}
+use Rattle.adr_model.specs.Edits.{full_at, step_by}
+use Rattle.adr_model.specs.Machine.{State, Reply, refused, done, published, condensed, told, seen, start, after_edit, after_publish, after_condense, last_book}
+use Rattle.adr_model.specs.Queries.{Query, answer, at_query}
 use Rattle.adr_server.specs.declared.command.Command.{Command}
-use Rattle.adr_server.specs.declared.command.Command.TheVariants.{Edit, Publish, At}
-use Rattle.adr_server.specs.Line.{line_named}
+use Rattle.adr_server.specs.declared.command.Command.TheVariants.{Edit, Publish, Condense, At}
+use Rattle.adr_server.specs.Line.{line_named_by}
 
 -- `refused 22 Exists`, with a line feed
 abbrev pub refusal_line : Refusal → List ℕ
@@ -22,11 +24,16 @@ ok_line version = codes "ok " ++ decimal version ++ codes "\n"
 abbrev pub published_line : ℕ → ℕ → List ℕ
 published_line number version = codes "published " ++ decimal number ++ codes " version " ++ decimal version ++ codes "\n"
 
+-- `condensed version 4`
+abbrev pub condensed_line : ℕ → List ℕ
+condensed_line version = codes "condensed version " ++ decimal version ++ codes "\n"
+
 -- the line that a reply of the machine is; a script has no readers that are told or look
 abbrev pub reply_line : Reply → List ℕ
 reply_line (refused f) = refusal_line f
 reply_line (done version) = ok_line version
 reply_line (published number version) = published_line number version
+reply_line (condensed version) = condensed_line version
 reply_line told = []
 reply_line (seen number) = []
 
@@ -34,17 +41,30 @@ abbrev pub answer_line : Result (List ℕ) Refusal → List ℕ
 answer_line (Ok bytes) = bytes
 answer_line (Err f) = refusal_line f
 
--- the reply to a command: a query is answered from the objects that were published last
-abbrev pub command_reply : State → Command → List ℕ
-command_reply s (Edit x) = reply_line (after_edit s x (step (after s.journal) x)).0
-command_reply s Publish = reply_line (after_publish s).0
-command_reply s (At id kind moment) = answer_line (at (after (last_journal s)) id kind moment)
+-- what a command asks, if it asks
+abbrev pub query_of : Command → Option Query
+query_of (Edit x) = None
+query_of Publish = None
+query_of Condense = None
+query_of (At id kind moment) = Some (at_query id kind moment)
 
--- the state after it
-abbrev pub command_next : State → Command → State
-command_next s (Edit x) = (after_edit s x (step (after s.journal) x)).1
-command_next s Publish = (after_publish s).1
-command_next s (At id kind moment) = s
+-- a query is answered from the book that was published last
+abbrev pub query_reply : State → Option Query → List ℕ
+query_reply s None = []
+query_reply s (Some query) = answer_line (answer s.tie (last_book s) query)
+
+-- the reply to a command under limits, and the state after it
+abbrev pub command_reply_by : Limits → State → Command → List ℕ
+command_reply_by l s (Edit x) = reply_line (after_edit s x (step_by l (full_at s.base) s.current x)).0
+command_reply_by l s Publish = reply_line (after_publish s).0
+command_reply_by l s Condense = reply_line (after_condense s).0
+command_reply_by l s query = query_reply s (query_of query)
+
+abbrev pub command_next_by : Limits → State → Command → State
+command_next_by l s (Edit x) = (after_edit s x (step_by l (full_at s.base) s.current x)).1
+command_next_by l s Publish = (after_publish s).1
+command_next_by l s Condense = (after_condense s).1
+command_next_by l s query = s
 
 -- a refused line changes nothing
 abbrev pub reply_or : (Command → List ℕ) → Result Command Refusal → List ℕ
@@ -55,13 +75,26 @@ abbrev pub next_or : {S : Type 0} → S → (Command → S) → Result Command R
 next_or s next (Ok command) = next command
 next_or s next (Err f) = s
 
--- the reply to a line, and the state after it
+-- the reply to a line under limits, and the state after it
+abbrev pub script_reply_by : Limits → State → List ℕ → List ℕ
+script_reply_by l s line = reply_or (command_reply_by l s) (line_named_by l line)
+
+abbrev pub script_next_by : Limits → State → List ℕ → State
+script_next_by l s line = next_or s (command_next_by l s) (line_named_by l line)
+
+-- under the limits in force
+abbrev pub command_reply : State → Command → List ℕ
+command_reply s command = command_reply_by limits s command
+
+abbrev pub command_next : State → Command → State
+command_next s command = command_next_by limits s command
+
 abbrev pub script_reply : State → List ℕ → List ℕ
-script_reply s line = reply_or (command_reply s) (line_named line)
+script_reply s line = script_reply_by limits s line
 
 abbrev pub script_next : State → List ℕ → State
-script_next s line = next_or s (command_next s) (line_named line)
+script_next s line = script_next_by limits s line
 
 -- before the first line: no edits, and the empty book as publication 0
-abbrev pub script_start : State
-script_start = start []
+abbrev pub script_start : Tie → State
+script_start tie = start tie 0

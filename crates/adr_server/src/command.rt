@@ -7,6 +7,8 @@ use adr_value::PayloadType;
 pub enum Command {
     Edit(Edit),
     Publish,
+    /// The last publication becomes the base of the journal.
+    Condense,
     /// What governs a resource for a payload type at a moment.
     At(Id, PayloadType, Moment),
 }

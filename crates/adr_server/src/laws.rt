@@ -1,4 +1,5 @@
 ghost use Rattle.adr_server.specs.Fan.{FanRunsTheScript, ReadersMayAnswerAtTheEnd};
+ghost use Rattle.adr_server.specs.Larger.{LargerLimitsTellTheSame, LimitsGrew};
 ghost use Rattle.adr_server.specs.Laws.{GovernsTheLeastMatching, RefusalsChangeNothing, RefusedEditsChangeNothing, AcceptedEditsAreKept, QueriesChangeNothing};
 
 /// What the text that `run` writes promises. After any lines, at each published version, resource, payload type and
@@ -18,4 +19,13 @@ pub fn least_matching_interval_governs()
 pub fn fan_laws()
     ensures script { FanRunsTheScript }
     ensures end { ReadersMayAnswerAtTheEnd }
+{}
+
+/// What larger limits change: nothing of the text of a script of which no line is answered `refused 18 TooMany` or
+/// `refused 27 Full` under the lesser ones. The limits in force are larger than the first ones were, of 4,096 vens,
+/// resources, events and intervals of an event, and 65,536 entries.
+#[tactic(auto, using(crate::proofs::Larger::larger_limits_tell_the_same, crate::proofs::Larger::limits_grew))]
+pub fn limit_laws()
+    ensures same { LargerLimitsTellTheSame }
+    ensures grew { LimitsGrew }
 {}

@@ -9,12 +9,10 @@ mod machine;
 mod program;
 mod replies;
 
+pub use adr_model::Tie;
 pub use adr_options::{Job, job};
-pub use adr_script::{Fault, status};
+pub use adr_script::{Fault, ReadLog, WriteLog, status};
 pub use command::Command;
-pub use laws::{fan_laws, least_matching_interval_governs};
+pub use laws::{fan_laws, least_matching_interval_governs, limit_laws};
 pub use line::parse_line;
-pub use program::run;
-
-#[cfg(test)]
-mod tests;
+pub use program::{run, run_logged};

@@ -59,7 +59,7 @@ fn object_of(
     }
 }
 
-#[tactic(auto, unfolding(crate::specs::Line::create_command))]
+#[tactic(auto, unfolding(crate::specs::Line::create_command_by))]
 fn create_command(alloc: Global, line: &CreateLine<'_>) -> Result<Command, Refusal>
     ensures answer { Answers result (create_command (create_view line.now)) }
     ensures creates { IfOk result OnlyCreates }
@@ -86,7 +86,7 @@ fn at_command(alloc: Global, line: &AtLine<'_>) -> Result<Command, Refusal>
 /// Its least fault is answered: `LongLine` for more than 4,194,304 bytes, `BadLine` where it has no form of the
 /// script, `BadMoment`, `BadId`, `BadText` for a type that is no UTF-8 or has more than 128 characters, and those of
 /// the body (`BadNumber` to `TooMany`). `NoMemory` may come in place of any. Cost: one pass over the line and its body.
-#[tactic(auto, unfolding(crate::specs::Line::line_named))]
+#[tactic(auto, unfolding(crate::specs::Line::line_named_by))]
 pub fn parse_line(alloc: Global, line: &[u8]) -> Result<Command, Refusal>
     ensures answer { Answers result (line_named line.now) }
     ensures creates { IfOk result OnlyCreates }
@@ -96,6 +96,9 @@ pub fn parse_line(alloc: Global, line: &[u8]) -> Result<Command, Refusal>
     }
     if line == b"publish".as_slice() {
         return Ok(Command::Publish);
+    }
+    if line == b"condense".as_slice() {
+        return Ok(Command::Condense);
     }
     if let Some(create) = create_line(line) {
         return create_command(alloc, &create);

@@ -1,14 +1,15 @@
 ghost use Rattle.std.specs.Prelude.{◌≡◌, ◌≤◌, ◌++◌, ◌⊎◌, [], OnOk, OnErr, IsErrOf, vec_capacity, vec_len};
 ghost use Rattle.adr_plain.specs.Kept.{kept_start};
 ghost use Rattle.adr_object.specs.declared.object.Edit.TheVariants.{Create};
-ghost use Rattle.adr_server.specs.declared.command.Command.TheVariants.{Edit as EditCommand, At as AtCommand, Publish as PublishCommand};
+ghost use Rattle.adr_server.specs.declared.command.Command.TheVariants.{Edit as EditCommand, At as AtCommand, Publish as PublishCommand, Condense as CondenseCommand};
 ghost use Rattle.adr_server.specs.Kept.{kept_reply, kept_next, kept_command_reply, kept_command_next};
 ghost use Rattle.adr_server.specs.Line.{OnlyCreates};
 ghost use Rattle.adr_server.specs.Text.{refusal_line};
 
 use crate::command::Command;
 use crate::line::parse_line;
-use crate::replies::{put_answer, put_ok, put_published, put_refusal};
+use crate::replies::{put_answer, put_condensed, put_ok, put_published, put_refusal};
+use adr_model::Tie;
 use adr_object::{Edit, Id, Object};
 use adr_plain::Plain;
 use adr_script::{Machine, Unanswered};
@@ -35,11 +36,11 @@ impl Model for PlainScript {
 
 impl PlainScript {
     /// No objects, published as number 0.
-    pub(crate) fn new(alloc: Global) -> PlainScript
-        ensures { result ≡ kept_start }
+    pub(crate) fn new(alloc: Global, tie: Tie) -> PlainScript
+        ensures { result ≡ kept_start tie }
     {
         PlainScript {
-            plain: Plain::new(alloc),
+            plain: Plain::new(alloc, tie),
         }
     }
 
@@ -101,6 +102,17 @@ impl PlainScript {
         Ok(())
     }
 
+    /// Makes the last publication the base.
+    fn condense(&mut self, reply: &mut Vec<u8>)
+        requires empty { reply.old.items ≡ [] }
+        requires room { 64 ≤ vec_capacity reply.old }
+        ensures reply { reply.new.items ≡ kept_command_reply self.old CondenseCommand }
+        ensures next { self.new ≡ kept_command_next self.old CondenseCommand }
+        ensures room { 64 ≤ vec_capacity reply.new }
+    {
+        put_condensed(reply, self.plain.condense());
+    }
+
     /// Answers what governs.
     fn at(
         &self,
@@ -146,6 +158,10 @@ impl Machine for PlainScript {
         match parse_line(rt.alloc(), line) {
             Ok(Command::Edit(edit)) => self.edit(edit, reply),
             Ok(Command::Publish) => self.publish(reply),
+            Ok(Command::Condense) => {
+                self.condense(reply);
+                Ok(())
+            }
             Ok(Command::At(id, kind, moment)) => self.at(&id, &kind, moment, reply),
             Err(refusal) => {
                 if refusal == Refusal::NoMemory {

@@ -1,11 +1,14 @@
-ghost use Rattle.std.specs.Prelude.{◌≡◌, ◌≤◌, OnOk, IsErrOf};
+//! A whole run over any reader and writer.
+ghost use Rattle.std.specs.Prelude.{◌≡◌, ◌≤◌, ◌^◌, true, false, OnOk, IsErrOf};
 ghost use Rattle.std.specs.Io.KnownBytes.{Keeps, IsAtEnd};
+ghost use Rattle.adr_script.specs.Logs.{reads_made, has_read_failed, has_ended, has_write_failed};
 ghost use Rattle.adr_script.specs.Lines.{all_lines, complete_lines};
 ghost use Rattle.adr_script.specs.Script.{Moves};
 ghost use Rattle.adr_script.specs.Text.{IsText, IsTextInPart};
 ghost use Rattle.adr_server.specs.Text.{script_reply, script_next, script_start};
 
 use crate::machine::PlainScript;
+use adr_model::Tie;
 use adr_script::{Fault, ReadLog, WriteLog, serve};
 use std::io::{Read, Write};
 use std::sync::Wait;
@@ -15,7 +18,8 @@ use std::thread::Threads;
 ///
 /// What is written is the text of what is read: the machine of edits and publications run over the lines, each query
 /// answered from the objects that were published last. Any line may be refused for want of memory in its place, and
-/// then changes nothing. `workers` is 1 to 64; it changes nothing that is written.
+/// then changes nothing. `workers` is 1 to 64; it changes nothing that is written. `tie` says which of two intervals of
+/// one priority governs.
 ///
 /// # Errors
 ///
@@ -26,31 +30,82 @@ pub fn run<R: Read, W: Write>(
     reader: &mut R,
     writer: &mut W,
     workers: usize,
+    tie: Tie,
 ) -> Result<(), Fault>
     requires { (1 ≤ workers) × (workers ≤ 64) }
 
     // All was read, and what was written is the text of it.
     ensures ok { OnOk result (Moves (R.remaining reader.old) (R.remaining reader.new) (W.contents writer.old) (W.contents writer.new)
-        (λ bytes out. IsText script_reply script_next script_start (all_lines bytes) out)) }
+        (λ bytes out. IsText script_reply script_next (script_start tie) (all_lines bytes) out)) }
     ensures end { OnOk result (IsAtEnd (R.remaining reader.new)) }
 
     // The lines that were complete are answered, and the begun one isn't.
     ensures reading { IsErrOf result Fault.Reading → Moves (R.remaining reader.old) (R.remaining reader.new) (W.contents writer.old) (W.contents writer.new)
-        (λ bytes out. IsText script_reply script_next script_start (complete_lines bytes) out) }
+        (λ bytes out. IsText script_reply script_next (script_start tie) (complete_lines bytes) out) }
     ensures reads { IsErrOf result Fault.Reads → Moves (R.remaining reader.old) (R.remaining reader.new) (W.contents writer.old) (W.contents writer.new)
-        (λ bytes out. IsText script_reply script_next script_start (complete_lines bytes) out) }
+        (λ bytes out. IsText script_reply script_next (script_start tie) (complete_lines bytes) out) }
 
     // The text stops somewhere.
     ensures writing { IsErrOf result Fault.Writing → Moves (R.remaining reader.old) (R.remaining reader.new) (W.contents writer.old) (W.contents writer.new)
-        (λ bytes out. IsTextInPart script_reply script_next script_start (all_lines bytes) out) }
+        (λ bytes out. IsTextInPart script_reply script_next (script_start tie) (all_lines bytes) out) }
 
     // Nothing was read or written.
     ensures runtime { IsErrOf result Fault.Runtime → Keeps (R.remaining reader.old) (R.remaining reader.new)
         × Keeps (W.contents writer.old) (W.contents writer.new) }
 {
+    let (mut reads, mut writes) = (ReadLog::new(), WriteLog::new());
+    run_logged(rt, reader, &mut reads, writer, &mut writes, workers, tie)
+}
+
+/// Does what [`run`] does, and notes what its reads and writes met: a fault comes only where a read or a write failed,
+/// or all the reads that there are were made, and none of these is passed over.
+///
+/// # Errors
+///
+/// As of [`run`].
+pub fn run_logged<R: Read, W: Write>(
+    rt: &(impl AllocGlobal + Threads + Wait),
+    reader: &mut R,
+    reads: &mut ReadLog,
+    writer: &mut W,
+    writes: &mut WriteLog,
+    workers: usize,
+    tie: Tie,
+) -> Result<(), Fault>
+    requires workers { (1 ≤ workers) × (workers ≤ 64) }
+    requires made { reads_made reads.old ≡ 0 }
+    requires no_read { has_read_failed reads.old ≡ false }
+    requires no_write { has_write_failed writes.old ≡ false }
+
+    // All was read, and what was written is the text of it.
+    ensures ok { OnOk result (Moves (R.remaining reader.old) (R.remaining reader.new) (W.contents writer.old) (W.contents writer.new)
+        (λ bytes out. IsText script_reply script_next (script_start tie) (all_lines bytes) out)) }
+    ensures end { OnOk result (IsAtEnd (R.remaining reader.new)) }
+
+    // The lines that were complete are answered, and the begun one isn't.
+    ensures reading { IsErrOf result Fault.Reading → Moves (R.remaining reader.old) (R.remaining reader.new) (W.contents writer.old) (W.contents writer.new)
+        (λ bytes out. IsText script_reply script_next (script_start tie) (complete_lines bytes) out) }
+    ensures reads { IsErrOf result Fault.Reads → Moves (R.remaining reader.old) (R.remaining reader.new) (W.contents writer.old) (W.contents writer.new)
+        (λ bytes out. IsText script_reply script_next (script_start tie) (complete_lines bytes) out) }
+
+    // The text stops somewhere.
+    ensures writing { IsErrOf result Fault.Writing → Moves (R.remaining reader.old) (R.remaining reader.new) (W.contents writer.old) (W.contents writer.new)
+        (λ bytes out. IsTextInPart script_reply script_next (script_start tie) (all_lines bytes) out) }
+
+    // Nothing was read or written.
+    ensures runtime { IsErrOf result Fault.Runtime → Keeps (R.remaining reader.old) (R.remaining reader.new)
+        × Keeps (W.contents writer.old) (W.contents writer.new) }
+
+    // What the reads and writes met.
+    ensures bound { reads_made reads.new ≤ 2 ^ 32 }
+    ensures ended { OnOk result (has_ended reads.new ≡ true) }
+    ensures read_ends { has_read_failed reads.new ≡ true → result ≡ Err Fault.Reading }
+    ensures write_ends { has_write_failed writes.new ≡ true → result ≡ Err Fault.Writing }
+    ensures read_failed { IsErrOf result Fault.Reading → has_read_failed reads.new ≡ true }
+    ensures no_more_reads { IsErrOf result Fault.Reads → reads_made reads.new ≡ 2 ^ 32 }
+    ensures write_failed { IsErrOf result Fault.Writing → has_write_failed writes.new ≡ true }
+{
     let _ = workers;
-    let mut machine = PlainScript::new(rt.alloc());
-    let mut reads = ReadLog::new();
-    let mut writes = WriteLog::new();
-    serve(rt, reader, &mut reads, writer, &mut writes, &mut machine)
+    let mut machine = PlainScript::new(rt.alloc(), tie);
+    serve(rt, reader, reads, writer, writes, &mut machine)
 }

@@ -1,7 +1,7 @@
-ghost use Rattle.std.specs.Prelude.{◌≡◌, ◌++◌, ◌+◌, ◌≤◌, ◌<◌, codes, length, vec_len, vec_capacity, OnOk, OnErr};
+ghost use Rattle.std.specs.Prelude.{◌≡◌, ◌++◌, ◌+◌, ◌^◌, ◌≤◌, ◌<◌, codes, length, vec_len, vec_capacity, OnOk, OnErr};
 ghost use Rattle.std.specs.Fmt.{decimal};
 ghost use Rattle.adr_value.specs.Refusal.{number_of, name_of};
-ghost use Rattle.adr_server.specs.Text.{refusal_line, ok_line, published_line};
+ghost use Rattle.adr_server.specs.Text.{refusal_line, ok_line, published_line, condensed_line};
 
 use adr_value::Refusal;
 use itoa::Buffer;
@@ -17,13 +17,13 @@ fn put(reply: &mut Vec<u8>, text: &[u8])
     reply.extend_from_slice(text).unwrap();
 }
 
-/// Puts a number of at most seven digits.
-#[tactic(auto, using(crate::proofs::Digits::seven_digits))]
+/// Puts a number of at most thirteen digits, as a version is.
+#[tactic(auto, using(crate::proofs::Digits::thirteen_digits))]
 fn put_number(reply: &mut Vec<u8>, number: u64)
-    requires small { number < 10000000 }
-    requires room { vec_len reply.old + 7 ≤ vec_capacity reply.old }
+    requires small { number < 10 ^ 13 }
+    requires room { vec_len reply.old + 13 ≤ vec_capacity reply.old }
     ensures items { reply.new.items ≡ reply.old.items ++ decimal number }
-    ensures len { vec_len reply.new ≤ vec_len reply.old + 7 }
+    ensures len { vec_len reply.new ≤ vec_len reply.old + 13 }
     ensures room { vec_capacity reply.old ≤ vec_capacity reply.new }
 {
     let mut buffer = Buffer::new();
@@ -46,7 +46,7 @@ pub(crate) fn put_refusal(reply: &mut Vec<u8>, refusal: Refusal)
 
 /// `ok 4`
 pub(crate) fn put_ok(reply: &mut Vec<u8>, version: u64)
-    requires small { version < 10000000 }
+    requires small { version < 10 ^ 13 }
     requires empty { vec_len reply.old ≡ 0 }
     requires room { 64 ≤ vec_capacity reply.old }
     ensures items { reply.new.items ≡ reply.old.items ++ ok_line version }
@@ -59,8 +59,8 @@ pub(crate) fn put_ok(reply: &mut Vec<u8>, version: u64)
 
 /// `published 1 version 4`
 pub(crate) fn put_published(reply: &mut Vec<u8>, number: u64, version: u64)
-    requires number { number < 10000000 }
-    requires version { version < 10000000 }
+    requires number { number < 10 ^ 13 }
+    requires version { version < 10 ^ 13 }
     requires empty { vec_len reply.old ≡ 0 }
     requires room { 64 ≤ vec_capacity reply.old }
     ensures items { reply.new.items ≡ reply.old.items ++ published_line number version }
@@ -69,6 +69,19 @@ pub(crate) fn put_published(reply: &mut Vec<u8>, number: u64, version: u64)
     put(reply, b"published ");
     put_number(reply, number);
     put(reply, b" version ");
+    put_number(reply, version);
+    put(reply, b"\n");
+}
+
+/// `condensed version 4`
+pub(crate) fn put_condensed(reply: &mut Vec<u8>, version: u64)
+    requires small { version < 10 ^ 13 }
+    requires empty { vec_len reply.old ≡ 0 }
+    requires room { 64 ≤ vec_capacity reply.old }
+    ensures items { reply.new.items ≡ reply.old.items ++ condensed_line version }
+    ensures room { vec_capacity reply.old ≤ vec_capacity reply.new }
+{
+    put(reply, b"condensed version ");
     put_number(reply, version);
     put(reply, b"\n");
 }

@@ -2,6 +2,7 @@
 use Rattle.std.proofs.Common.{◌≡◌, ℕ, ◌+◌, ◌<◌, ◌≤◌, ◌==◌, ◌||◌, Bool, true, false, not, cond, nat_le, List, [], ◌∷◌, ◌++◌, length, Option, Some, None, is_some, IsSome, Result, Ok, Err, IsOk, refl, ap, sym, ◌∙◌, arith, rules, inr, inl, eqb-true}
 use borrow.Author.Tests.{leb-false, ltb-false}
 use Rattle.std.proofs.lemmas.Bool.{false≢true}
+use Rattle.adr_value.specs.declared.limits.TheConstants.{MOST_ENTRIES, MOST_EVENTS, MOST_VERSION}
 use Rattle.adr_value.specs.declared.refusal.Refusal.{Refusal}
 use Rattle.adr_value.specs.declared.refusal.Refusal.TheVariants.{Exists, NotThere, InUse, Full}
 use Rattle.adr_object.specs.Object.{kind_of, id_of}
@@ -13,7 +14,7 @@ use Rattle.adr_object.specs.declared.object.Edit.{Edit}
 use Rattle.adr_object.specs.declared.object.Edit.TheVariants.{Create, Change, Remove}
 use Rattle.adr_model.specs.declared.written.Written.{Written}
 use Rattle.adr_model.specs.Book.{Book, event_by}
-use Rattle.adr_model.specs.Edits.{step, made, faults, fault_if, layout_faults, reference_faults, has_id, is_full_for, is_named, has_too_many_entries, most_edits, most_entries, most_objects, count_of, entries_beside, entry_count}
+use Rattle.adr_model.specs.Edits.{step, made, faults, fault_if, layout_faults, reference_faults, has_id, is_full_for, is_named, has_too_many_entries, most_objects, count_of, entries_beside, entry_count}
 use Rattle.adr_model.proofs.EditLemmas.{accepted}
 use Rattle.adr_repair.specs.Lists.{In}
 use Rattle.adr_repair.specs.Whole.{IsWhole}
@@ -41,32 +42,32 @@ module _ (book : Book) where
   full_of : (a b c d : List Refusal) → ((a ++ b) ++ c) ++ d ≡ [] → (b ≡ []) × (d ≡ [])
   full_of a b c d h = (no_faults_after a b (no_faults_before (a ++ b) c (no_faults_before ((a ++ b) ++ c) d h)), no_faults_after ((a ++ b) ++ c) d h)
 
-  created_facts : (o : Object) → IsOk (step book (Create o)) → (has_id book (kind_of o) (id_of o) ≡ false) × ((nat_le most_edits book.version || is_full_for book (Create o)) ≡ false)
+  created_facts : (o : Object) → IsOk (step book (Create o)) → (has_id book (kind_of o) (id_of o) ≡ false) × ((nat_le MOST_VERSION book.version || is_full_for book (Create o)) ≡ false)
   created_facts o h =
-      let full : List Refusal = fault_if (nat_le most_edits book.version || is_full_for book (Create o)) Full in
+      let full : List Refusal = fault_if (nat_le MOST_VERSION book.version || is_full_for book (Create o)) Full in
       let p = full_of (layout_faults o) (fault_if (has_id book (kind_of o) (id_of o)) Exists) (reference_faults book o) full (faultless (Create o) h) in
-      (no_fault (has_id book (kind_of o) (id_of o)) Exists p.0, no_fault (nat_le most_edits book.version || is_full_for book (Create o)) Full p.1)
+      (no_fault (has_id book (kind_of o) (id_of o)) Exists p.0, no_fault (nat_le MOST_VERSION book.version || is_full_for book (Create o)) Full p.1)
 
-  changed_facts : (o : Object) → IsOk (step book (Change o)) → (not (has_id book (kind_of o) (id_of o)) ≡ false) × ((nat_le most_edits book.version || is_full_for book (Change o)) ≡ false)
+  changed_facts : (o : Object) → IsOk (step book (Change o)) → (not (has_id book (kind_of o) (id_of o)) ≡ false) × ((nat_le MOST_VERSION book.version || is_full_for book (Change o)) ≡ false)
   changed_facts o h =
-      let full : List Refusal = fault_if (nat_le most_edits book.version || is_full_for book (Change o)) Full in
+      let full : List Refusal = fault_if (nat_le MOST_VERSION book.version || is_full_for book (Change o)) Full in
       let p = full_of (layout_faults o) (fault_if (not (has_id book (kind_of o) (id_of o))) NotThere) (reference_faults book o) full (faultless (Change o) h) in
-      (no_fault (not (has_id book (kind_of o) (id_of o))) NotThere p.0, no_fault (nat_le most_edits book.version || is_full_for book (Change o)) Full p.1)
+      (no_fault (not (has_id book (kind_of o) (id_of o))) NotThere p.0, no_fault (nat_le MOST_VERSION book.version || is_full_for book (Change o)) Full p.1)
 
-  room : (b : Bool) → (nat_le most_edits book.version || b) ≡ false → book.version < 1000000
-  room b h = leb-false most_edits book.version (or_parts (nat_le most_edits book.version) b h).0
+  room : (b : Bool) → (nat_le MOST_VERSION book.version || b) ≡ false → book.version < MOST_VERSION
+  room b h = leb-false MOST_VERSION book.version (or_parts (nat_le MOST_VERSION book.version) b h).0
 
-  pub room_to_create : (o : Object) → IsOk (step book (Create o)) → book.version < 1000000
+  pub room_to_create : (o : Object) → IsOk (step book (Create o)) → book.version < MOST_VERSION
   room_to_create o h = room (is_full_for book (Create o)) (created_facts o h).1
 
-  pub room_to_change : (o : Object) → IsOk (step book (Change o)) → book.version < 1000000
+  pub room_to_change : (o : Object) → IsOk (step book (Change o)) → book.version < MOST_VERSION
   room_to_change o h = room (is_full_for book (Change o)) (changed_facts o h).1
 
-  pub room_to_remove : (kind : Kind) (id : List ℕ) → IsOk (step book (Remove kind id)) → book.version < 1000000
+  pub room_to_remove : (kind : Kind) (id : List ℕ) → IsOk (step book (Remove kind id)) → book.version < MOST_VERSION
   room_to_remove kind id h =
-      leb-false most_edits book.version
-      (no_fault (nat_le most_edits book.version) Full
-      (no_faults_after (fault_if (not (has_id book kind id)) NotThere ++ fault_if (is_named book kind id) InUse) (fault_if (nat_le most_edits book.version) Full) (faultless (Remove kind id) h)))
+      leb-false MOST_VERSION book.version
+      (no_fault (nat_le MOST_VERSION book.version) Full
+      (no_faults_after (fault_if (not (has_id book kind id)) NotThere ++ fault_if (is_named book kind id) InUse) (fault_if (nat_le MOST_VERSION book.version) Full) (faultless (Remove kind id) h)))
 
   -- the object is new
   pub absent : {X : Type 0} (o : Option X) → is_some o ≡ false → o ≡ None
@@ -79,15 +80,15 @@ module _ (book : Book) where
   -- there are fewer than the most of its kind
   pub few_to_create : (o : Object) → IsOk (step book (Create o)) → count_of book (kind_of o) < most_objects (kind_of o)
   few_to_create o h =
-      let full = (or_parts (nat_le most_edits book.version) (is_full_for book (Create o)) (created_facts o h).1).1 in
+      let full = (or_parts (nat_le MOST_VERSION book.version) (is_full_for book (Create o)) (created_facts o h).1).1 in
       leb-false (most_objects (kind_of o)) (count_of book (kind_of o)) (or_parts (nat_le (most_objects (kind_of o)) (count_of book (kind_of o))) (has_too_many_entries book o) full).0
 
   -- the entries of a new event fit beside all that are there
-  pub entries_to_create : (e : Event) → IsOk (step book (Create (event e))) → all_entries book.events + entry_count e ≤ 65536
+  pub entries_to_create : (e : Event) → IsOk (step book (Create (event e))) → all_entries book.events + entry_count e ≤ MOST_ENTRIES
   entries_to_create e h =
-      let full = (or_parts (nat_le most_edits book.version) (is_full_for book (Create (event e))) (created_facts (event e) h).1).1 in
-      let many = (or_parts (nat_le 4096 (length book.events)) (has_too_many_entries book (event e)) full).1 in
-      let fits = ltb-false most_entries (entries_beside book e.id + entry_count e) many in
+      let full = (or_parts (nat_le MOST_VERSION book.version) (is_full_for book (Create (event e))) (created_facts (event e) h).1).1 in
+      let many = (or_parts (nat_le MOST_EVENTS (length book.events)) (has_too_many_entries book (event e)) full).1 in
+      let fits = ltb-false MOST_ENTRIES (entries_beside book e.id + entry_count e) many in
       let new : event_by book e.id ≡ None = absent (event_by book e.id) (new_object (event e) h) in
       let all : entries_beside book e.id ≡ all_entries book.events = ap all_entries (without_none event_id e.id book.events new) in
       omega (arith, fits, all)
@@ -101,10 +102,10 @@ module _ (book : Book) where
   old_object o h = (changed_facts o h).0
 
   -- the entries of a changed event fit beside those of the others
-  pub entries_to_change : (e : Event) → IsOk (step book (Change (event e))) → entries_beside book e.id + entry_count e ≤ 65536
+  pub entries_to_change : (e : Event) → IsOk (step book (Change (event e))) → entries_beside book e.id + entry_count e ≤ MOST_ENTRIES
   entries_to_change e h =
-      ltb-false most_entries (entries_beside book e.id + entry_count e)
-      (or_parts (nat_le most_edits book.version) (is_full_for book (Change (event e))) (changed_facts (event e) h).1).1
+      ltb-false MOST_ENTRIES (entries_beside book e.id + entry_count e)
+      (or_parts (nat_le MOST_VERSION book.version) (is_full_for book (Change (event e))) (changed_facts (event e) h).1).1
 
   -- the next number is no event's
   pub next_number : IsWhole book → by_number book.events (book.version + 1) ≡ None

@@ -8,6 +8,7 @@ use Rattle.std.specs.Option.{option_map}
 use Rattle.std.specs.Str.{bytes_eq}
 use Rattle.std.proofs.lemmas.List.Sums.{sum_by-cons, sum_by_push, length-filter, count_by-le-length}
 use Rattle.indexmap.specs.IndexMap.{IndexMap, get}
+use Rattle.adr_value.specs.declared.limits.TheConstants.{MOST_ENTRIES, MOST_EVENTS}
 use Rattle.adr_object.specs.declared.event.Event.{Event}
 use Rattle.adr_model.specs.declared.written.Written.{Written}
 use Rattle.adr_model.specs.Edits.{entry_count}
@@ -45,7 +46,7 @@ module _ {A S X : Type 0} (key : X → List ℕ) (owner : X → List ℕ) where
   abbrev pub Told : IndexMap (String A) ℕ S → List X → Type 0
   Told m xs = (id : List ℕ) → times m id ≡ sum_by (λ x. one_if (bytes_eq id (owner x))) xs
 
-  pub told_small : (m : IndexMap (String A) ℕ S) (xs : List X) → Told m xs → length xs ≤ 4096 → (id : List ℕ) → times m id < 4294967296
+  pub told_small : (m : IndexMap (String A) ℕ S) (xs : List X) → Told m xs → length xs < 4294967296 → (id : List ℕ) → times m id < 4294967296
   told_small m xs t few id = omega (arith, t id, few, one_if-le (λ x. bytes_eq id (owner x)) xs)
 
   pub told_some : (m : IndexMap (String A) ℕ S) (xs : List X) (gone : List ℕ) (old : X) → Told m xs → IsDistinct bytes_eq (map key xs) → the_one key gone xs ≡ Some old
@@ -74,14 +75,14 @@ module _ {A S X : Type 0} (key : X → List ℕ) (owner : X → List ℕ) where
       let two : one_if (bytes_eq id name) ≡ one_if (bytes_eq id (owner w)) = ap (λ k. one_if (bytes_eq id k)) is in
       omega (arith, t id, less id, more id, one, two, sum_put key gone (λ x. one_if (bytes_eq id (owner x))) w old xs d h)
 
-pub few_more : {X : Type 0} (xs : List X) (x : X) → length xs < 4096 → length (xs ++ x ∷ []) ≤ 4096
-few_more xs x h = omega (arith, h, length-append xs (x ∷ []))
+pub few_more : {X : Type 0} (most : ℕ) (xs : List X) (x : X) → length xs < most → length (xs ++ x ∷ []) ≤ most
+few_more most xs x h = omega (arith, h, length-append xs (x ∷ []))
 
-pub few_less : {X : Type 0} (key : X → List ℕ) (id : List ℕ) (xs : List X) → length xs ≤ 4096 → length (without_it key id xs) ≤ 4096
-few_less key id xs h = omega (arith, h, length-without key id xs)
+pub few_less : {X : Type 0} (most : ℕ) (key : X → List ℕ) (id : List ℕ) (xs : List X) → length xs ≤ most → length (without_it key id xs) ≤ most
+few_less most key id xs h = omega (arith, h, length-without key id xs)
 
-pub few_put : {X : Type 0} (key : X → List ℕ) (id : List ℕ) (w : X) (xs : List X) → length xs ≤ 4096 → length (with_it key id w xs) ≤ 4096
-few_put key id w xs h = omega (arith, h, length-map xs (λ y. cond (bytes_eq id (key y)) w y))
+pub few_put : {X : Type 0} (most : ℕ) (key : X → List ℕ) (id : List ℕ) (w : X) (xs : List X) → length xs ≤ most → length (with_it key id w xs) ≤ most
+few_put most key id w xs h = omega (arith, h, length-map xs (λ y. cond (bytes_eq id (key y)) w y))
 
 -- the events by their numbers
 
@@ -144,14 +145,14 @@ module _ {A S R : Type 0} (xs : List Written) where
       record { naming = λ id. same id ∙ c.naming id; counted = c.counted; written = λ i. also i ∙ c.written i; few = c.few; within = c.within }
 
   pub counted_more : (m n : IndexMap (String A) ℕ S) (k j : ℕ) (u v : IndexMap ℕ Event R) (w : Written) → IsCounted xs m k u
-      → by_number xs w.written ≡ None → length xs < 4096 → j ≡ k + count_of w → all_entries xs + count_of w ≤ 65536
+      → by_number xs w.written ≡ None → length xs < MOST_EVENTS → j ≡ k + count_of w → all_entries xs + count_of w ≤ MOST_ENTRIES
       → (name : List ℕ) → name ≡ program_of w → ((id : List ℕ) → times n id ≡ times m id + one_if (bytes_eq id name))
       → ((i : ℕ) → get nat_eq v i ≡ cond (w.written == i) (Some w.event) (get nat_eq u i)) → IsCounted (xs ++ w ∷ []) n j v
   counted_more m n k j u v w c fresh few sum fits name is more also = record {
     naming = told_more event_id program_of m n xs w c.naming name is more;
     counted = omega (arith, sum, c.counted, sum_by_push count_of xs w);
     written = listed_more u v xs w c.written fresh also;
-    few = few_more xs w few;
+    few = few_more MOST_EVENTS xs w few;
     within = omega (arith, sum, fits, c.counted);
   }
 
@@ -173,12 +174,12 @@ module _ {A S R : Type 0} (xs : List Written) where
       naming = told_drop event_id program_of m n xs gone old c.naming d h name is less;
       counted = sum ∙ counted_beside m k u c;
       written = listed_drop u v xs gone old c.written d apart h also;
-      few = few_less event_id gone xs c.few;
+      few = few_less MOST_EVENTS event_id gone xs c.few;
       within = omega (arith, sum, c.within);
     }
 
     pub counted_put : (m n o : IndexMap (String A) ℕ S) (k j : ℕ) (u v t : IndexMap ℕ Event R) (w : Written) → IsCounted xs m k u → IsDistinct eqb (map number_of_write xs)
-        → by_number xs w.written ≡ None → all_entries (without_it event_id gone xs) + count_of w ≤ 65536 → j ≡ k - count_of old + count_of w
+        → by_number xs w.written ≡ None → all_entries (without_it event_id gone xs) + count_of w ≤ MOST_ENTRIES → j ≡ k - count_of old + count_of w
         → (before : List ℕ) → before ≡ program_of old → ((id : List ℕ) → times n id + one_if (bytes_eq id before) ≡ times m id)
         → (name : List ℕ) → name ≡ program_of w → ((id : List ℕ) → times o id ≡ times n id + one_if (bytes_eq id name))
         → ((i : ℕ) → get nat_eq v i ≡ cond (old.written == i) None (get nat_eq u i))
@@ -187,6 +188,6 @@ module _ {A S R : Type 0} (xs : List Written) where
       naming = told_put event_id program_of m n o xs gone old w c.naming d h before was less name is more;
       counted = omega (arith, sum, counted_within m k u c, c.counted, sum_put event_id gone count_of w old xs d h);
       written = listed_put u v t xs gone old w c.written d apart h fresh first then;
-      few = few_put event_id gone w xs c.few;
+      few = few_put MOST_EVENTS event_id gone w xs c.few;
       within = omega (arith, sum, fits, counted_beside m k u c);
     }

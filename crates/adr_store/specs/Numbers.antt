@@ -4,6 +4,7 @@ use Rattle.std.specs.Option.{unwrap_or, option_map}
 use Rattle.std.specs.Str.{bytes_eq}
 use Rattle.std.specs.HashMap.{get_by_text}
 use Rattle.indexmap.specs.IndexMap.{IndexMap, get}
+use Rattle.adr_value.specs.declared.limits.TheConstants.{MOST_ENTRIES, MOST_EVENTS, MOST_RESOURCES}
 use Rattle.adr_object.specs.declared.event.Event.{Event}
 use Rattle.adr_object.specs.declared.party.Resource.{Resource}
 use Rattle.adr_model.specs.declared.written.Written.{Written}
@@ -38,10 +39,10 @@ pub record IsCounted {A S R : Type 0} (events : List Written) (named : IndexMap 
   pub naming : (id : List ℕ) → times named id ≡ naming events id
   pub counted : entries ≡ all_entries events
   pub written : (n : ℕ) → get nat_eq writes n ≡ option_map (λ w. w.event) (by_number events n)
-  pub few : length events ≤ 4096
-  pub within : entries ≤ 65536
+  pub few : length events ≤ MOST_EVENTS
+  pub within : entries ≤ MOST_ENTRIES
 
 -- the resources are few, and how many name each ven is true
 pub record IsOwned {A S : Type 0} (resources : List Resource) (owners : IndexMap (String A) ℕ S) : Type 0 where
   pub owned : (id : List ℕ) → times owners id ≡ owned resources id
-  pub few : length resources ≤ 4096
+  pub few : length resources ≤ MOST_RESOURCES

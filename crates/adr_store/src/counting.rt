@@ -1,11 +1,12 @@
 //! How many entries an event has.
-ghost use Rattle.std.specs.Prelude.{◌≡◌, ◌+◌, ◌≤◌, length, sum_by};
+ghost use Rattle.std.specs.Prelude.{◌≡◌, ◌+◌, ◌*◌, ◌≤◌, length, sum_by};
 ghost use Rattle.std.specs.List.{list_any};
 ghost use Rattle.adr_value.specs.Same.{same_type as the_same_type};
 ghost use Rattle.adr_model.specs.Edits.{distinct_types as the_distinct_types, entry_count as the_entry_count};
 
 use adr_object::{Event, Payload};
 use adr_value::PayloadType;
+use adr_value::limits::MOST_INTERVALS;
 
 fn same_type(a: &PayloadType, b: &PayloadType) -> bool
     ensures { result ≡ the_same_type a.now b.now }
@@ -37,10 +38,10 @@ fn distinct_types(payloads: &[Payload]) -> usize
     count
 }
 
-/// The entries of an event: its intervals, each with each of its payload types. At most 4,096 times 64.
+/// The entries of an event: its intervals, each with each of its payload types. At most 64 for each interval.
 pub fn entry_count(event: &Event) -> usize
     ensures value { result ≡ the_entry_count event.now }
-    ensures bound { result ≤ 262144 }
+    ensures bound { result ≤ 64 * MOST_INTERVALS }
 {
     let mut count = 0;
     let mut rest = event.intervals.as_slice();

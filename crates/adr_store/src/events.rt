@@ -1,19 +1,18 @@
 //! The events in order of creation, and what is counted of them.
-ghost use Rattle.std.specs.Prelude.{◌≡◌, ◌+◌, ◌++◌, ◌∷◌, [], ◌<◌, ◌≤◌, ℕ, List, eqb, nat_eq, not, filter, map, length, slice_get, sum_by, IsSome, None, OnOk, OnErr, IfErr};
+ghost use Rattle.std.specs.Prelude.{◌≡◌, ◌+◌, ◌++◌, ◌∷◌, [], ◌<◌, ◌≤◌, eqb, not, filter, map, length, slice_get, sum_by, IsSome, None, OnOk, OnErr, IfErr};
 ghost use Rattle.std.specs.List.{IsDistinct, list_any};
 ghost use Rattle.std.specs.Option.{option_copied, option_map};
 ghost use Rattle.std.specs.Str.{bytes_eq};
-ghost use Rattle.indexmap.specs.IndexMap.{get, spare};
 ghost use Rattle.adr_value.specs.Copy.{IsCopyOf};
 ghost use Rattle.adr_model.specs.Edits.{put_at, entry_count};
-ghost use Rattle.adr_store.specs.Numbers.{all_entries, by_number as numbered, times};
+ghost use Rattle.adr_store.specs.Numbers.{all_entries, by_number as numbered};
 ghost use Rattle.adr_store.specs.Table.{find_by};
 
 use crate::kept::Kept;
+use crate::numbers::Numbers;
 use crate::table::Table;
-use crate::tally::Tally;
-use crate::writes::Writes;
 use adr_object::{Event, Id};
+use adr_value::limits::{MOST_ENTRIES, MOST_EVENTS};
 use adr_value::{Refusal, TryClone};
 use std::alloc::Global;
 use std::marker::Model;
@@ -21,9 +20,7 @@ use std::marker::Model;
 /// The events in order of creation, each with the number of the edit that last wrote it.
 pub(crate) struct Events {
     table: Table<Kept>,
-    named: Tally,
-    entries: usize,
-    writes: Writes,
+    numbers: Numbers,
     alloc: Global,
 }
 
@@ -32,14 +29,11 @@ impl Drop for Events {
     fn drop(self) {
         let Events {
             table,
-            named,
-            entries: _,
-            writes,
+            numbers,
             alloc: _,
         } = self;
         drop(table);
-        drop(named);
-        drop(writes);
+        drop(numbers);
     }
 }
 
@@ -52,7 +46,7 @@ impl Model for Events {
 
     ghost view = { λ e. e.table.items };
 
-    ghost invariant = { λ e. IsCounted e.table.items e.named.counts e.entries e.writes.events };
+    ghost invariant = { λ e. IsCounted e.table.items e.numbers.named.counts e.numbers.entries e.numbers.writes.events };
 }
 
 impl Events {
@@ -61,9 +55,7 @@ impl Events {
     {
         Events {
             table: Table::new(alloc),
-            named: Tally::new(alloc),
-            entries: 0,
-            writes: Writes::new(alloc),
+            numbers: Numbers::new(alloc),
             alloc,
         }
     }
@@ -106,24 +98,24 @@ impl Events {
     pub(crate) fn by_number(&self, number: u64) -> Option<&Event>
         ensures { option_copied result ≡ option_map (λ w. w.event) (numbered self.now number) }
     {
-        self.writes.get(number)
+        self.numbers.writes.get(number)
     }
 
     /// Whether an event names the program.
     pub(crate) fn is_named(&self, id: &Id) -> bool
         ensures { result ≡ list_any (λ w. bytes_eq id.now w.event.program_id) self.now }
     {
-        0 < self.named.count(id.text())
+        0 < self.numbers.named.count(id.text())
     }
 
     /// The entries of all events but the one with the id.
     pub(crate) fn entries_beside(&self, id: &Id) -> usize
         ensures value { result ≡ sum_by (λ w. entry_count w.event) (filter (λ w. not (bytes_eq id.now w.event.id)) self.now) }
-        ensures bound { result ≤ 65536 }
+        ensures bound { result ≤ MOST_ENTRIES }
     {
         match self.table.get(id.text()) {
-            Some(kept) => self.entries - kept.entries(),
-            None => self.entries,
+            Some(kept) => self.numbers.entries - kept.entries(),
+            None => self.numbers.entries,
         }
     }
 
@@ -131,8 +123,8 @@ impl Events {
     pub(crate) fn push(&mut self, event: Event, written: u64) -> Result<(), Refusal>
         requires new { find_by (λ w. w.event.id) self.old event.id ≡ None }
         requires fresh { numbered self.old written ≡ None }
-        requires few { length self.old < 4096 }
-        requires entries { all_entries self.old + entry_count event ≤ 65536 }
+        requires few { length self.old < MOST_EVENTS }
+        requires entries { all_entries self.old + entry_count event ≤ MOST_ENTRIES }
         ensures ok { OnOk result (self.new ≡ self.old ++ record { event = event; written = written } ∷ []) }
         ensures err { OnErr result (self.new ≡ self.old) }
         ensures refusal { IfErr result (λ refusal. refusal ≡ Refusal.NoMemory) }
@@ -144,21 +136,16 @@ impl Events {
     fn push_kept(&mut self, kept: Kept) -> Result<(), Refusal>
         requires new { find_by (λ w. w.event.id) self.old kept.event.id ≡ None }
         requires fresh { numbered self.old kept.written ≡ None }
-        requires few { length self.old < 4096 }
-        requires entries { all_entries self.old + entry_count kept.event ≤ 65536 }
+        requires few { length self.old < MOST_EVENTS }
+        requires entries { all_entries self.old + entry_count kept.event ≤ MOST_ENTRIES }
         ensures ok { OnOk result (self.new ≡ self.old ++ kept ∷ []) }
         ensures err { OnErr result (self.new ≡ self.old) }
         ensures refusal { IfErr result (λ refusal. refusal ≡ Refusal.NoMemory) }
     {
-        let key = kept.event().id.text().to_string(self.alloc)?;
-        let program = kept.event().program_id.text().to_string(self.alloc)?;
-        let shared = kept.share()?;
-        self.table.reserve()?;
-        make_room(&mut self.named, &mut self.writes)?;
-        self.named.add(program);
-        self.entries += kept.entries();
-        self.writes.add(kept.written(), shared);
-        self.table.push(key, kept);
+        let note = kept.note(self.alloc)?;
+        self.numbers.reserve()?;
+        self.table.add(self.alloc, kept)?;
+        self.numbers.add(note);
         Ok(())
     }
 
@@ -182,22 +169,17 @@ impl Events {
         requires there { IsSome (find_by (λ w. w.event.id) self.old event.id) }
         requires fresh { numbered self.old written ≡ None }
         requires apart { IsDistinct eqb (map (λ w. w.written) self.old) }
-        requires entries { sum_by (λ w. entry_count w.event) (filter (λ w. not (bytes_eq event.id w.event.id)) self.old) + entry_count event ≤ 65536 }
+        requires entries { sum_by (λ w. entry_count w.event) (filter (λ w. not (bytes_eq event.id w.event.id)) self.old) + entry_count event ≤ MOST_ENTRIES }
         ensures ok { OnOk result (self.new ≡ put_at (λ w. bytes_eq event.id w.event.id) (record { event = event; written = written }) self.old) }
         ensures err { OnErr result (self.new ≡ self.old) }
         ensures refusal { IfErr result (λ refusal. refusal ≡ Refusal.NoMemory) }
     {
-        let program = event.program_id.text().to_string(self.alloc)?;
         let kept = Kept::new(self.alloc, event, written)?;
-        let shared = kept.share()?;
-        make_room(&mut self.named, &mut self.writes)?;
-        let entries = kept.entries();
+        let note = kept.note(self.alloc)?;
+        self.numbers.reserve()?;
         let old = self.table.replace(kept);
-        self.named.take(old.event().program_id.text());
-        self.named.add(program);
-        self.entries = self.entries - old.entries() + entries;
-        self.writes.take(old.written());
-        self.writes.add(written, shared);
+        self.numbers.take(&old);
+        self.numbers.add(note);
         Ok(())
     }
 
@@ -207,21 +189,7 @@ impl Events {
         ensures { self.new ≡ filter (λ w. not (bytes_eq id.now w.event.id)) self.old }
     {
         if let Some(old) = self.table.take(id.text()) {
-            self.named.take(old.event().program_id.text());
-            self.entries -= old.entries();
-            self.writes.take(old.written());
+            self.numbers.take(&old);
         }
     }
-}
-
-/// Makes room for one more name of a program and one more write.
-fn make_room(named: &mut Tally, writes: &mut Writes) -> Result<(), Refusal>
-    ensures counts { (id : List ℕ) → times named.new.counts id ≡ times named.old.counts id }
-    ensures writes { (n : ℕ) → get nat_eq writes.new.events n ≡ get nat_eq writes.old.events n }
-    ensures named_room { OnOk result (0 < spare named.new.counts) }
-    ensures writes_room { OnOk result (0 < spare writes.new.events) }
-    ensures refusal { IfErr result (λ refusal. refusal ≡ Refusal.NoMemory) }
-{
-    named.reserve()?;
-    writes.reserve()
 }

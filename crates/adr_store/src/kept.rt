@@ -31,6 +31,28 @@ impl Model for Kept {
     ghost invariant = { λ k. k.entries ≡ entry_count k.event };
 }
 
+/// What an event adds to the numbers: the program that it names, how many entries it has, and the number of its write.
+#[derive(Drop)]
+pub struct Note {
+    pub(crate) program: String,
+    pub(crate) entries: usize,
+    pub(crate) written: u64,
+    pub(crate) event: Shared<Event>,
+}
+
+impl Model for Note {
+    ghost use Rattle.std.specs.Prelude.{◌≡◌};
+    ghost use Rattle.std.specs.String.{string_bytes};
+    ghost use Rattle.adr_model.specs.declared.written.Written.{Written};
+    ghost use Rattle.adr_model.specs.Edits.{entry_count};
+
+    ghost Value = { Written };
+
+    ghost view = { λ n. record { event = n.event; written = n.written } };
+
+    ghost invariant = { λ n. (string_bytes n.program ≡ n.event.program_id) × (n.entries ≡ entry_count n.event) };
+}
+
 impl Kept {
     pub(crate) fn new(alloc: Global, event: Event, written: u64) -> Result<Kept, Refusal>
         ensures { IsCopyOf result (record { event = event; written = written }) }
@@ -61,11 +83,16 @@ impl Kept {
         self.entries
     }
 
-    /// One more owner of the event.
-    pub(crate) fn share(&self) -> Result<Shared<Event>, Refusal>
-        ensures { IsCopyOf result self.now.event }
+    /// What the event adds to the numbers that are kept of all events. It shares the event.
+    pub(crate) fn note(&self, alloc: Global) -> Result<Note, Refusal>
+        ensures { IsCopyOf result self.now }
     {
-        self.event.copy()
+        Ok(Note {
+            program: self.event.get().program_id.text().to_string(alloc)?,
+            entries: self.entries,
+            written: self.written,
+            event: self.event.copy()?,
+        })
     }
 }
 

@@ -5,6 +5,7 @@ mod counting;
 mod events;
 mod kept;
 mod keys;
+mod numbers;
 mod resources;
 mod shared;
 mod store;

@@ -1,12 +1,10 @@
 //! The resources in order of creation, and how many name each ven.
-ghost use Rattle.std.specs.Prelude.{◌≡◌, ◌++◌, ◌∷◌, [], ◌<◌, ◌≤◌, ℕ, List, not, filter, length, slice_get, IsSome, None, OnOk, OnErr, IfErr};
+ghost use Rattle.std.specs.Prelude.{◌≡◌, ◌++◌, ◌∷◌, [], ◌<◌, ◌≤◌, not, filter, length, slice_get, IsSome, None, OnOk, OnErr, IfErr};
 ghost use Rattle.std.specs.List.{list_any};
 ghost use Rattle.std.specs.Option.{option_copied};
 ghost use Rattle.std.specs.Str.{bytes_eq};
 ghost use Rattle.adr_value.specs.Copy.{IsCopyOf};
 ghost use Rattle.adr_model.specs.Edits.{put_at};
-ghost use Rattle.indexmap.specs.IndexMap.{spare};
-ghost use Rattle.adr_store.specs.Numbers.{times};
 ghost use Rattle.adr_store.specs.Table.{find_by};
 
 use crate::shared::Shared;
@@ -14,6 +12,7 @@ use crate::table::Table;
 use crate::tally::Tally;
 use adr_object::{Id, Resource};
 use adr_value::Refusal;
+use adr_value::limits::MOST_RESOURCES;
 use std::alloc::Global;
 use std::marker::Model;
 
@@ -94,7 +93,7 @@ impl Resources {
     /// Adds the resource last.
     pub(crate) fn push(&mut self, resource: Resource) -> Result<(), Refusal>
         requires new { find_by (λ r. r.id) self.old resource.id ≡ None }
-        requires few { length self.old < 4096 }
+        requires few { length self.old < MOST_RESOURCES }
         ensures ok { OnOk result (self.new ≡ self.old ++ resource ∷ []) }
         ensures err { OnErr result (self.new ≡ self.old) }
         ensures refusal { IfErr result (λ refusal. refusal ≡ Refusal.NoMemory) }
@@ -105,16 +104,15 @@ impl Resources {
 
     fn push_shared(&mut self, resource: Shared<Resource>) -> Result<(), Refusal>
         requires new { find_by (λ r. r.id) self.old resource.id ≡ None }
-        requires few { length self.old < 4096 }
+        requires few { length self.old < MOST_RESOURCES }
         ensures ok { OnOk result (self.new ≡ self.old ++ resource ∷ []) }
         ensures err { OnErr result (self.new ≡ self.old) }
         ensures refusal { IfErr result (λ refusal. refusal ≡ Refusal.NoMemory) }
     {
-        let key = resource.get().id.text().to_string(self.alloc)?;
         let ven = resource.get().ven_id.text().to_string(self.alloc)?;
-        make_room(&mut self.table, &mut self.owners)?;
+        self.owners.reserve()?;
+        self.table.add(self.alloc, resource)?;
         self.owners.add(ven);
-        self.table.push(key, resource);
         Ok(())
     }
 
@@ -139,8 +137,8 @@ impl Resources {
         ensures err { OnErr result (self.new ≡ self.old) }
         ensures refusal { IfErr result (λ refusal. refusal ≡ Refusal.NoMemory) }
     {
-        let ven = resource.ven_id.text().to_string(self.alloc)?;
         let shared = Shared::new(self.alloc, resource)?;
+        let ven = shared.get().ven_id.text().to_string(self.alloc)?;
         self.owners.reserve()?;
         let old = self.table.replace(shared);
         self.owners.take(old.get().ven_id.text());
@@ -156,16 +154,4 @@ impl Resources {
             self.owners.take(old.get().ven_id.text());
         }
     }
-}
-
-/// Makes room for one more resource, and for one more name of a ven.
-fn make_room(table: &mut Table<Shared<Resource>>, owners: &mut Tally) -> Result<(), Refusal>
-    ensures items { table.new.items ≡ table.old.items }
-    ensures counts { (id : List ℕ) → times owners.new.counts id ≡ times owners.old.counts id }
-    ensures room { OnOk result (0 < table.new.room) }
-    ensures owners_room { OnOk result (0 < spare owners.new.counts) }
-    ensures refusal { IfErr result (λ refusal. refusal ≡ Refusal.NoMemory) }
-{
-    table.reserve()?;
-    owners.reserve()
 }

@@ -17,6 +17,7 @@ use crate::shared::Shared;
 use crate::table::Table;
 use adr_object::{Edit, Event, Id, Kind, Object, Program, Resource, Ven};
 use adr_value::Refusal;
+use adr_value::limits::{MOST_ENTRIES, MOST_EVENTS, MOST_RESOURCES, MOST_VERSION};
 use std::alloc::Global;
 use std::marker::Model;
 
@@ -51,13 +52,14 @@ impl Drop for Store {
 
 impl Model for Store {
     ghost use Rattle.std.specs.Prelude.{◌≤◌};
+    ghost use Rattle.adr_value.specs.declared.limits.TheConstants.{MOST_VERSION};
     ghost use Rattle.adr_model.specs.Book.{Book};
 
     ghost Value = { Book };
 
     ghost view = { λ o. record { version = o.version; programs = o.programs.items; vens = o.vens.items; resources = o.resources; events = o.events } };
 
-    ghost invariant = { λ o. o.version ≤ 1000000 };
+    ghost invariant = { λ o. o.version ≤ MOST_VERSION };
 }
 
 impl Store {
@@ -78,7 +80,7 @@ impl Store {
     /// The number of edits that were made.
     pub fn version(&self) -> u64
         ensures value { result ≡ self.now.version }
-        ensures bound { result ≤ 1000000 }
+        ensures bound { result ≤ MOST_VERSION }
     {
         self.version
     }
@@ -194,14 +196,14 @@ impl Store {
     /// The entries of all events but the one with the id, from a number that is kept.
     pub fn entries_beside(&self, id: &Id) -> usize
         ensures value { result ≡ sum_by (λ w. entry_count w.event) (filter (λ w. not (bytes_eq id.now w.event.id)) self.now.events) }
-        ensures bound { result ≤ 65536 }
+        ensures bound { result ≤ MOST_ENTRIES }
     {
         self.events.entries_beside(id)
     }
 
     fn create_program(&mut self, program: Program) -> Result<(), Refusal>
         requires new { program_by self.old program.id ≡ None }
-        requires room { self.old.version < 1000000 }
+        requires room { self.old.version < MOST_VERSION }
         ensures ok { OnOk result (self.new ≡ made self.old (Create (Object.Program program))) }
         ensures err { OnErr result (self.new ≡ self.old) }
         ensures refusal { IfErr result (λ refusal. refusal ≡ Refusal.NoMemory) }
@@ -214,7 +216,7 @@ impl Store {
 
     fn create_ven(&mut self, ven: Ven) -> Result<(), Refusal>
         requires new { ven_by self.old ven.id ≡ None }
-        requires room { self.old.version < 1000000 }
+        requires room { self.old.version < MOST_VERSION }
         ensures ok { OnOk result (self.new ≡ made self.old (Create (Object.Ven ven))) }
         ensures err { OnErr result (self.new ≡ self.old) }
         ensures refusal { IfErr result (λ refusal. refusal ≡ Refusal.NoMemory) }
@@ -227,8 +229,8 @@ impl Store {
 
     fn create_resource(&mut self, resource: Resource) -> Result<(), Refusal>
         requires new { resource_by self.old resource.id ≡ None }
-        requires few { length self.old.resources < 4096 }
-        requires room { self.old.version < 1000000 }
+        requires few { length self.old.resources < MOST_RESOURCES }
+        requires room { self.old.version < MOST_VERSION }
         ensures ok { OnOk result (self.new ≡ made self.old (Create (Object.Resource resource))) }
         ensures err { OnErr result (self.new ≡ self.old) }
         ensures refusal { IfErr result (λ refusal. refusal ≡ Refusal.NoMemory) }
@@ -241,9 +243,9 @@ impl Store {
     fn create_event(&mut self, event: Event) -> Result<(), Refusal>
         requires new { event_by self.old event.id ≡ None }
         requires fresh { by_number self.old.events (self.old.version + 1) ≡ None }
-        requires few { length self.old.events < 4096 }
-        requires entries { all_entries self.old.events + entry_count event ≤ 65536 }
-        requires room { self.old.version < 1000000 }
+        requires few { length self.old.events < MOST_EVENTS }
+        requires entries { all_entries self.old.events + entry_count event ≤ MOST_ENTRIES }
+        requires room { self.old.version < MOST_VERSION }
         ensures ok { OnOk result (self.new ≡ made self.old (Create (Object.Event event))) }
         ensures err { OnErr result (self.new ≡ self.old) }
         ensures refusal { IfErr result (λ refusal. refusal ≡ Refusal.NoMemory) }
@@ -255,7 +257,7 @@ impl Store {
 
     fn change_program(&mut self, program: Program) -> Result<(), Refusal>
         requires there { IsSome (program_by self.old program.id) }
-        requires room { self.old.version < 1000000 }
+        requires room { self.old.version < MOST_VERSION }
         ensures ok { OnOk result (self.new ≡ made self.old (Change (Object.Program program))) }
         ensures err { OnErr result (self.new ≡ self.old) }
         ensures refusal { IfErr result (λ refusal. refusal ≡ Refusal.NoMemory) }
@@ -268,7 +270,7 @@ impl Store {
 
     fn change_ven(&mut self, ven: Ven) -> Result<(), Refusal>
         requires there { IsSome (ven_by self.old ven.id) }
-        requires room { self.old.version < 1000000 }
+        requires room { self.old.version < MOST_VERSION }
         ensures ok { OnOk result (self.new ≡ made self.old (Change (Object.Ven ven))) }
         ensures err { OnErr result (self.new ≡ self.old) }
         ensures refusal { IfErr result (λ refusal. refusal ≡ Refusal.NoMemory) }
@@ -281,7 +283,7 @@ impl Store {
 
     fn change_resource(&mut self, resource: Resource) -> Result<(), Refusal>
         requires there { IsSome (resource_by self.old resource.id) }
-        requires room { self.old.version < 1000000 }
+        requires room { self.old.version < MOST_VERSION }
         ensures ok { OnOk result (self.new ≡ made self.old (Change (Object.Resource resource))) }
         ensures err { OnErr result (self.new ≡ self.old) }
         ensures refusal { IfErr result (λ refusal. refusal ≡ Refusal.NoMemory) }
@@ -295,8 +297,8 @@ impl Store {
         requires there { IsSome (event_by self.old event.id) }
         requires fresh { by_number self.old.events (self.old.version + 1) ≡ None }
         requires apart { IsDistinct eqb (map (λ w. w.written) self.old.events) }
-        requires entries { sum_by (λ w. entry_count w.event) (filter (λ w. not (bytes_eq event.id w.event.id)) self.old.events) + entry_count event ≤ 65536 }
-        requires room { self.old.version < 1000000 }
+        requires entries { sum_by (λ w. entry_count w.event) (filter (λ w. not (bytes_eq event.id w.event.id)) self.old.events) + entry_count event ≤ MOST_ENTRIES }
+        requires room { self.old.version < MOST_VERSION }
         ensures ok { OnOk result (self.new ≡ made self.old (Change (Object.Event event))) }
         ensures err { OnErr result (self.new ≡ self.old) }
         ensures refusal { IfErr result (λ refusal. refusal ≡ Refusal.NoMemory) }
@@ -308,7 +310,7 @@ impl Store {
 
     fn remove(&mut self, kind: Kind, id: &Id)
         requires apart { IsDistinct eqb (map (λ w. w.written) self.old.events) }
-        requires room { self.old.version < 1000000 }
+        requires room { self.old.version < MOST_VERSION }
         ensures { self.new ≡ made self.old (Remove kind id.now) }
     {
         match kind {

@@ -1,4 +1,5 @@
-use adr_server::run;
+//! Worked scripts, each behind one setting.
+use adr_server::{Tie, run};
 use std::sync::Wait;
 use std::test::Fail;
 use std::thread::Threads;
@@ -35,13 +36,22 @@ fn split_transcript(
 
 /// Whether the program, behind the setting, answers the lines of the transcript with the replies that stand in it.
 fn is_answered(rt: &(impl AllocGlobal + Threads + Wait), transcript: &str) -> Result<bool, Fail> {
+    is_answered_by(rt, Tie::Newest, transcript)
+}
+
+/// The same under a rule for ties.
+fn is_answered_by(
+    rt: &(impl AllocGlobal + Threads + Wait),
+    tie: Tie,
+    transcript: &str,
+) -> Result<bool, Fail> {
     let mut asked = String::new(rt.alloc());
     let mut answered = String::new(rt.alloc());
     split_transcript(SETTING, &mut asked, &mut answered)?;
     split_transcript(transcript, &mut asked, &mut answered)?;
     let mut reader = asked.as_bytes();
     let mut writer = Vec::new(rt.alloc());
-    run(rt, &mut reader, &mut writer, 2)?;
+    run(rt, &mut reader, &mut writer, 2, tie)?;
     Ok(writer.as_slice() == answered.as_bytes())
 }
 
@@ -82,6 +92,7 @@ at r1 PRICE 2024-01-01T02:30:00Z
 #[test]
 fn a_lower_priority_number_goes_first(rt: HostRuntime) -> Result<(), Fail> {
     assert!(rt; is_answered(&rt, PRIORITIES)?);
+    assert!(rt; is_answered_by(&rt, Tie::LatestStart, PRIORITIES)?);
     Ok(())
 }
 
@@ -98,6 +109,7 @@ at r1 PRICE 2024-01-01T00:30:00Z
 #[test]
 fn of_one_priority_the_later_write_governs(rt: HostRuntime) -> Result<(), Fail> {
     assert!(rt; is_answered(&rt, TIES)?);
+    assert!(rt; is_answered_by(&rt, Tie::LatestStart, TIES)?);
     Ok(())
 }
 
@@ -363,5 +375,80 @@ edit 2024-01-01T00:00:00Z create program p2 {"programName":"P"}
 #[test]
 fn each_refusal_by_its_line(rt: HostRuntime) -> Result<(), Fail> {
     assert!(rt; is_answered(&rt, REFUSALS)?);
+    Ok(())
+}
+
+const OVERLAPPING_NEWEST: &str =
+    r#"edit 2024-01-01T00:00:00Z create event e1 {"programID":"p1","priority":3,"intervals":[{"id":0,"intervalPeriod":{"start":"2024-01-01T01:00:00Z","duration":"PT2H"},"payloads":[{"type":"PRICE","values":[10]}]}]}
+> ok 4
+edit 2024-01-01T00:00:00Z create event e2 {"programID":"p1","priority":3,"intervals":[{"id":0,"intervalPeriod":{"start":"2024-01-01T00:00:00Z","duration":"PT4H"},"payloads":[{"type":"PRICE","values":[20]}]}]}
+> ok 5
+publish
+> published 1 version 5
+at r1 PRICE 2024-01-01T00:30:00Z
+> version 5 event e2 interval 0 until 2024-01-01T04:00:00Z values 20
+at r1 PRICE 2024-01-01T01:30:00Z
+> version 5 event e2 interval 0 until 2024-01-01T04:00:00Z values 20
+at r1 PRICE 2024-01-01T03:30:00Z
+> version 5 event e2 interval 0 until 2024-01-01T04:00:00Z values 20"#;
+
+const OVERLAPPING_LATEST_START: &str =
+    r#"edit 2024-01-01T00:00:00Z create event e1 {"programID":"p1","priority":3,"intervals":[{"id":0,"intervalPeriod":{"start":"2024-01-01T01:00:00Z","duration":"PT2H"},"payloads":[{"type":"PRICE","values":[10]}]}]}
+> ok 4
+edit 2024-01-01T00:00:00Z create event e2 {"programID":"p1","priority":3,"intervals":[{"id":0,"intervalPeriod":{"start":"2024-01-01T00:00:00Z","duration":"PT4H"},"payloads":[{"type":"PRICE","values":[20]}]}]}
+> ok 5
+publish
+> published 1 version 5
+at r1 PRICE 2024-01-01T00:30:00Z
+> version 5 event e2 interval 0 until 2024-01-01T01:00:00Z values 20
+at r1 PRICE 2024-01-01T01:30:00Z
+> version 5 event e1 interval 0 until 2024-01-01T03:00:00Z values 10
+at r1 PRICE 2024-01-01T03:30:00Z
+> version 5 event e2 interval 0 until 2024-01-01T04:00:00Z values 20"#;
+
+const FOUR_INTERVALS_LATEST_START: &str =
+    r#"edit 2024-01-01T00:00:00Z create event e1 {"programID":"p1","intervalPeriod":{"start":"2024-01-01T00:00:00Z","duration":"PT1H"},"intervals":[{"id":0,"payloads":[{"type":"PRICE","values":[1]}]},{"id":1,"payloads":[{"type":"PRICE","values":[2]}]},{"id":2,"payloads":[{"type":"PRICE","values":[3]}]},{"id":3,"intervalPeriod":{"start":"2024-01-01T01:30:00Z","duration":"PT1H"},"payloads":[{"type":"PRICE","values":[4]}]}]}
+> ok 4
+publish
+> published 1 version 4
+at r1 PRICE 2024-01-01T00:30:00Z
+> version 4 event e1 interval 0 until 2024-01-01T01:00:00Z values 1
+at r1 PRICE 2024-01-01T01:15:00Z
+> version 4 event e1 interval 1 until 2024-01-01T01:30:00Z values 2
+at r1 PRICE 2024-01-01T01:45:00Z
+> version 4 event e1 interval 3 until 2024-01-01T02:00:00Z values 4
+at r1 PRICE 2024-01-01T02:15:00Z
+> version 4 event e1 interval 2 until 2024-01-01T03:00:00Z values 3
+at r1 PRICE 2024-01-01T03:00:00Z
+> version 4 none until end"#;
+
+#[test]
+fn of_one_priority_the_rule_for_ties_decides(rt: HostRuntime) -> Result<(), Fail> {
+    assert!(rt; is_answered_by(&rt, Tie::Newest, OVERLAPPING_NEWEST)?);
+    assert!(rt; is_answered_by(&rt, Tie::LatestStart, OVERLAPPING_LATEST_START)?);
+    assert!(rt; is_answered_by(&rt, Tie::LatestStart, FOUR_INTERVALS_LATEST_START)?);
+    Ok(())
+}
+
+const CONDENSED: &str = r#"condense
+> condensed version 0
+publish
+> published 1 version 3
+edit 2024-01-01T00:00:00Z create event e1 {"programID":"p1","intervals":[{"id":0,"intervalPeriod":{"start":"2024-01-01T00:00:00Z","duration":"PT1H"},"payloads":[{"type":"PRICE","values":[0.17]}]}]}
+> ok 4
+condense
+> condensed version 3
+publish
+> published 2 version 4
+at r1 PRICE 2024-01-01T00:30:00Z
+> version 4 event e1 interval 0 until 2024-01-01T01:00:00Z values 0.17
+condense
+> condensed version 4
+condense 
+> refused 2 BadLine"#;
+
+#[test]
+fn condensing_changes_no_answer(rt: HostRuntime) -> Result<(), Fail> {
+    assert!(rt; is_answered(&rt, CONDENSED)?);
     Ok(())
 }

@@ -2,7 +2,7 @@
 ghost use Rattle.std.specs.Prelude.{◌≡◌, ◌↔◌, IsTrue, false};
 ghost use Rattle.adr_time.specs.Calendar.{is_in_range_sum, is_moment, sum_in_utc};
 ghost use Rattle.adr_time.specs.Ends.{NeedsOnlyItsSum, end_after, moment_after};
-ghost use Rattle.adr_time.specs.Spans.{Covers, Meets, covers as span_covers, meets as span_meets};
+ghost use Rattle.adr_time.specs.Spans.{Covers, Meets, covers, meets};
 
 use crate::{Length, Moment};
 use adr_value::Refusal;
@@ -29,11 +29,11 @@ pub struct Span {
 }
 
 impl Moment {
-    ghost use Rattle.adr_time.specs.Spans.{IsBefore, is_before as lies_before};
+    ghost use Rattle.adr_time.specs.Spans.{IsBefore, is_before};
 
     /// Whether the moment comes before the end.
     pub fn is_before(self, end: End) -> bool
-        ensures test { result ≡ lies_before self end }
+        ensures test { result ≡ is_before self end }
         ensures meaning { IsTrue result ↔ IsBefore self end }
     {
         match end {
@@ -45,7 +45,7 @@ impl Moment {
 
 /// Whether the moment lies in the span: the start does, and the end does not.
 pub fn covers(span: &Span, moment: Moment) -> bool
-    ensures test { result ≡ span_covers span.now moment }
+    ensures test { result ≡ covers span.now moment }
     ensures meaning { IsTrue result ↔ Covers span.now moment }
 {
     span.start <= moment && moment.is_before(span.end)
@@ -54,7 +54,7 @@ pub fn covers(span: &Span, moment: Moment) -> bool
 /// Whether some moment lies in both spans. Spans that only touch share none.
 #[tactic(auto, using(crate::proofs::SpanLemmas::meets_meaning))]
 pub fn meets(a: &Span, b: &Span) -> bool
-    ensures test { result ≡ span_meets a.now b.now }
+    ensures test { result ≡ meets a.now b.now }
     ensures meaning { IsTrue result ↔ Meets a.now b.now }
 {
     a.start.is_before(a.end)

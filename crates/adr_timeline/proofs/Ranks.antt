@@ -1,26 +1,20 @@
 -- The order of ranks, and the least rank of a list of entries.
 use Rattle.std.proofs.Common.{◌≡◌, Bool, true, false, cond, List, [], ◌∷◌, ◌++◌, Option, Some, None, filter, if◌then◌else◌, refl, sym, ◌∙◌, ap, arith, ℤ}
 use Rattle.std.specs.Option.{option_map, option_map_or}
-use Rattle.std.proofs.lemmas.Bool.Decides.{nat_tests}
 use Rattle.adr_time.specs.Spans.{covers}
 use Rattle.adr_model.specs.declared.entry.Entry.{Entry}
 use Rattle.adr_model.specs.declared.entry.Rank.{Rank}
 use Rattle.adr_model.specs.Rank.{goes_before}
+use Rattle.adr_model.proofs.Order.{going_before_passes_on, not_going_before_passes_on}
 use Rattle.adr_model.specs.Governor.{first_of, winner_of, winner_at}
 use Rattle.adr_timeline.specs.Steps.{lesser, rank_at, winner_of_rank}
 
-before_trans : (a b c : Rank) → goes_before a b ≡ true → goes_before b c ≡ true → goes_before a c ≡ true
-before_trans a b c h k = grind (arith, nat_tests)
-
-not_before_trans : (a b c : Rank) → goes_before a b ≡ false → goes_before b c ≡ false → goes_before a c ≡ false
-not_before_trans a b c h k = grind (arith, nat_tests)
-
 -- of three, in either grouping
 lesser_of_three : (a b c : Rank) (x y : Bool) → goes_before b a ≡ x → goes_before c b ≡ y → lesser (Some (if x then b else a)) (Some c) ≡ lesser (Some a) (Some (if y then c else b))
-lesser_of_three a b c true true p q = rw (q, before_trans c b a q p)
+lesser_of_three a b c true true p q = rw (q, going_before_passes_on c b a q p)
 lesser_of_three a b c true false p q = rw (q, p)
 lesser_of_three a b c false true p q = refl
-lesser_of_three a b c false false p q = rw (p, not_before_trans c b a q p)
+lesser_of_three a b c false false p q = rw (p, not_going_before_passes_on c b a q p)
 
 pub lesser_assoc : (a b c : Option Rank) → lesser (lesser a b) c ≡ lesser a (lesser b c)
 lesser_assoc None b c = refl

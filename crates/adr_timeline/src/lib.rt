@@ -10,6 +10,3 @@ mod timeline;
 
 pub use adr_model::{Entry, Segment, Winner};
 pub use timeline::{Timeline, timeline_laws};
-
-#[cfg(test)]
-mod tests;

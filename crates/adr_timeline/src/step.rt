@@ -19,7 +19,7 @@ pub(crate) struct Step {
 
 /// The rank that goes before the other, where there are two. At most one comparison.
 fn lesser(first: Option<Rank>, second: Option<Rank>, meter: &mut Meter) -> Option<Rank>
-    requires { meter.old + 1 < 2 ^ 64 }
+    requires { meter.old + 1 < 2 ^ 128 }
     ensures lesser { result ≡ the_lesser first second }
     ensures compared { meter.new ≤ meter.old + 1 }
 {
@@ -54,7 +54,7 @@ fn merged(
     right: &[Step],
     meter: &mut Meter,
 ) -> Result<Vec<Step>, AllocError>
-    requires room { meter.old + (length left.now + length right.now) < 2 ^ 64 }
+    requires room { meter.old + (length left.now + length right.now) < 2 ^ 128 }
     requires left { IsInOrder left.now }
     requires right { IsInOrder right.now }
     ensures order { IfOk result (λ steps. IsInOrder steps.items) }
@@ -113,7 +113,7 @@ pub(crate) fn ranked(
     entries: &[Entry],
     meter: &mut Meter,
 ) -> Result<Vec<Step>, AllocError>
-    requires { meter.old + length entries.now * (2 * length entries.now + 1) < 2 ^ 64 }
+    requires { meter.old + length entries.now * (2 * length entries.now + 1) < 2 ^ 128 }
     ensures order { IfOk result (λ steps. IsInOrder steps.items) }
     ensures length { IfOk result (λ steps. length steps.items ≤ 2 * length entries.now) }
     ensures ranks { IfOk result (λ steps. (t : ℤ) → rank_from None steps.items t ≡ rank_at entries.now t) }

@@ -69,7 +69,7 @@ impl Timeline {
         window: Span,
         meter: &mut Meter,
     ) -> Result<Timeline, Refusal>
-        requires { meter.old + most_compared entries.now window < 2 ^ 64 }
+        requires { meter.old + most_compared entries.now window < 2 ^ 128 }
         ensures canonical { IfOk result (λ timeline. IsCanonical timeline) }
         ensures shows { IfOk result (λ timeline. (t : ℤ) → shows timeline t ≡ (if covers window t then winner_at entries.now t else None)) }
         ensures compared { meter.new ≤ meter.old + most_compared entries.now window }

@@ -10,6 +10,3 @@ mod windows;
 
 pub use listing::touches;
 pub use objects::Objects;
-
-#[cfg(test)]
-mod tests;

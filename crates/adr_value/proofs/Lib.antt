@@ -1,8 +1,10 @@
+pub mod Agreeing
 pub mod BodyLemmas
 pub mod Judged
 pub mod NumbersLemmas
 pub mod OneCutLemmas
 pub mod PackedLemmas
+pub mod PayloadParts
 pub mod PayloadTable
 pub mod PowerLemmas
 pub mod PrefixLemmas

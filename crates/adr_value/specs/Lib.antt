@@ -1,8 +1,10 @@
+pub mod Agreeing
 pub mod Answer
 pub mod Body
 pub mod Copy
 pub mod Digits
 pub mod Faults
+pub mod Limits
 pub mod Names
 pub mod Number
 pub mod Numbers

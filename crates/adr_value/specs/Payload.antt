@@ -1,5 +1,5 @@
 -- The table of payload types.
-use Rattle.std.specs.Prelude.{Result, Ok, Err, if◌then◌else◌, ℕ, ◌==◌, List, [], ◌∷◌, Option, Some, option_map, unwrap_or, codes, find, bytes_eq, ◌≡◌, ◌<◌, map, All, false}
+use Rattle.std.specs.Prelude.{Result, Ok, Err, if◌then◌else◌, ℕ, ◌==◌, List, [], ◌∷◌, ◌++◌, Option, Some, option_map, unwrap_or, codes, find, bytes_eq, ◌≡◌, ◌<◌, map, All, false}
 use Rattle.adr_value.specs.Names.{is_name}
 use Rattle.adr_value.specs.declared.refusal.Refusal.{Refusal}
 use Rattle.adr_value.specs.declared.refusal.Refusal.TheVariants.{BadText}
@@ -18,9 +18,9 @@ pub record Row : Type 0 where
 abbrev pub row : PayloadType → ℕ → List ℕ → Shape → Row
 row p c n s = record { case = p; code = c; name = n; shape = s }
 
--- the 34 types of the profile
-abbrev pub table : List Row
-table =
+-- the 34 types of the profile, in three parts
+abbrev pub signals : List Row
+signals =
     row Simple 0 (codes "SIMPLE") Whole ∷
     row Price 1 (codes "PRICE") Amount ∷
     row ChargeStateSetpoint 2 (codes "CHARGE_STATE_SETPOINT") Amount ∷
@@ -31,6 +31,10 @@ table =
     row Ghg 7 (codes "GHG") Amount ∷
     row Curve 8 (codes "CURVE") Points ∷
     row Ols 9 (codes "OLS") Amount ∷
+    []
+
+abbrev pub capacities : List Row
+capacities =
     row ImportCapacitySubscription 10 (codes "IMPORT_CAPACITY_SUBSCRIPTION") Amount ∷
     row ImportCapacityReservation 11 (codes "IMPORT_CAPACITY_RESERVATION") Amount ∷
     row ImportCapacityReservationFee 12 (codes "IMPORT_CAPACITY_RESERVATION_FEE") Amount ∷
@@ -43,6 +47,10 @@ table =
     row ExportCapacityAvailablePrice 19 (codes "EXPORT_CAPACITY_AVAILABLE_PRICE") Amount ∷
     row ImportCapacityLimit 20 (codes "IMPORT_CAPACITY_LIMIT") Amount ∷
     row ExportCapacityLimit 21 (codes "EXPORT_CAPACITY_LIMIT") Amount ∷
+    []
+
+abbrev pub alerts : List Row
+alerts =
     row AlertGridEmergency 22 (codes "ALERT_GRID_EMERGENCY") Notes ∷
     row AlertBlackStart 23 (codes "ALERT_BLACK_START") Notes ∷
     row AlertPossibleOutage 24 (codes "ALERT_POSSIBLE_OUTAGE") Notes ∷
@@ -57,9 +65,16 @@ table =
     row Cta2045SetOverrideStatus 33 (codes "CTA2045_SET_OVERRIDE_STATUS") Any ∷
     []
 
+abbrev pub table : List Row
+table = signals ++ capacities ++ alerts
+
+-- the type of the first of some rows that has a name
+abbrev pub type_in : List Row → List ℕ → Option PayloadType
+type_in rows text = option_map (λ r. r.case) (find (λ r. bytes_eq text r.name) rows)
+
 -- the type of a name: that of its row, or a private one
 abbrev pub type_of : List ℕ → PayloadType
-type_of text = unwrap_or (option_map (λ r. r.case) (find (λ r. bytes_eq text r.name) table)) (Private text)
+type_of text = unwrap_or (type_in table text) (Private text)
 
 -- a name has 1 to 128 characters
 abbrev pub type_named : List ℕ → Result PayloadType Refusal

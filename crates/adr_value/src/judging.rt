@@ -13,6 +13,7 @@
 //! Where the parts are elements of a list, it makes a `Faults`, passes it each fault by `note`, and ends
 //! with `answer`. Want of memory is no fault of the input: both hand it on at once.
 ghost use Rattle.std.specs.Prelude.{◌≡◌, ◌≢◌, List, ◌++◌, IfOk, IfErr, OnOk, ℕ, min};
+ghost use Rattle.adr_value.specs.Answer.{OnlyNoMemory};
 ghost use Rattle.adr_value.specs.Faults.{Gives, IsRefusedFor, LeastIsLeast, NoneIsNone, none};
 ghost use Rattle.adr_value.specs.Refusal.{number_of};
 ghost use Rattle.adr_value.specs.declared.refusal.Refusal.{Refusal};
@@ -49,7 +50,7 @@ impl Faults {
     pub fn note(&mut self, refusal: Refusal) -> Result<(), Refusal>
         ensures noted { OnOk result (self.new ≡ min self.old (number_of refusal)) }
         ensures fault { OnOk result (number_of refusal ≢ 99) }
-        ensures memory { IfErr result (λ f. f ≡ Refusal.NoMemory) }
+        ensures memory { OnlyNoMemory result }
     {
         if refusal == Refusal::NoMemory {
             return Err(refusal);

@@ -5,6 +5,7 @@
 mod datum;
 mod decimal;
 mod judging;
+pub mod limits;
 mod list;
 mod parts;
 mod payload;

@@ -3,7 +3,7 @@ ghost use Rattle.std.specs.Prelude.{◌≡◌, false, IsTrue};
 ghost use Rattle.adr_value.specs.Answer.{Answers};
 ghost use Rattle.adr_value.specs.Copy.{IsCopyOf};
 ghost use Rattle.adr_value.specs.Names.{is_name, is_table_name};
-ghost use Rattle.adr_value.specs.Payload.{type_of, type_named, RowsAgree, NamesReturn, CodesReturn, PrivateNamesDiffer};
+ghost use Rattle.adr_value.specs.Payload.{type_of, type_in, signals, capacities, alerts, type_named, RowsAgree, NamesReturn, CodesReturn, PrivateNamesDiffer};
 
 use crate::refusal::Refusal;
 use crate::text::Name;
@@ -114,47 +114,47 @@ pub enum PayloadType {
     Private(PrivateName),
 }
 
-/// The table of payload types. `payload_table!(WHAT (ARGUMENTS))` makes the match of WHAT from its rows.
-#[macro_export]
+/// The table of payload types, in three parts. `payload_table!(WHAT (ARGUMENTS))` makes the match of WHAT from its rows,
+/// `payload_table!(@PART [@WHAT (ARGUMENTS)])` that of the rows of a part.
 macro_rules! payload_table {
-    (@type_of ($text:expr, $other:ident, $private:expr) $($case:ident $code:literal $name:literal $shape:ident,)*) => {
+    (@type_of ($text:expr) $([$($case:ident $code:literal $name:literal $shape:ident,)*])*) => {
         match $text {
-            $($name => Ok($crate::PayloadType::$case),)*
-            $other => $private,
-        }
-    };
-    (@name ($payload:expr, $text:ident, $private:expr) $($case:ident $code:literal $name:literal $shape:ident,)*) => {
-        match $payload {
-            $($crate::PayloadType::$case => $name,)*
-            $crate::PayloadType::Private($text) => $private,
-        }
-    };
-    (@code ($payload:expr) $($case:ident $code:literal $name:literal $shape:ident,)*) => {
-        match $payload {
-            $($crate::PayloadType::$case => $code,)*
-            $crate::PayloadType::Private(_) => 34,
-        }
-    };
-    (@of_code ($number:expr) $($case:ident $code:literal $name:literal $shape:ident,)*) => {
-        match $number {
-            $($code => Some($crate::PayloadType::$case),)*
+            $($($name => Some(PayloadType::$case),)*)*
             _ => None,
         }
     };
-    (@copy ($payload:expr, $text:ident, $private:expr) $($case:ident $code:literal $name:literal $shape:ident,)*) => {
+    (@name ($payload:expr, $text:ident, $private:expr) $([$($case:ident $code:literal $name:literal $shape:ident,)*])*) => {
         match $payload {
-            $($crate::PayloadType::$case => Ok($crate::PayloadType::$case),)*
-            $crate::PayloadType::Private($text) => $private,
+            $($(PayloadType::$case => $name,)*)*
+            PayloadType::Private($text) => $private,
         }
     };
-    (@shape ($payload:expr) $($case:ident $code:literal $name:literal $shape:ident,)*) => {
+    (@code ($payload:expr) $([$($case:ident $code:literal $name:literal $shape:ident,)*])*) => {
         match $payload {
-            $($crate::PayloadType::$case => $crate::Shape::$shape,)*
-            $crate::PayloadType::Private(_) => $crate::Shape::Any,
+            $($(PayloadType::$case => $code,)*)*
+            PayloadType::Private(_) => 34,
         }
     };
-    ($what:ident $arguments:tt) => {
-        $crate::payload_table! { @$what $arguments
+    (@of_code ($number:expr) $([$($case:ident $code:literal $name:literal $shape:ident,)*])*) => {
+        match $number {
+            $($($code => Some(PayloadType::$case),)*)*
+            _ => None,
+        }
+    };
+    (@copy ($payload:expr, $text:ident, $private:expr) $([$($case:ident $code:literal $name:literal $shape:ident,)*])*) => {
+        match $payload {
+            $($(PayloadType::$case => Ok(PayloadType::$case),)*)*
+            PayloadType::Private($text) => $private,
+        }
+    };
+    (@shape ($payload:expr) $([$($case:ident $code:literal $name:literal $shape:ident,)*])*) => {
+        match $payload {
+            $($(PayloadType::$case => Shape::$shape,)*)*
+            PayloadType::Private(_) => Shape::Any,
+        }
+    };
+    (@signals [$($to:tt)*]) => {
+        payload_table! { $($to)* [
             Simple 0 "SIMPLE" Whole,
             Price 1 "PRICE" Amount,
             ChargeStateSetpoint 2 "CHARGE_STATE_SETPOINT" Amount,
@@ -165,6 +165,10 @@ macro_rules! payload_table {
             Ghg 7 "GHG" Amount,
             Curve 8 "CURVE" Points,
             Ols 9 "OLS" Amount,
+        ] }
+    };
+    (@capacities [$($to:tt)*]) => {
+        payload_table! { $($to)* [
             ImportCapacitySubscription 10 "IMPORT_CAPACITY_SUBSCRIPTION" Amount,
             ImportCapacityReservation 11 "IMPORT_CAPACITY_RESERVATION" Amount,
             ImportCapacityReservationFee 12 "IMPORT_CAPACITY_RESERVATION_FEE" Amount,
@@ -177,6 +181,10 @@ macro_rules! payload_table {
             ExportCapacityAvailablePrice 19 "EXPORT_CAPACITY_AVAILABLE_PRICE" Amount,
             ImportCapacityLimit 20 "IMPORT_CAPACITY_LIMIT" Amount,
             ExportCapacityLimit 21 "EXPORT_CAPACITY_LIMIT" Amount,
+        ] }
+    };
+    (@alerts [$($to:tt)*]) => {
+        payload_table! { $($to)* [
             AlertGridEmergency 22 "ALERT_GRID_EMERGENCY" Notes,
             AlertBlackStart 23 "ALERT_BLACK_START" Notes,
             AlertPossibleOutage 24 "ALERT_POSSIBLE_OUTAGE" Notes,
@@ -189,7 +197,16 @@ macro_rules! payload_table {
             AlertOther 31 "ALERT_OTHER" Notes,
             Cta2045Reboot 32 "CTA2045_REBOOT" Any,
             Cta2045SetOverrideStatus 33 "CTA2045_SET_OVERRIDE_STATUS" Any,
-        }
+        ] }
+    };
+    (@with_capacities $what:ident $arguments:tt $signals:tt) => {
+        payload_table! { @capacities [@with_alerts $what $arguments $signals] }
+    };
+    (@with_alerts $what:ident $arguments:tt $signals:tt $capacities:tt) => {
+        payload_table! { @alerts [@$what $arguments $signals $capacities] }
+    };
+    ($what:ident $arguments:tt) => {
+        payload_table! { @signals [@with_capacities $what $arguments] }
     };
 }
 
@@ -207,11 +224,18 @@ impl PayloadType {
         PayloadType::of_name(alloc, text)
     }
 
+    #[tactic(auto, using(crate::proofs::PayloadParts::type_of_none, crate::proofs::PayloadParts::no_table_name))]
     fn of_name(alloc: Global, text: &str) -> Result<PayloadType, Refusal>
         requires { IsTrue (is_name text.now) }
         ensures { IsCopyOf result (type_of text.now) }
     {
-        payload_table!(type_of(text, other, private(alloc, other)))
+        match signal_of_name(text)
+            .or(capacity_of_name(text))
+            .or(alert_of_name(text))
+        {
+            Some(payload_type) => Ok(payload_type),
+            None => private(alloc, text),
+        }
     }
 
     /// The name that bodies and scripts know the type by, which `type_of` reads back.
@@ -254,6 +278,24 @@ impl TryClone for PayloadType {
     fn try_clone(&self) -> Result<PayloadType, Refusal> {
         self.copy()
     }
+}
+
+fn signal_of_name(text: &str) -> Option<PayloadType>
+    ensures { result ≡ type_in signals text.now }
+{
+    payload_table!(@signals [@type_of (text)])
+}
+
+fn capacity_of_name(text: &str) -> Option<PayloadType>
+    ensures { result ≡ type_in capacities text.now }
+{
+    payload_table!(@capacities [@type_of (text)])
+}
+
+fn alert_of_name(text: &str) -> Option<PayloadType>
+    ensures { result ≡ type_in alerts text.now }
+{
+    payload_table!(@alerts [@type_of (text)])
 }
 
 fn private(alloc: Global, text: &str) -> Result<PayloadType, Refusal>

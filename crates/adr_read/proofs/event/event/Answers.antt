@@ -10,7 +10,7 @@ use Rattle.adr_read.specs.Looking.{member_at}
 use Rattle.adr_read.specs.Sets.{list_in}
 use Rattle.adr_read.specs.Values.{text_in, priority_in}
 use Rattle.adr_read.specs.Periods.{period_in, interval_in}
-use Rattle.adr_read.specs.Objects.{common_faults, own_targets, event_head_faults, event_tail_faults, event_faults, event_in}
+use Rattle.adr_read.specs.Objects.{common_faults, own_targets, event_head_faults, event_tail_faults, event_faults, event_faults_by, event_in}
 use Rattle.adr_read.proofs.event.event.Goals as goal
 
 abbrev Head : Type 0
@@ -31,7 +31,7 @@ made id p = record {
 }
 
 pub returns : goal.returns
-unfolding event_faults event_in
+unfolding event_faults_by event_in
 returns c moment d hk hi ht hp hn hr hq hs =
     let k = member_at (codes "objectType") d in
     let i = member_at (codes "id") d in
@@ -50,7 +50,7 @@ returns c moment d hk hi ht hp hn hr hq hs =
     (all.0, ap with_id c.in_ok-copy.ensures ∙ ap (made c.args.id.now) all.1)
 
 pub returns-in_err-program_id : goal.returns-in_err-program_id
-unfolding event_faults event_in
+unfolding event_faults_by event_in
 returns-in_err-program_id c moment d hk hi ht hp hn hr hq hs =
     let k = member_at (codes "objectType") d in
     let i = member_at (codes "id") d in

@@ -1,14 +1,14 @@
 use Rattle.std.proofs.Common.{◌≡◌, ◌∙◌, [], codes, get_or, ap}
 use Rattle.std.proofs.lemmas.Result.{err_from_is_err_and}
 use Rattle.adr_value.specs.Faults.{judged}
-use Rattle.adr_read.specs.Body.{object_named, event_named}
+use Rattle.adr_read.specs.Body.{object_named, event_named, event_named_by}
 use Rattle.adr_read.specs.Names.{member_text}
 use Rattle.adr_read.specs.Objects.{event_faults, event_in}
 use Rattle.adr_read.proofs.Reading.{object_refused, object_answers}
 use Rattle.adr_read.proofs.read.read_event.Goals as goal
 
 pub returns : goal.returns
-unfolding event_named
+unfolding event_named_by
 returns c =
     let told = c.in_ok-read_object.ensures.told in
     let names = c.in_ok-read_object.ensures.names in
@@ -24,7 +24,7 @@ returns c =
     (c.event.ensures c.args.now told.0 (rw kind at told.2.0.0.0) (rw id at told.2.0.0.1) (rw targets at told.2.0.1) (rw program at told.2.1.0.0.0) (rw name at told.2.1.0.0.1) (rw priority at told.2.1.0.1) (rw period at told.2.1.1.0) (rw intervals at told.2.1.1.1))
 
 pub returns-in_err-read_object : goal.returns-in_err-read_object
-unfolding event_named
+unfolding event_named_by
 returns-in_err-read_object c =
     let out = err_from_is_err_and c.from_residual.result c.from_residual.ensures.1 in
     rw (out.1, out.2) (object_refused c.in_err-read_object.field-0.0 (object_named c.args.body.now) (λ d. judged (event_faults c.args.id.now d) (event_in c.args.now c.args.id.now d)) c.in_err-read_object.ensures.told)

@@ -9,7 +9,10 @@ moves_front all part rest n e =
 
 pub loop-rest-preserved : goal.loop-rest-preserved
 loop-rest-preserved g c =
-    let (part, split, appended) = c.loop-rest.invariant in
+    let (part, split, appended) = c.loop-rest.invariant.told in
     let rest = c.loop-rest.rest.now in
     let n = c.in_ok-count.count in
-    (part ++ take n rest, moves_front _ part rest n split, Appends-trans _ _ _ _ _ appended c.in_ok-count.ensures.ok.2)
+    record {
+      unfailed = c.in_ok-count.ensures.unfailed ∙ c.loop-rest.invariant.unfailed;
+      told = (part ++ take n rest, moves_front _ part rest n split, Appends-trans _ _ _ _ _ appended c.in_ok-count.ensures.ok.2);
+    }

@@ -8,7 +8,7 @@ pub ranked-requires-in_default : goal.ranked-requires-in_default
 ranked-requires-in_default t c =
     let some : 2 ≤ length c.args.entries.now = search rules in
     let h = halved c.split_at.result.0.now c.split_at.result.1.now c.args.entries.now (length c.args.entries.now / 2) refl some c.split_at.ensures.front c.split_at.ensures.back in
-    ((search rules), back_room c.split_at.result.0.now c.split_at.result.1.now c.args.entries.now c.args.meter.now c.ranked.new.meter (2 ^ 64) h c.requires c.ranked.ensures.compared)
+    ((search rules), back_room c.split_at.result.0.now c.split_at.result.1.now c.args.entries.now c.args.meter.now c.ranked.new.meter (2 ^ 128) h c.requires c.ranked.ensures.compared)
 
 pub returns-in_err-right-in_default-clause-compared : goal.returns-in_err-right-in_default-clause-compared
 returns-in_err-right-in_default-clause-compared t c =
@@ -29,7 +29,7 @@ merged-requires-clause-room t c =
     let some : 2 ≤ length c.args.entries.now = search rules in
     let h = halved c.split_at.result.0.now c.split_at.result.1.now c.args.entries.now (length c.args.entries.now / 2) refl some c.split_at.ensures.front c.split_at.ensures.back in
     rw (c.deref.ensures.value, c.deref-in_default.ensures.value)
-    (merge_room c.split_at.result.0.now c.split_at.result.1.now c.args.entries.now c.args.meter.now c.ranked.new.meter c.ranked-in_default.new.meter (length c.in_ok-left-in_default.left.items) (length c.in_ok-right-in_default.right.items) (2 ^ 64) h c.requires c.ranked.ensures.compared c.ranked-in_default.ensures.compared c.in_ok-left-in_default.ensures.length c.in_ok-right-in_default.ensures.length)
+    (merge_room c.split_at.result.0.now c.split_at.result.1.now c.args.entries.now c.args.meter.now c.ranked.new.meter c.ranked-in_default.new.meter (length c.in_ok-left-in_default.left.items) (length c.in_ok-right-in_default.right.items) (2 ^ 128) h c.requires c.ranked.ensures.compared c.ranked-in_default.ensures.compared c.in_ok-left-in_default.ensures.length c.in_ok-right-in_default.ensures.length)
 
 pub returns-in_ok-right-in_default-clause-compared : goal.returns-in_ok-right-in_default-clause-compared
 returns-in_ok-right-in_default-clause-compared t c =

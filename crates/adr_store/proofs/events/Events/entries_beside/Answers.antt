@@ -9,14 +9,14 @@ use Rattle.adr_store.proofs.events.Events.entries_beside.Goals as goal
 pub overflow_sub-result : goal.overflow_sub-result
 overflow_sub-result c =
     let h = counted_within c.self.inside.table.items c.text.result.now c.in-Some.kept.now c.get.ensures.distinct (sym c.get.ensures.value ∙ ap option_copied c.in-Some.is)
-    c.self.inside.named.counts c.self.inside.entries c.self.inside.writes.events c.self.invariant in
+    c.self.inside.numbers.named.counts c.self.inside.numbers.entries c.self.inside.numbers.writes.events c.self.invariant in
     omega (arith, h, c.entries.ensures)
 
 pub returns-in-Some-clause-value : goal.returns-in-Some-clause-value
 returns-in-Some-clause-value c =
-    ap (λ n. c.self.inside.entries - n) c.entries.ensures
+    ap (λ n. c.self.inside.numbers.entries - n) c.entries.ensures
     ∙ counted_beside c.self.inside.table.items c.text.result.now c.in-Some.kept.now c.get.ensures.distinct (sym c.get.ensures.value ∙ ap option_copied c.in-Some.is)
-    c.self.inside.named.counts c.self.inside.entries c.self.inside.writes.events c.self.invariant
+    c.self.inside.numbers.named.counts c.self.inside.numbers.entries c.self.inside.numbers.writes.events c.self.invariant
     ∙ rw (c.self.view_is, c.text.ensures.value) refl
 
 pub returns-in-None-clause-value : goal.returns-in-None-clause-value

@@ -7,6 +7,6 @@ use Rattle.adr_store.proofs.events.Events.is_named.Goals as goal
 pub returns : goal.returns
 returns c =
     ap (nat_lt 0)
-    (c.count.ensures ∙ ap (times c.self.inside.named.counts) c.text.ensures.value ∙ c.self.invariant.naming c.args.id.now
+    (c.count.ensures ∙ ap (times c.self.inside.numbers.named.counts) c.text.ensures.value ∙ c.self.invariant.naming c.args.id.now
     ∙ ap (λ xs. naming xs c.args.id.now) c.self.view_is)
     ∙ any_counted (λ w. bytes_eq c.args.id.now w.event.program_id) c.args.self.now

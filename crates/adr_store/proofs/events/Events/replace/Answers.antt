@@ -1,50 +1,62 @@
-use Rattle.std.proofs.Common.{◌∙◌, ◌-◌, ◌+◌, ap, sym, subst, eqb, map, arith}
+use Rattle.std.proofs.Common.{◌≤◌, ◌∙◌, ◌-◌, ◌+◌, ap, sym, subst, refl, eqb, map, arith}
 use Rattle.std.specs.List.{IsDistinct}
-use Rattle.adr_store.specs.Numbers.{by_number}
-use Rattle.std.specs.String.{string_bytes}
+use Rattle.adr_store.specs.Numbers.{by_number, all_entries}
+use Rattle.adr_value.specs.declared.limits.TheConstants.{MOST_ENTRIES}
 use Rattle.adr_repair.proofs.Keyed.{event_id}
-use Rattle.adr_store.proofs.Found.{with_it}
-use Rattle.adr_store.proofs.Counted.{told_small, counted_same, counted_some, counted_within, counted_put, cleared, renamed, program_of, count_of, number_of_write}
+use Rattle.adr_store.proofs.Found.{without_it, with_it}
+use Rattle.adr_store.proofs.Counted.{told_small, counted_same, counted_some, counted_within, counted_beside, counted_put, renamed, program_of, count_of, number_of_write}
 use Rattle.adr_store.proofs.events.Events.replace.Goals as goal
 
-pub take-requires : goal.take-requires
-take-requires c =
+pub take-requires-clause-named : goal.take-requires-clause-named
+take-requires-clause-named c =
     counted_some c.self.inside.table.items (event_id c.in_ok-kept.kept) c.replace-old.result c.replace-old.ensures.distinct c.replace-old.ensures.replaced
-    c.make_room.new.named.counts c.self.inside.entries c.make_room.new.writes.events
-    (counted_same c.self.inside.table.items c.self.inside.named.counts c.make_room.new.named.counts c.self.inside.entries c.self.inside.writes.events c.make_room.new.writes.events c.self.invariant
-    c.make_room.ensures.counts c.make_room.ensures.writes)
-    c.text-2.result.now (c.text-2.ensures.value ∙ ap (λ e. e.program_id) c.event.ensures)
+    c.reserve.new.self.named.counts c.self.inside.numbers.entries c.reserve.new.self.writes.events
+    (counted_same c.self.inside.table.items c.self.inside.numbers.named.counts c.reserve.new.self.named.counts c.self.inside.numbers.entries c.self.inside.numbers.writes.events c.reserve.new.self.writes.events
+    c.self.invariant c.reserve.ensures.named c.reserve.ensures.writes)
+    (program_of c.replace-old.result) refl
+
+pub take-requires-clause-entries : goal.take-requires-clause-entries
+take-requires-clause-entries c =
+    rw c.reserve.ensures.entries
+    (counted_within c.self.inside.table.items (event_id c.in_ok-kept.kept) c.replace-old.result c.replace-old.ensures.distinct c.replace-old.ensures.replaced
+    c.self.inside.numbers.named.counts c.self.inside.numbers.entries c.self.inside.numbers.writes.events c.self.invariant)
 
 pub add-requires-clause-bound : goal.add-requires-clause-bound
 add-requires-clause-bound c =
-    let id = string_bytes c.in_ok-program.program in
-    let few = told_small event_id program_of c.make_room.new.named.counts c.self.inside.table.items
-    (λ i. c.make_room.ensures.counts i ∙ c.self.invariant.naming i) c.self.invariant.few id in
-    omega (arith, few, c.take.ensures.counts id)
+    let id = program_of c.in_ok-note.note in
+    let few = told_small event_id program_of c.reserve.new.self.named.counts c.self.inside.table.items
+    (λ i. c.reserve.ensures.named i ∙ c.self.invariant.naming i) (omega (arith, c.self.invariant.few)) id in
+    omega (arith, few, c.take.ensures.named id)
 
-pub overflow_sub-self : goal.overflow_sub-self
-overflow_sub-self c =
-    let h = counted_within c.self.inside.table.items (event_id c.in_ok-kept.kept) c.replace-old.result c.replace-old.ensures.distinct c.replace-old.ensures.replaced
-    c.self.inside.named.counts c.self.inside.entries c.self.inside.writes.events c.self.invariant in
-    omega (arith, h, c.entries.ensures)
+pub add-requires-clause-entries : goal.add-requires-clause-entries
+add-requires-clause-entries c =
+    let fits : all_entries (without_it event_id (event_id c.in_ok-kept.kept) c.self.inside.table.items) + count_of c.in_ok-kept.kept ≤ MOST_ENTRIES =
+    rw (c.self.view_is, c.in_ok-kept.ensures) c.requires.entries in
+    let beside = counted_beside c.self.inside.table.items (event_id c.in_ok-kept.kept) c.replace-old.result c.replace-old.ensures.distinct c.replace-old.ensures.replaced
+    c.self.inside.numbers.named.counts c.self.inside.numbers.entries c.self.inside.numbers.writes.events c.self.invariant in
+    rw (c.take.ensures.entries, c.reserve.ensures.entries, beside, c.in_ok-note.ensures) fits
 
 pub invariant_of-self-2 : goal.invariant_of-self-2
 invariant_of-self-2 c =
+    let old = c.replace-old.result in
+    let note = c.in_ok-note.note in
     rw c.replace-old.ensures.items
-    (counted_put c.self.inside.table.items (event_id c.in_ok-kept.kept) c.replace-old.result c.replace-old.ensures.distinct c.replace-old.ensures.replaced
-    c.make_room.new.named.counts c.take.new.self.counts c.add.new.self.counts c.self.inside.entries (c.self.inside.entries - c.entries.result + c.entries-entries.result)
-    c.make_room.new.writes.events c.take-2.new.self.events c.add-2.new.self.events c.in_ok-kept.kept
-    (counted_same c.self.inside.table.items c.self.inside.named.counts c.make_room.new.named.counts c.self.inside.entries c.self.inside.writes.events c.make_room.new.writes.events c.self.invariant
-    c.make_room.ensures.counts c.make_room.ensures.writes)
+    (counted_put c.self.inside.table.items (event_id c.in_ok-kept.kept) old c.replace-old.ensures.distinct c.replace-old.ensures.replaced
+    c.reserve.new.self.named.counts c.take.new.self.named.counts c.add.new.self.named.counts c.self.inside.numbers.entries c.add.new.self.entries
+    c.reserve.new.self.writes.events c.take.new.self.writes.events c.add.new.self.writes.events c.in_ok-kept.kept
+    (counted_same c.self.inside.table.items c.self.inside.numbers.named.counts c.reserve.new.self.named.counts c.self.inside.numbers.entries c.self.inside.numbers.writes.events c.reserve.new.self.writes.events
+    c.self.invariant c.reserve.ensures.named c.reserve.ensures.writes)
     (subst (λ es. IsDistinct eqb (map number_of_write es)) (sym c.self.view_is) c.requires.apart)
     (ap (λ w. by_number c.self.inside.table.items w.written) c.in_ok-kept.ensures ∙ ap (λ es. by_number es c.args.written) c.self.view_is ∙ c.requires.fresh)
     (rw (c.self.view_is, c.in_ok-kept.ensures) c.requires.entries)
-    (ap (λ n. c.self.inside.entries - n + c.entries-entries.result) c.entries.ensures ∙ ap (λ n. c.self.inside.entries - count_of c.replace-old.result + n) c.entries-entries.ensures)
-    c.text-2.result.now (c.text-2.ensures.value ∙ ap (λ e. e.program_id) c.event.ensures) c.take.ensures.counts
-    (string_bytes c.in_ok-program.program) (c.in_ok-program.ensures.ok ∙ c.text.ensures.value ∙ ap program_of (sym c.in_ok-kept.ensures)) c.add.ensures
-    (cleared c.make_room.new.writes.events c.take-2.new.self.events c.written.result c.replace-old.result.written c.written.ensures c.take-2.ensures.writes)
-    (renamed c.take-2.new.self.events c.add-2.new.self.events c.args.written c.in_ok-kept.kept.written c.in_ok-shared.shared c.in_ok-kept.kept.event
-    (ap (λ w. w.written) (sym c.in_ok-kept.ensures)) c.in_ok-shared.ensures c.add-2.ensures))
+    (c.add.ensures.entries
+    ∙ ap (λ n. n + count_of note) (c.take.ensures.entries ∙ ap (λ n. n - count_of old) c.reserve.ensures.entries)
+    ∙ ap (λ w. c.self.inside.numbers.entries - count_of old + count_of w) c.in_ok-note.ensures)
+    (program_of old) refl c.take.ensures.named
+    (program_of note) (ap program_of c.in_ok-note.ensures) c.add.ensures.named
+    c.take.ensures.writes
+    (renamed c.take.new.self.writes.events c.add.new.self.writes.events note.written c.in_ok-kept.kept.written note.event c.in_ok-kept.kept.event
+    (ap (λ w. w.written) c.in_ok-note.ensures) (ap (λ w. w.event) c.in_ok-note.ensures) c.add.ensures.writes))
 
 pub returns-clause-ok : goal.returns-clause-ok
 returns-clause-ok c =

@@ -1,4 +1,5 @@
 use Rattle.std.proofs.Common.{◌∙◌, ap, sym}
+use Rattle.adr_value.specs.declared.limits.TheConstants.{MOST_RESOURCES}
 use Rattle.adr_repair.proofs.Keyed.{resource_id}
 use Rattle.adr_store.proofs.Found.{without_none}
 use Rattle.adr_store.proofs.Counted.{told_some, told_drop, few_less}
@@ -16,7 +17,7 @@ invariant_of-self c = record {
       c.self.invariant.owned c.take.ensures.distinct (sym c.take.ensures.taken ∙ c.in-Some.is)
       c.text-in-Some.result.now (c.text-in-Some.ensures.value ∙ ap (λ r. r.ven_id) c.get.ensures)
       c.take-in-Some.ensures.counts);
-  few = rw c.take.ensures.items (few_less resource_id c.text.result.now c.self.inside.table.items c.self.invariant.few);
+  few = rw c.take.ensures.items (few_less MOST_RESOURCES resource_id c.text.result.now c.self.inside.table.items c.self.invariant.few);
 }
 
 pub invariant_of-self-in_default : goal.invariant_of-self-in_default

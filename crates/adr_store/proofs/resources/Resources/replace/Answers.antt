@@ -1,4 +1,5 @@
 use Rattle.std.proofs.Common.{◌≡◌, ◌∙◌, ap, sym, subst}
+use Rattle.adr_value.specs.declared.limits.TheConstants.{MOST_RESOURCES}
 use Rattle.adr_repair.proofs.Keyed.{resource_id}
 use Rattle.adr_store.proofs.Found.{with_it}
 use Rattle.adr_store.proofs.Counted.{told_small, told_some, told_put, few_put}
@@ -8,13 +9,13 @@ pub take-requires : goal.take-requires
 take-requires c =
     told_some resource_id (λ r. r.ven_id) c.reserve.new.self.counts c.self.inside.table.items (resource_id c.in_ok-shared.shared) c.replace-old.result
     (λ id. c.reserve.ensures.counts id ∙ c.self.invariant.owned id) c.replace-old.ensures.distinct c.replace-old.ensures.replaced
-    c.text-2.result.now (c.text-2.ensures.value ∙ ap (λ r. r.ven_id) c.get.ensures)
+    c.text-2.result.now (c.text-2.ensures.value ∙ ap (λ r. r.ven_id) c.get-2.ensures)
 
 pub add-requires-clause-bound : goal.add-requires-clause-bound
 add-requires-clause-bound c =
     let id = Rattle.std.specs.String.string_bytes c.in_ok-ven.ven in
     let few = told_small resource_id (λ r. r.ven_id) c.reserve.new.self.counts c.self.inside.table.items
-    (λ i. c.reserve.ensures.counts i ∙ c.self.invariant.owned i) c.self.invariant.few id in
+    (λ i. c.reserve.ensures.counts i ∙ c.self.invariant.owned i) (omega (Rattle.std.proofs.Common.arith, c.self.invariant.few)) id in
     omega (Rattle.std.proofs.Common.arith, few, c.take.ensures.counts id)
 
 pub invariant_of-self-2 : goal.invariant_of-self-2
@@ -22,9 +23,9 @@ invariant_of-self-2 c = record {
   owned = rw c.replace-old.ensures.items (told_put resource_id (λ r. r.ven_id) c.reserve.new.self.counts c.take.new.self.counts c.add.new.self.counts
       c.self.inside.table.items (resource_id c.in_ok-shared.shared) c.replace-old.result c.in_ok-shared.shared
       (λ id. c.reserve.ensures.counts id ∙ c.self.invariant.owned id) c.replace-old.ensures.distinct c.replace-old.ensures.replaced
-      c.text-2.result.now (c.text-2.ensures.value ∙ ap (λ r. r.ven_id) c.get.ensures) c.take.ensures.counts
-      (Rattle.std.specs.String.string_bytes c.in_ok-ven.ven) (c.in_ok-ven.ensures.ok ∙ c.text.ensures.value ∙ ap (λ r. r.ven_id) (sym c.in_ok-shared.ensures)) c.add.ensures);
-  few = rw c.replace-old.ensures.items (few_put resource_id (resource_id c.in_ok-shared.shared) c.in_ok-shared.shared c.self.inside.table.items c.self.invariant.few);
+      c.text-2.result.now (c.text-2.ensures.value ∙ ap (λ r. r.ven_id) c.get-2.ensures) c.take.ensures.counts
+      (Rattle.std.specs.String.string_bytes c.in_ok-ven.ven) (c.in_ok-ven.ensures.ok ∙ c.text.ensures.value ∙ ap (λ r. r.ven_id) c.get.ensures) c.add.ensures);
+  few = rw c.replace-old.ensures.items (few_put MOST_RESOURCES resource_id (resource_id c.in_ok-shared.shared) c.in_ok-shared.shared c.self.inside.table.items c.self.invariant.few);
 }
 
 pub returns-clause-ok : goal.returns-clause-ok

@@ -1,0 +1,16 @@
+use Rattle.std.proofs.Common.{◌≡◌, ◌∙◌, ap, subst, sym}
+use Rattle.adr_book.specs.Ledger.{Leads, joined, sealed_of}
+use Rattle.adr_book.proofs.Joined.{led_from, led_whole}
+use Rattle.adr_book.proofs.book.Book.condense.Goals as goal
+
+pub copy-requires : goal.copy-requires
+copy-requires c = (led_whole c.at.inside.base (joined c.at.inside.journal.closed c.at.inside.journal.pending) c.at.inside.objects c.at.invariant).sound.writes
+
+pub invariant_of-self : goal.invariant_of-self
+invariant_of-self c =
+    let copied = c.in_ok-base.ensures ∙ c.in_ok-copy.ensures ∙ ap (λ b. b.objects) c.at.view_is in
+    let sealed = subst (λ b. c.args.at.now.objects ≡ sealed_of b) (sym c.self.view_is) c.requires in
+    let pending = sym c.condense.ensures.pending in
+    rw (c.condense.ensures.closed)
+    (subst (λ edits. Leads c.in_ok-base.base edits c.self.inside.objects) pending
+    (led_from c.self.inside.base c.self.inside.journal.closed c.self.inside.journal.pending c.self.inside.objects c.in_ok-base.base c.self.invariant (copied ∙ sealed)))

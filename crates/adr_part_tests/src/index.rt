@@ -1,0 +1,180 @@
+//! An index over few entries, and over many.
+ghost use Rattle.std.specs.Prelude.{◌≡◌, length};
+
+use crate::spans::{at, endless, entry, span, tell_span};
+use adr_index::{Entry, Index};
+use adr_rule::Meter;
+use adr_time::{Moment, Span};
+use adr_value::Refusal;
+use std::alloc::Global;
+use std::test::Fail;
+
+/// Adds an entry, in the place of any that has its written number and place.
+fn put(index: &mut Index, entry: Entry) -> Result<(), Refusal> {
+    let _ = index.remove(entry.rank.written, entry.rank.place);
+    index.insert(entry)
+}
+
+/// The last of the three comes first, so that the index has something to put in order.
+fn three(alloc: Global) -> Result<Index, Refusal> {
+    let mut index = Index::new(alloc);
+    put(&mut index, entry(9, 6, endless(10)))?;
+    put(&mut index, entry(5, 4, span(0, 10)))?;
+    put(&mut index, entry(1, 5, span(5, 15)))?;
+    Ok(index)
+}
+
+/// The entries, each as `[PRIORITY WRITTEN PLACE START END]`.
+fn told(alloc: Global, entries: &[Entry]) -> Result<String, Refusal> {
+    let mut text = String::new(alloc);
+    for entry in entries {
+        let rank = entry.rank;
+        write!(text, "[{} {} {} ", rank.priority, rank.written, rank.place)?;
+        tell_span(&mut text, entry.span.start, entry.span.end)?;
+        text.push(']')?;
+    }
+    Ok(text)
+}
+
+/// Whether these entries were found, in this order, and no others.
+fn are(alloc: Global, found: &[Entry], wanted: &str) -> Result<bool, Refusal> {
+    Ok(told(alloc, found)?.as_str() == wanted)
+}
+
+fn covers(alloc: Global, index: &Index, moment: Moment, wanted: &str) -> Result<bool, Refusal> {
+    are(alloc, &index.covering(moment)?, wanted)
+}
+
+fn overlaps(alloc: Global, index: &Index, window: Span, wanted: &str) -> Result<bool, Refusal> {
+    are(alloc, &index.overlapping(window)?, wanted)
+}
+
+const FIRST: &str = "[5 4 0 0 10]";
+
+const BOTH: &str = "[5 4 0 0 10][1 5 0 5 15]";
+
+const LATER: &str = "[1 5 0 5 15][9 6 0 10 -]";
+
+const LAST: &str = "[9 6 0 10 -]";
+
+const ALL: &str = "[5 4 0 0 10][1 5 0 5 15][9 6 0 10 -]";
+
+/// Whether what covers a moment of the three is found.
+fn finds_what_covers(alloc: Global, index: &Index) -> Result<bool, Refusal> {
+    Ok(
+        covers(alloc, index, at(-1), "")?
+            && covers(alloc, index, at(0), FIRST)?
+            && covers(alloc, index, at(5), BOTH)?
+            && covers(alloc, index, at(10), LATER)?
+            && covers(alloc, index, at(15), LAST)?,
+    )
+}
+
+/// Whether what meets a window of the three is found.
+fn finds_what_overlaps(alloc: Global, index: &Index) -> Result<bool, Refusal> {
+    Ok(
+        overlaps(alloc, index, span(9, 10), BOTH)?
+            && overlaps(alloc, index, endless(15), LAST)?
+            && overlaps(alloc, index, span(0, 20), ALL)?
+            && overlaps(alloc, index, span(-5, 0), "")?
+            && overlaps(alloc, index, span(7, 7), "")?,
+    )
+}
+
+fn finds_all(alloc: Global, index: &Index) -> Result<bool, Refusal> {
+    Ok(finds_what_covers(alloc, index)? && finds_what_overlaps(alloc, index)?)
+}
+
+#[test]
+fn entries_are_found(rt: HostRuntime) -> Result<(), Fail> {
+    let index = three(rt.alloc())?;
+    assert!(rt; finds_all(rt.alloc(), &index)?);
+    assert!(rt; finds_all(rt.alloc(), &index.copy()?)?);
+    Ok(())
+}
+
+/// Whether the second of the three is taken out once, and found no more.
+fn loses_the_second(alloc: Global, index: &mut Index) -> Result<bool, Refusal> {
+    let is_found = index.remove(5, 0);
+    let is_left_out = covers(alloc, index, at(5), FIRST)?;
+    let is_found_again = index.remove(5, 0);
+    Ok(is_found && is_left_out && !is_found_again)
+}
+
+#[test]
+fn entries_are_removed_once(rt: HostRuntime) -> Result<(), Fail> {
+    let mut index = three(rt.alloc())?;
+    let copy = index.copy()?;
+    assert!(rt; loses_the_second(rt.alloc(), &mut index)?);
+    assert!(rt; finds_all(rt.alloc(), &copy)?);
+    Ok(())
+}
+
+/// Whether entries that cover no moment are kept, never found, and taken out.
+fn keeps_empty_ones(alloc: Global, index: &mut Index) -> Result<bool, Refusal> {
+    put(index, entry(0, 7, span(7, 7)))?;
+    put(index, entry(0, 8, span(9, 3)))?;
+    let are_kept = index.len() == 5;
+    Ok(are_kept && finds_all(alloc, index)? && index.remove(8, 0))
+}
+
+#[test]
+fn entries_without_instants_are_kept_and_never_found(rt: HostRuntime) -> Result<(), Fail> {
+    let mut index = three(rt.alloc())?;
+    assert!(rt; keeps_empty_ones(rt.alloc(), &mut index)?);
+    Ok(())
+}
+
+/// Whether room that was reserved is there, and goes down as entries are added.
+fn has_reserved_room(index: &mut Index) -> Result<bool, Refusal> {
+    index.reserve(2)?;
+    let spare = index.spare();
+    put(index, entry(5, 4, span(0, 10)))?;
+    let left = index.spare();
+    put(index, entry(1, 5, span(5, 15)))?;
+    Ok(spare >= 2 && left >= 1 && index.len() == 2)
+}
+
+#[test]
+fn reserved_room_is_there(rt: HostRuntime) -> Result<(), Fail> {
+    let mut index = Index::new(rt.alloc());
+    assert!(rt; has_reserved_room(&mut index)?);
+    Ok(())
+}
+
+/// Adds an entry for each instant from 0 on, which covers that instant alone.
+fn put_instants(index: &mut Index, count: u32) -> Result<(), Refusal> {
+    for number in 0..count {
+        let start = i128::from(number);
+        put(index, entry(0, u64::from(number), span(start, start + 1)))?;
+    }
+    Ok(())
+}
+
+/// Whether one of 4,096 entries is found by its moment, with few looks.
+fn looks_for_a_moment(alloc: Global, index: &Index) -> Result<bool, Refusal>
+    requires { length index.now.entries ≡ 4096 }
+{
+    let mut meter = Meter::new();
+    let found = index.covering_counted(at(100), &mut meter)?;
+    Ok(meter.count() <= 112 && are(alloc, &found, "[0 100 0 100 101]")?)
+}
+
+/// The same for a window.
+fn looks_for_a_window(alloc: Global, index: &Index) -> Result<bool, Refusal>
+    requires { length index.now.entries ≡ 4096 }
+{
+    let mut meter = Meter::new();
+    let found = index.overlapping_counted(span(100, 101), &mut meter)?;
+    Ok(meter.count() <= 112 && are(alloc, &found, "[0 100 0 100 101]")?)
+}
+
+#[test]
+fn few_of_many_entries_are_looked_at(rt: HostRuntime) -> Result<(), Fail> {
+    let mut index = Index::new(rt.alloc());
+    put_instants(&mut index, 4096)?;
+    assert_eq!(rt; index.len(), 4096);
+    assert!(rt; looks_for_a_moment(rt.alloc(), &index)?);
+    assert!(rt; looks_for_a_window(rt.alloc(), &index)?);
+    Ok(())
+}

@@ -1,0 +1,202 @@
+//! Timelines of few entries.
+ghost use Rattle.std.specs.Prelude.{◌≤◌, length};
+
+use crate::spans::{at, endless, entry, span, tell_span};
+use adr_model::Entry;
+use adr_rule::Meter;
+use adr_time::{End, Moment, Span};
+use adr_timeline::{Timeline, timeline_laws};
+use adr_value::Refusal;
+use std::alloc::Global;
+use std::test::Fail;
+
+/// A timeline of so few entries that the meter has room.
+fn built(
+    alloc: Global,
+    entries: &[Entry],
+    window: Span,
+    meter: &mut Meter,
+) -> Result<Timeline, Refusal>
+    requires few { length entries.now ≤ 3 }
+    requires new { meter.old ≤ 0 }
+{
+    Timeline::build(alloc, entries, window, meter)
+}
+
+/// The timeline of three entries from 0 up to 20, of which the second goes first and the third last.
+fn three(alloc: Global, meter: &mut Meter) -> Result<Timeline, Refusal>
+    requires new { meter.old ≤ 0 }
+{
+    let entries = [
+        entry(5, 4, span(0, 10)),
+        entry(1, 5, span(5, 15)),
+        entry(9, 6, endless(10)),
+    ];
+    built(alloc, &entries, span(0, 20), meter)
+}
+
+/// The timeline of one entry.
+fn one(alloc: Global, start: i128, end: i128, written: u64) -> Result<Timeline, Refusal> {
+    let mut meter = Meter::new();
+    let entries = [entry(5, written, span(start, end))];
+    built(alloc, &entries, span(start, end), &mut meter)
+}
+
+/// The segments, each as `[START END WRITTEN PLACE]`.
+fn told(alloc: Global, timeline: &Timeline) -> Result<String, Refusal> {
+    let mut text = String::new(alloc);
+    for segment in timeline.segments() {
+        text.push('[')?;
+        tell_span(&mut text, segment.start, segment.end)?;
+        let winner = segment.winner;
+        write!(text, " {} {}]", winner.written, winner.place)?;
+    }
+    Ok(text)
+}
+
+/// Whether these are the segments of the timeline, in this order, and no others.
+fn has(alloc: Global, timeline: &Timeline, wanted: &str) -> Result<bool, Refusal> {
+    Ok(told(alloc, timeline)?.as_str() == wanted)
+}
+
+/// What the three show.
+const SHOWN: &str = "[0 5 4 0][5 15 5 0][15 20 6 0]";
+
+#[test]
+fn the_least_entry_is_shown(rt: HostRuntime) -> Result<(), Fail> {
+    let mut meter = Meter::new();
+    let timeline = three(rt.alloc(), &mut meter)?;
+    assert!(rt; meter.count() <= 21);
+    assert!(rt; has(rt.alloc(), &timeline, SHOWN)?);
+    assert!(rt; has(rt.alloc(), &timeline.copy()?, SHOWN)?);
+    Ok(())
+}
+
+/// Who governs at the moment, and until when, as `WRITTEN END`.
+fn governed(alloc: Global, timeline: &Timeline, at: Moment) -> Result<String, Refusal> {
+    let mut text = String::new(alloc);
+    if let Some(winner) = timeline.governor(at) {
+        write!(text, "{} ", winner.written)?;
+    }
+    if let End::At(end) = timeline.next_change(at) {
+        let end = end.nanoseconds();
+        write!(text, "{end}")?;
+    }
+    Ok(text)
+}
+
+fn is_governed(
+    alloc: Global,
+    timeline: &Timeline,
+    at: Moment,
+    wanted: &str,
+) -> Result<bool, Refusal> {
+    Ok(governed(alloc, timeline, at)?.as_str() == wanted)
+}
+
+/// Whether the timeline of the three tells who governs, and until when.
+fn is_told(alloc: Global, timeline: &Timeline) -> Result<bool, Refusal> {
+    Ok(
+        is_governed(alloc, timeline, at(-3), "0")?
+            && is_governed(alloc, timeline, at(0), "4 5")?
+            && is_governed(alloc, timeline, at(5), "5 15")?
+            && is_governed(alloc, timeline, at(15), "6 20")?
+            && is_governed(alloc, timeline, at(20), "")?,
+    )
+}
+
+#[test]
+fn governors_and_changes_are_told(rt: HostRuntime) -> Result<(), Fail> {
+    let mut meter = Meter::new();
+    let timeline = three(rt.alloc(), &mut meter)?;
+    assert!(rt; is_told(rt.alloc(), &timeline)?);
+    assert!(rt; is_told(rt.alloc(), &timeline.copy()?)?);
+    Ok(())
+}
+
+/// Whether windows of the timeline of the three are clipped.
+fn clips(alloc: Global, timeline: &Timeline) -> Result<bool, Refusal> {
+    let inside = timeline.clip(span(5, 6))?;
+    let around = timeline.clip(span(4, 16))?;
+    Ok(has(alloc, &inside, "[5 6 5 0]")? && has(alloc, &around, "[4 5 4 0][5 15 5 0][15 16 6 0]")?)
+}
+
+#[test]
+fn a_window_is_clipped(rt: HostRuntime) -> Result<(), Fail> {
+    let mut meter = Meter::new();
+    let timeline = three(rt.alloc(), &mut meter)?;
+    assert!(rt; clips(rt.alloc(), &timeline)?);
+    assert!(rt; clips(rt.alloc(), &timeline.copy()?)?);
+    Ok(())
+}
+
+/// Whether these are the segments of one timeline with another in its window.
+fn is_spliced(
+    alloc: Global,
+    outer: &Timeline,
+    window: Span,
+    inner: &Timeline,
+    wanted: &str,
+) -> Result<bool, Refusal> {
+    let spliced = outer.splice(window, inner)?;
+    has(alloc, &spliced, wanted)
+}
+
+/// Whether another entry parts the timeline.
+fn is_parted(alloc: Global, outer: &Timeline) -> Result<bool, Refusal> {
+    let inner = one(alloc, 4, 6, 5)?;
+    is_spliced(
+        alloc,
+        outer,
+        span(4, 6),
+        &inner,
+        "[0 4 4 0][4 6 5 0][6 10 4 0]",
+    )
+}
+
+/// Whether a window that shows the same makes no segment of its own.
+fn stays_whole(alloc: Global, outer: &Timeline) -> Result<bool, Refusal> {
+    let inner = one(alloc, 4, 6, 4)?;
+    is_spliced(alloc, outer, span(4, 6), &inner, "[0 10 4 0]")
+}
+
+/// Whether a window that shows nothing opens the timeline.
+fn is_opened(alloc: Global, outer: &Timeline) -> Result<bool, Refusal> {
+    let inner = Timeline::new(alloc);
+    is_spliced(alloc, outer, span(4, 6), &inner, "[0 4 4 0][6 10 4 0]")
+}
+
+/// Whether what follows with the same winner makes the segment longer.
+fn goes_on(alloc: Global, outer: &Timeline) -> Result<bool, Refusal> {
+    let inner = one(alloc, 10, 12, 4)?;
+    is_spliced(alloc, outer, span(10, 12), &inner, "[0 12 4 0]")
+}
+
+#[test]
+fn windows_are_spliced(rt: HostRuntime) -> Result<(), Fail> {
+    let timeline = one(rt.alloc(), 0, 10, 4)?;
+    assert!(rt; is_parted(rt.alloc(), &timeline)?);
+    assert!(rt; stays_whole(rt.alloc(), &timeline)?);
+    assert!(rt; is_opened(rt.alloc(), &timeline)?);
+    assert!(rt; goes_on(rt.alloc(), &timeline)?);
+    Ok(())
+}
+
+/// Whether two parts of the timeline, spliced in either order, are the whole again.
+fn is_whole_again(alloc: Global, timeline: &Timeline) -> Result<bool, Refusal> {
+    let early = timeline.clip(span(0, 7))?;
+    let late = timeline.clip(span(7, 20))?;
+    let joined = early.splice(span(7, 20), &late)?;
+    let spliced_first = late.splice(span(-5, 7), &early)?;
+    Ok(has(alloc, &joined, SHOWN)? && has(alloc, &spliced_first, SHOWN)?)
+}
+
+/// Timelines that show the same at every instant are equal, by whatever way they came about.
+#[test]
+fn timelines_that_show_the_same_are_equal(rt: HostRuntime) -> Result<(), Fail> {
+    timeline_laws();
+    let mut meter = Meter::new();
+    let timeline = three(rt.alloc(), &mut meter)?;
+    assert!(rt; is_whole_again(rt.alloc(), &timeline)?);
+    Ok(())
+}

@@ -1,0 +1,172 @@
+//! Whole runs over readers and writers that give and take little, and that fail.
+use crate::streams::{Pieces, Sink};
+use adr_server::{Fault, Tie, parse_line, run, status};
+use adr_value::Refusal;
+use std::sync::Wait;
+use std::test::Fail;
+use std::thread::Threads;
+
+const SCRIPT: &[u8] = b"edit 2024-01-01T00:00:00Z create program p1 {\"programName\":\"P\"}\n\
+edit 2024-01-01T00:00:00Z create ven v1 {\"venName\":\"V\"}\n\
+edit 2024-01-01T00:00:00Z create resource r1 {\"resourceName\":\"R\",\"venID\":\"v1\"}\n\
+edit 2024-01-01T00:00:00Z create event e1 {\"programID\":\"p1\",\"intervals\":[{\"id\":0,\"intervalPeriod\":{\"start\":\"2024-01-01T00:00:00Z\",\"duration\":\"PT1H\"},\"payloads\":[{\"type\":\"PRICE\",\"values\":[17]}]}]}\n\
+publish\n\
+at r1 PRICE 2024-01-01T00:30:00Z\n";
+
+const TEXT: &[u8] = b"ok 1\nok 2\nok 3\nok 4\npublished 1 version 4\n\
+version 4 event e1 interval 0 until 2024-01-01T01:00:00Z values 17\n";
+
+/// Whether the script, behind the first one, has that reply behind the first one's.
+fn goes_on(
+    rt: &(impl AllocGlobal + Threads + Wait),
+    script: &[u8],
+    replies: &[u8],
+) -> Result<bool, Fail> {
+    let mut input = Vec::new(rt.alloc());
+    input.extend_from_slice(SCRIPT)?;
+    input.extend_from_slice(script)?;
+    let mut reader = input.as_slice();
+    let mut writer = Vec::new(rt.alloc());
+    run(rt, &mut reader, &mut writer, 1, Tie::Newest)?;
+    let mut want = Vec::new(rt.alloc());
+    want.extend_from_slice(TEXT)?;
+    want.extend_from_slice(replies)?;
+    Ok(writer.as_slice() == want.as_slice())
+}
+
+/// Whether the script alone has those replies.
+fn answers(
+    rt: &(impl AllocGlobal + Threads + Wait),
+    script: &[u8],
+    replies: &[u8],
+) -> Result<bool, Fail> {
+    let mut reader = script;
+    let mut writer = Vec::new(rt.alloc());
+    run(rt, &mut reader, &mut writer, 64, Tie::Newest)?;
+    Ok(writer.as_slice() == replies)
+}
+
+#[test]
+fn answers_in_any_pieces(rt: HostRuntime) -> Result<(), Fail> {
+    for most in [1, 3, 65_536] {
+        let mut reader = Pieces::new(SCRIPT, most);
+        let mut writer = Sink::new(&rt, 1, 10_000, false);
+        run(&rt, &mut reader, &mut writer, 1, Tie::Newest)?;
+        assert!(rt; writer.taken.as_slice() == TEXT);
+    }
+    assert!(rt; answers(&rt, b"", b"")?);
+    Ok(())
+}
+
+#[test]
+fn answers_complete_lines_before_a_fault(rt: HostRuntime) -> Result<(), Fail> {
+    for left in 1..33usize {
+        let mut reader = Pieces::new(&SCRIPT[..SCRIPT.len() - left], 50);
+        reader.fails = true;
+        let mut writer = Sink::new(&rt, 100, 10_000, false);
+        let outcome = run(&rt, &mut reader, &mut writer, 1, Tie::Newest);
+        assert!(rt; status(&outcome) == 1);
+        assert!(rt; outcome == Err(Fault::Reading));
+        assert!(rt;
+            writer.taken.as_slice() == b"ok 1\nok 2\nok 3\nok 4\npublished 1 version 4\n".as_slice()
+        );
+    }
+    Ok(())
+}
+
+#[test]
+fn stops_at_a_failed_write(rt: HostRuntime) -> Result<(), Fail> {
+    for room in 0..TEXT.len() {
+        for fails in [false, true] {
+            let mut reader = SCRIPT;
+            let mut writer = Sink::new(&rt, 7, room, fails);
+            assert!(rt; run(&rt, &mut reader, &mut writer, 1, Tie::Newest) == Err(Fault::Writing));
+            assert!(rt; TEXT.starts_with(writer.taken.as_slice()));
+            assert!(rt; writer.taken.len() == room);
+        }
+    }
+    Ok(())
+}
+
+#[test]
+fn answers_at_the_bounds(rt: HostRuntime) -> Result<(), Fail> {
+    assert!(rt;
+        goes_on(
+            &rt,
+            b"at r1 PRICE 2024-01-01T01:00:00Z\n",
+            b"version 4 none until end\n"
+        )?
+    );
+    assert!(rt;
+        goes_on(
+            &rt,
+            b"at r1 PRICE 2023-12-31T23:59:59.5Z\n",
+            b"version 4 none until 2024-01-01T00:00:00Z\n"
+        )?
+    );
+    assert!(rt;
+        goes_on(
+            &rt,
+            b"at r2 PRICE 2024-01-01T00:30:00Z\n",
+            b"refused 29 UnknownResource\n"
+        )?
+    );
+    Ok(())
+}
+
+#[test]
+fn refuses_and_goes_on(rt: HostRuntime) -> Result<(), Fail> {
+    assert!(rt;
+        goes_on(
+            &rt,
+            b"edit 2024-01-01T00:00:00Z create program p1 {\"programName\":\"P\"}\n\
+edit 2024-01-01T00:00:00Z create ven v2 {\"venName\":\"W\"}\n",
+            b"refused 22 Exists\nok 5\n"
+        )?
+    );
+    assert!(rt;
+        goes_on(
+            &rt,
+            b"edit 2024-01-01T00:00:00Z delete event e1\n",
+            b"refused 2 BadLine\n"
+        )?
+    );
+    assert!(rt;
+        answers(
+            &rt,
+            b"publish\r\npublish",
+            b"published 1 version 0\npublished 2 version 0\n"
+        )?
+    );
+    assert!(rt;
+        answers(
+            &rt,
+            b"\nat r1 PRICE\nat r/1 PRICE noon\nat r/1 PRICE 2024-01-01T00:30:00Z\n\r",
+            b"refused 2 BadLine\nrefused 2 BadLine\nrefused 3 BadMoment\nrefused 4 BadId\nrefused 2 BadLine\n"
+        )?
+    );
+    assert!(rt;
+        answers(
+            &rt,
+            b"at r1 \xff 2024-01-01T00:30:00Z\n",
+            b"refused 12 BadText\n"
+        )?
+    );
+    Ok(())
+}
+
+#[test]
+fn refuses_long_lines(rt: HostRuntime) -> Result<(), Fail> {
+    let alloc = rt.alloc();
+    let mut script = vec![in alloc; b'a'; 4_194_304]?;
+    script.extend_from_slice(b"\n")?;
+    for _ in 0..4_194_305u32 {
+        script.push(b'a')?;
+    }
+    script.extend_from_slice(b"\n")?;
+    assert!(rt; answers(&rt, &script, b"refused 2 BadLine\nrefused 1 LongLine\n")?);
+    script.truncate(4_194_304);
+    script.push(b'a')?;
+    assert!(rt; matches!(parse_line(alloc, &script), Err(Refusal::LongLine)));
+    Ok(())
+}
