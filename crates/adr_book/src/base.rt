@@ -17,7 +17,6 @@ pub struct Base {
     alloc: Global,
 }
 
-// A function of its own, so that callers that let a value go need not look into it.
 impl Drop for Base {
     fn drop(self) {
         let Base {

@@ -1,7 +1,7 @@
 //! The book.
-ghost use Rattle.std.specs.Prelude.{◌≡◌, ◌+◌, ◌++◌, ◌∷◌, [], ◌≤◌, length, slice_get, Ok, IsOk, OnOk, OnErr, IfOk, IfErr};
+ghost use Rattle.std.specs.Prelude.{◌≡◌, ◌+◌, ◌++◌, ◌∷◌, [], ◌≤◌, length, slice_get, Ok, IsOk, OnOk, OnErr, IfOk};
 ghost use Rattle.std.specs.Option.{option_copied, option_map};
-ghost use Rattle.adr_value.specs.Answer.{Answers, result_map};
+ghost use Rattle.adr_value.specs.Answer.{Answers, OnlyNoMemory, result_map};
 ghost use Rattle.adr_value.specs.Copy.{IsCopyOf};
 ghost use Rattle.adr_model.specs.Book.{empty, program_by, ven_by, resource_by, event_by};
 ghost use Rattle.adr_model.specs.Edits.{after_from, count_of, full_at, made, step_to};
@@ -29,7 +29,6 @@ pub struct Book {
     alloc: Global,
 }
 
-// A function of its own, so that callers that let a value go need not look into it.
 impl Drop for Book {
     fn drop(self) {
         let Book {
@@ -150,6 +149,13 @@ impl Book {
         self.objects.written(id)
     }
 
+    /// The number of the edit that created or last changed the event at the place.
+    pub fn written_at(&self, place: usize) -> Option<u64>
+        ensures { result ≡ option_map (λ w. w.written) (slice_get self.now.objects.events place) }
+    {
+        self.objects.written_at(place)
+    }
+
     /// The event that the edit of that number created or last changed. A look-up, not a scan.
     pub fn event_by(&self, written: u64) -> Option<&Event>
         ensures { option_copied result ≡ option_map (λ w. w.event) (by_number self.now.objects.events written) }
@@ -183,7 +189,7 @@ impl Book {
         ensures base { self.new.base ≡ self.old.base }
         ensures version { IfOk result (λ version. version ≡ self.new.objects.version) }
         ensures unchanged { OnErr result (self.new ≡ self.old) }
-        ensures refusal { IfErr result (λ refusal. refusal ≡ Refusal.NoMemory) }
+        ensures refusal { OnlyNoMemory result }
     {
         let shared = Shared::new(self.alloc, edit)?;
         self.record(shared)
@@ -198,7 +204,7 @@ impl Book {
         ensures base { self.new.base ≡ self.old.base }
         ensures version { IfOk result (λ version. version ≡ self.new.objects.version) }
         ensures unchanged { OnErr result (self.new ≡ self.old) }
-        ensures refusal { IfErr result (λ refusal. refusal ≡ Refusal.NoMemory) }
+        ensures refusal { OnlyNoMemory result }
     {
         self.journal.reserve()?;
         let copy = edit.get().copy()?;
@@ -215,7 +221,7 @@ impl Book {
         ensures pending { OnOk result (self.new.pending ≡ []) }
         ensures sealed { OnOk result (sealed_of self.new ≡ self.new.objects) }
         ensures unchanged { OnErr result (self.new ≡ self.old) }
-        ensures refusal { IfErr result (λ refusal. refusal ≡ Refusal.NoMemory) }
+        ensures refusal { OnlyNoMemory result }
     {
         self.journal.seal(self.alloc)
     }
@@ -231,7 +237,7 @@ impl Book {
         ensures objects { self.new.objects ≡ self.old.objects }
         ensures version { IfOk result (λ version. version ≡ at.now.objects.version) }
         ensures unchanged { OnErr result (self.new ≡ self.old) }
-        ensures refusal { IfErr result (λ refusal. refusal ≡ Refusal.NoMemory) }
+        ensures refusal { OnlyNoMemory result }
     {
         let base = Base::of(self.alloc, at.objects.copy()?)?;
         self.base = base;

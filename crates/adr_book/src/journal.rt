@@ -1,5 +1,6 @@
 //! The accepted edits in order, in batches.
-ghost use Rattle.std.specs.Prelude.{◌≡◌, ◌++◌, ◌∷◌, [], ◌<◌, OnOk, OnErr, IfOk, IfErr};
+ghost use Rattle.std.specs.Prelude.{◌≡◌, ◌++◌, ◌∷◌, [], ◌<◌, OnOk, OnErr, IfOk};
+ghost use Rattle.adr_value.specs.Answer.{OnlyNoMemory};
 ghost use Rattle.adr_value.specs.Copy.{IsCopyOf};
 
 use crate::reserved::{make_room, push_within};
@@ -40,7 +41,6 @@ pub struct Journal {
     pending: Vec<Shared<Edit>>,
 }
 
-// A function of its own, so that callers that let a value go need not look into it.
 impl Drop for Journal {
     fn drop(self) {
         let Journal { closed, pending } = self;
@@ -88,7 +88,7 @@ impl Journal {
         ensures closed { self.new.closed ≡ self.old.closed }
         ensures pending { self.new.pending ≡ self.old.pending }
         ensures room { OnOk result (0 < self.new.room) }
-        ensures refusal { IfErr result (λ refusal. refusal ≡ Refusal.NoMemory) }
+        ensures refusal { OnlyNoMemory result }
     {
         make_room(&mut self.pending)
     }
@@ -108,7 +108,7 @@ impl Journal {
         ensures pending { OnOk result (self.new.pending ≡ []) }
         ensures still_closed { OnErr result (self.new.closed ≡ self.old.closed) }
         ensures still_open { OnErr result (self.new.pending ≡ self.old.pending) }
-        ensures refusal { IfErr result (λ refusal. refusal ≡ Refusal.NoMemory) }
+        ensures refusal { OnlyNoMemory result }
     {
         make_room(&mut self.closed)?;
         let edits = mem::replace(&mut self.pending, Vec::new(alloc));
@@ -136,7 +136,7 @@ impl Journal {
     pub(crate) fn copy(&self) -> Result<Journal, Refusal>
         ensures closed { IfOk result (λ copy. copy.closed ≡ self.now.closed) }
         ensures pending { IfOk result (λ copy. copy.pending ≡ self.now.pending) }
-        ensures refusal { IfErr result (λ refusal. refusal ≡ Refusal.NoMemory) }
+        ensures refusal { OnlyNoMemory result }
     {
         Ok(Journal {
             closed: copy_all(&self.closed)?,
@@ -147,7 +147,7 @@ impl Journal {
 
 fn copy_all<T: TryClone>(items: &Vec<T>) -> Result<Vec<T>, Refusal>
     ensures items { IfOk result (λ copy. copy.items ≡ items.now.items) }
-    ensures refusal { IfErr result (λ refusal. refusal ≡ Refusal.NoMemory) }
+    ensures refusal { OnlyNoMemory result }
 {
     let mut copies = Vec::with_capacity(*items.allocator(), items.len())?;
     for item in items.as_slice() {

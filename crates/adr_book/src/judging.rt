@@ -5,7 +5,7 @@ ghost use Rattle.adr_value.specs.declared.refusal.Refusal.{Refusal as Refused};
 ghost use Rattle.adr_value.specs.Faults.{Gives};
 ghost use Rattle.adr_object.specs.Object.{kind_of, id_of};
 ghost use Rattle.adr_object.specs.declared.object.Edit.TheVariants.{Create, Change, Remove};
-ghost use Rattle.adr_model.specs.Edits.{fault_if, layout_faults, reference_faults, is_full_for, is_named as the_is_named, most_objects as the_most_objects, has_too_many_entries as the_has_too_many_entries, has_id, faults_to, made, step_to};
+ghost use Rattle.adr_model.specs.Edits.{fault_if, layout_faults, reference_faults, is_full_for, is_named, most_objects, has_too_many_entries, has_id, faults_to, made, step_to};
 
 use adr_layout::lay_out;
 use adr_object::{Edit, Id, Kind, Object};
@@ -66,7 +66,7 @@ fn reference_fault(objects: &Store, object: &Object) -> Result<(), Refusal>
 
 /// Whether an object names the one of that kind and id.
 fn is_named(objects: &Store, kind: Kind, id: &Id) -> bool
-    ensures { result ≡ the_is_named objects.now kind id.now }
+    ensures { result ≡ is_named objects.now kind id.now }
 {
     match kind {
         Kind::Program => objects.is_program_named(id),
@@ -76,7 +76,7 @@ fn is_named(objects: &Store, kind: Kind, id: &Id) -> bool
 }
 
 fn most_objects(kind: Kind) -> usize
-    ensures { result ≡ the_most_objects kind }
+    ensures { result ≡ most_objects kind }
 {
     match kind {
         Kind::Program => MOST_PROGRAMS,
@@ -88,7 +88,7 @@ fn most_objects(kind: Kind) -> usize
 
 /// Whether the object is an event that would bring the book above its entries.
 fn has_too_many_entries(objects: &Store, object: &Object) -> bool
-    ensures { result ≡ the_has_too_many_entries objects.now object.now }
+    ensures { result ≡ has_too_many_entries objects.now object.now }
 {
     match object {
         Object::Event(event) => {
@@ -153,7 +153,7 @@ fn change_room_fault(objects: &Store, full: u64, object: &Object) -> Result<(), 
 }
 
 fn use_fault(objects: &Store, kind: Kind, id: &Id) -> Result<(), Refusal>
-    ensures { Gives result (fault_if (the_is_named objects.now kind id.now) Refusal.InUse) tt }
+    ensures { Gives result (fault_if (is_named objects.now kind id.now) Refusal.InUse) tt }
 {
     fault_if(is_named(objects, kind, id), Refusal::InUse)
 }

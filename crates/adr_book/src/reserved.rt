@@ -1,4 +1,6 @@
-ghost use Rattle.std.specs.Prelude.{◌≡◌, ◌<◌, ◌++◌, ◌∷◌, [], vec_len, vec_capacity, OnOk, IfErr};
+//! Vectors with room for one item more.
+ghost use Rattle.std.specs.Prelude.{◌≡◌, ◌<◌, ◌++◌, ◌∷◌, [], vec_len, vec_capacity, OnOk};
+ghost use Rattle.adr_value.specs.Answer.{OnlyNoMemory};
 
 use adr_value::Refusal;
 
@@ -14,7 +16,7 @@ pub fn push_within<T: Drop>(items: &mut Vec<T>, item: T)
 pub fn make_room<T: Drop>(items: &mut Vec<T>) -> Result<(), Refusal>
     ensures items { items.new.items ≡ items.old.items }
     ensures room { OnOk result (vec_len items.new < vec_capacity items.new) }
-    ensures refusal { IfErr result (λ refusal. refusal ≡ Refusal.NoMemory) }
+    ensures refusal { OnlyNoMemory result }
 {
     items.reserve(1)?;
     Ok(())

@@ -1,10 +1,9 @@
 //! Entries in order, under a tree of greatest ends.
-ghost use Rattle.std.specs.Prelude.{◌≡◌, ◌+◌, ◌*◌, ◌<◌, ◌≤◌, ◌^◌, [], false, length, IfOk, IfErr, IsOk, OnOk, OnErr};
-ghost use Rattle.std.specs.List.{list_any};
-ghost use Rattle.adr_value.specs.declared.refusal.Refusal.TheVariants.{NoMemory};
-ghost use Rattle.adr_model.specs.Entries.{covering as the_covering, is_listed_before, meeting, IsListed};
-ghost use Rattle.std.specs.List.{insert};
-ghost use Rattle.adr_index.specs.Index.{digits as digits_of, inserted, IsOrdered, is_entry as is_the_entry, most_probes, without};
+ghost use Rattle.std.specs.Prelude.{◌≡◌, ◌+◌, ◌*◌, ◌<◌, ◌≤◌, ◌^◌, [], false, length, IfOk, IsOk, OnOk, OnErr};
+ghost use Rattle.std.specs.List.{insert, list_any};
+ghost use Rattle.adr_value.specs.Answer.{OnlyNoMemory};
+ghost use Rattle.adr_model.specs.Entries.{covering, is_listed_before, meeting, IsListed};
+ghost use Rattle.adr_index.specs.Index.{digits as digits_of, inserted, IsOrdered, is_entry, most_probes, without};
 ghost use Rattle.adr_index.specs.Query.{hits};
 
 use crate::query::{Latest, Query};
@@ -58,14 +57,14 @@ fn comes_before(first: &Entry, second: &Entry) -> bool
 
 /// Whether it is the entry of that written number and place.
 fn is_entry(entry: &Entry, written: u64, place: u32) -> bool
-    ensures { result ≡ is_the_entry written place entry.now }
+    ensures { result ≡ is_entry written place entry.now }
 {
     entry.rank.written == written && entry.rank.place == place
 }
 
 /// Whether one of the entries has that written number and place.
 fn has_entry(entries: &[Entry], written: u64, place: u32) -> bool
-    ensures { result ≡ list_any (is_the_entry written place) entries.now }
+    ensures { result ≡ list_any (is_entry written place) entries.now }
 {
     entries.iter().any(|entry| is_entry(entry, written, place))
 }
@@ -84,7 +83,7 @@ impl Index {
     /// An index of the same entries. `NoMemory` where there is no room.
     pub fn copy(&self) -> Result<Index, Refusal>
         ensures entries { IfOk result (λ index. index.entries ≡ self.now.entries) }
-        ensures refused { IfErr result (λ refusal. refusal ≡ NoMemory) }
+        ensures refused { OnlyNoMemory result }
     {
         let alloc = *self.entries.allocator();
         let entries = Vec::from_slice(alloc, &self.entries)?;
@@ -114,7 +113,7 @@ impl Index {
         ensures entries { self.new.entries ≡ self.old.entries }
         ensures spare { OnOk result (more ≤ self.new.spare) }
         ensures kept { self.old.spare ≤ self.new.spare }
-        ensures refused { IfErr result (λ refusal. refusal ≡ NoMemory) }
+        ensures refused { OnlyNoMemory result }
     {
         self.entries.reserve(more)?;
         self.greatest.reserve(more)?;
@@ -124,12 +123,12 @@ impl Index {
     /// Adds an entry in its place. `NoMemory` where there is no room; then the list is as it was. With room to spare
     /// it is never refused. Cost: about one step for each entry.
     pub fn insert(&mut self, entry: Entry) -> Result<(), Refusal>
-        requires { list_any (is_the_entry entry.rank.written entry.rank.place) self.old.entries ≡ false }
+        requires { list_any (is_entry entry.rank.written entry.rank.place) self.old.entries ≡ false }
         ensures ok { OnOk result (self.new.entries ≡ inserted entry self.old.entries) }
         ensures err { OnErr result (self.new.entries ≡ self.old.entries) }
         ensures room { 0 < self.old.spare → IsOk result }
         ensures taken { self.old.spare ≤ self.new.spare + 1 }
-        ensures refused { IfErr result (λ refusal. refusal ≡ NoMemory) }
+        ensures refused { OnlyNoMemory result }
     {
         self.greatest.reserve(1)?;
         let place = place_of(&self.entries, &entry);
@@ -143,7 +142,7 @@ impl Index {
     /// Takes out the entry of that written number and place, and answers whether it was there. It takes no memory.
     /// Cost: about one step for each entry.
     pub fn remove(&mut self, written: u64, place: u32) -> bool
-        ensures answer { result ≡ list_any (is_the_entry written place) self.old.entries }
+        ensures answer { result ≡ list_any (is_entry written place) self.old.entries }
         ensures entries { self.new.entries ≡ without written place self.old.entries }
         ensures spare { self.old.spare ≤ self.new.spare }
     {
@@ -196,8 +195,8 @@ impl Index {
     /// The entries that cover the moment, in order. `NoMemory` where there is no room for them. Cost: as much as
     /// `covering_counted` says.
     pub fn covering(&self, at: Moment) -> Result<Vec<Entry>, Refusal>
-        ensures found { IfOk result (λ found. found.items ≡ the_covering self.now.entries at) }
-        ensures refused { IfErr result (λ refusal. refusal ≡ NoMemory) }
+        ensures found { IfOk result (λ found. found.items ≡ covering self.now.entries at) }
+        ensures refused { OnlyNoMemory result }
     {
         let query = query_at(at);
         let found = self.find(&query)?;
@@ -208,7 +207,7 @@ impl Index {
     /// as `overlapping_counted` says.
     pub fn overlapping(&self, window: Span) -> Result<Vec<Entry>, Refusal>
         ensures found { IfOk result (λ found. found.items ≡ meeting self.now.entries window) }
-        ensures refused { IfErr result (λ refusal. refusal ≡ NoMemory) }
+        ensures refused { OnlyNoMemory result }
     {
         if !window.start.is_before(window.end) {
             return Ok(Vec::new(*self.entries.allocator()));
@@ -222,9 +221,9 @@ impl Index {
     /// digits and m answered at most 4(d + 1)(m + 1).
     pub fn covering_counted(&self, at: Moment, meter: &mut Meter) -> Result<Vec<Entry>, Refusal>
         requires { meter.old + most_probes self.now.entries (length self.now.entries) < 2 ^ 128 }
-        ensures found { IfOk result (λ found. found.items ≡ the_covering self.now.entries at) }
-        ensures probes { meter.new ≤ meter.old + most_probes self.now.entries (length (the_covering self.now.entries at)) }
-        ensures refused { IfErr result (λ refusal. refusal ≡ NoMemory) }
+        ensures found { IfOk result (λ found. found.items ≡ covering self.now.entries at) }
+        ensures probes { meter.new ≤ meter.old + most_probes self.now.entries (length (covering self.now.entries at)) }
+        ensures refused { OnlyNoMemory result }
     {
         let query = query_at(at);
         let found = self.find_counted(&query, meter)?;
@@ -240,7 +239,7 @@ impl Index {
         requires { meter.old + most_probes self.now.entries (length self.now.entries) < 2 ^ 128 }
         ensures found { IfOk result (λ found. found.items ≡ meeting self.now.entries window) }
         ensures probes { meter.new ≤ meter.old + most_probes self.now.entries (length (meeting self.now.entries window)) }
-        ensures refused { IfErr result (λ refusal. refusal ≡ NoMemory) }
+        ensures refused { OnlyNoMemory result }
     {
         if !window.start.is_before(window.end) {
             return Ok(Vec::new(*self.entries.allocator()));

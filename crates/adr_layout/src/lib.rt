@@ -3,10 +3,7 @@
 
 ghost use Rattle.std.specs.Prelude.{◌≡◌};
 ghost use Rattle.adr_value.specs.Answer.{Answers, result_map};
-ghost use Rattle.adr_model.specs.Layout.{layout, placed_from, first_start as the_first_start, start_after as the_start_after, duration_of, interval_span as the_interval_span, span_from as the_span_from};
-
-#[cfg(test)]
-mod tests;
+ghost use Rattle.adr_model.specs.Layout.{layout, placed_from, first_start, start_after, duration_of, interval_span, span_from};
 
 pub use adr_model::Placed;
 use adr_object::{Event, Interval, Period};
@@ -42,7 +39,7 @@ pub fn lay_out(alloc: Global, event: &Event) -> Result<Vec<Placed>, Refusal>
 
 /// Where the first interval starts, if it has no period of its own.
 fn first_start(default: &Option<Period>) -> Result<Moment, Refusal>
-    ensures { result ≡ the_first_start default.now }
+    ensures { result ≡ first_start default.now }
 {
     match default {
         Some(period) => Ok(period.start),
@@ -52,7 +49,7 @@ fn first_start(default: &Option<Period>) -> Result<Moment, Refusal>
 
 /// Where an interval starts after one with that span, if it has no period of its own.
 fn start_after(span: &Span) -> Result<Moment, Refusal>
-    ensures { result ≡ the_start_after span.now.end }
+    ensures { result ≡ start_after span.now.end }
 {
     match span.end {
         End::At(moment) => Ok(moment),
@@ -72,7 +69,7 @@ fn default_length(default: &Option<Period>) -> Option<Length>
 
 /// The span of that length from the start on.
 fn span_from(length: Option<Length>, start: Moment) -> Result<Span, Refusal>
-    ensures { result ≡ the_span_from length start }
+    ensures { result ≡ span_from length start }
 {
     let end = match length {
         Some(length) => end_of(start, &length)?,
@@ -87,7 +84,7 @@ fn interval_span(
     next: Result<Moment, Refusal>,
     interval: &Interval,
 ) -> Result<Span, Refusal>
-    ensures { result ≡ the_interval_span default.now next interval.now.period }
+    ensures { result ≡ interval_span default.now next interval.now.period }
 {
     match interval.period {
         Some(own) => span_from(own.duration.or(default_length(default)), own.start),

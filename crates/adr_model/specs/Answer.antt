@@ -54,7 +54,7 @@ earliest (t ∷ ts) = earlier_of t (earliest ts)
 
 -- the least later instant whose governor differs from that at t, or no end
 unfoldable pub until : Tie → Book → List ℕ → PayloadType → ℤ → End
-until tie book id kind t = earliest (changes (ranked_entries tie book id kind) t)
+until tie book id payload_type t = earliest (changes (ranked_entries tie book id payload_type) t)
 
 -- the same in other words, of any governor
 abbrev pub IsUntil : (ℤ → Option Winner) → ℤ → End → Type 0
@@ -73,22 +73,22 @@ abbrev pub event_written : Book → ℕ → Option Written
 event_written book written = find (λ w. written == w.written) book.events
 
 abbrev pub first_payload : PayloadType → List Payload → Option Payload
-first_payload kind payloads = find (λ p. same_type p.kind kind) payloads
+first_payload payload_type payloads = find (λ p. same_type p.kind payload_type) payloads
 
 abbrev pub shown_in : PayloadType → ℕ → Written → Option Shown
-shown_in kind place w =
+shown_in payload_type place w =
     option_and_then (λ i. option_map
     (λ p. record { event = w.event.id; interval = i.id; values = p.values })
-    (first_payload kind i.payloads))
+    (first_payload payload_type i.payloads))
     (slice_get w.event.intervals place)
 
 -- what a winner shows of the type
 abbrev pub shown_of : Book → PayloadType → Winner → Option Shown
-shown_of book kind winner = option_and_then (shown_in kind winner.place) (event_written book winner.written)
+shown_of book payload_type winner = option_and_then (shown_in payload_type winner.place) (event_written book winner.written)
 
 -- what governs shows
 abbrev pub shown : Tie → Book → List ℕ → PayloadType → ℤ → Option Shown
-shown tie book id kind t = option_and_then (shown_of book kind) (governs tie book id kind t)
+shown tie book id payload_type t = option_and_then (shown_of book payload_type) (governs tie book id payload_type t)
 
 -- ---- the bytes
 
@@ -130,9 +130,9 @@ state_text (Some s) end =
 
 -- `version 4 ` and the state at the instant, with a line feed
 abbrev pub at_text : Tie → Book → List ℕ → PayloadType → ℤ → List ℕ
-at_text tie book id kind t =
-    codes "version " ++ decimal book.version ++ codes " " ++ state_text (shown tie book id kind t) (until tie book id kind t) ++ codes "\n"
+at_text tie book id payload_type t =
+    codes "version " ++ decimal book.version ++ codes " " ++ state_text (shown tie book id payload_type t) (until tie book id payload_type t) ++ codes "\n"
 
 -- the answer to `at`: a resource that is not there is refused
 unfoldable pub at : Tie → Book → List ℕ → PayloadType → ℤ → Result (List ℕ) Refusal
-at tie book id kind t = if is_some (resource_by book id) then Ok (at_text tie book id kind t) else Err UnknownResource
+at tie book id payload_type t = if is_some (resource_by book id) then Ok (at_text tie book id payload_type t) else Err UnknownResource

@@ -25,9 +25,9 @@ entry_at w k span =
 
 -- an entry for each interval that carries the type
 abbrev pub entries_of : PayloadType → Written → List Entry
-entries_of kind w =
+entries_of payload_type w =
     filter_map
-    (λ p. then_some (carries p.1.0 kind) (entry_at w p.0 p.1.1))
+    (λ p. then_some (carries p.1.0 payload_type) (entry_at w p.0 p.1.1))
     (enumerate_from 0 (zip w.event.intervals (result_unwrap_or (layout w.event) [])))
 
 -- the event applies to the resource, in this book
@@ -36,12 +36,12 @@ applies_to book resource w = option_map_or applies (scene_of book w.event resour
 
 -- the entries of the type in the events that apply to the resource
 abbrev pub entries_for : Book → List ℕ → PayloadType → List Entry
-entries_for book id kind =
-    option_map_or (λ resource. flat_map (entries_of kind) (filter (applies_to book resource) book.events)) (resource_by book id) []
+entries_for book id payload_type =
+    option_map_or (λ resource. flat_map (entries_of payload_type) (filter (applies_to book resource) book.events)) (resource_by book id) []
 
 -- those of them whose span covers the instant
 unfoldable pub candidates : Book → List ℕ → PayloadType → ℤ → List Entry
-candidates book id kind t = filter (λ e. covers e.span t) (entries_for book id kind)
+candidates book id payload_type t = filter (λ e. covers e.span t) (entries_for book id payload_type)
 
 -- the entry of the list that goes before all others
 abbrev pub first_of : List Entry → Option Entry
@@ -57,15 +57,15 @@ winner_at entries t = option_map winner_of (first_of (filter (λ e. covers e.spa
 
 -- the entries as they compete under a rule for ties
 abbrev pub ranked_entries : Tie → Book → List ℕ → PayloadType → List Entry
-ranked_entries tie book id kind = map (ranked tie) (entries_for book id kind)
+ranked_entries tie book id payload_type = map (ranked tie) (entries_for book id payload_type)
 
 -- the candidate of least rank under the rule, or none where there is no candidate
 unfoldable pub governs : Tie → Book → List ℕ → PayloadType → ℤ → Option Winner
-governs tie book id kind t = option_map winner_of (first_of (map (ranked tie) (candidates book id kind t)))
+governs tie book id payload_type t = option_map winner_of (first_of (map (ranked tie) (candidates book id payload_type t)))
 
 -- the candidates of the two books, taken by rank, are not the same set
 abbrev pub Disturbed : Book → Book → List ℕ → PayloadType → ℤ → Type 0
-Disturbed old new id kind t =
+Disturbed old new id payload_type t =
     ((rank : Rank) →
-    Contains (map (λ e. e.rank) (candidates old id kind t)) rank ↔ Contains (map (λ e. e.rank) (candidates new id kind t)) rank)
+    Contains (map (λ e. e.rank) (candidates old id payload_type t)) rank ↔ Contains (map (λ e. e.rank) (candidates new id payload_type t)) rank)
     → ⊥

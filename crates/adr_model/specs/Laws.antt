@@ -44,20 +44,20 @@ VersionsAreEdits = (edits : List Edit) → (after edits).version ≤ length edit
 abbrev pub RepeatsAreOneEntry : Type 0
 RepeatsAreOneEntry =
     (i : Interval) (p : Payload) → carries i p.kind ≡ true
-    → ((kind : PayloadType) → carries (record i { payloads = p ∷ i.payloads }) kind ≡ carries i kind)
+    → ((payload_type : PayloadType) → carries (record i { payloads = p ∷ i.payloads }) payload_type ≡ carries i payload_type)
     × (distinct_types (p ∷ i.payloads) ≡ distinct_types i.payloads)
 
 -- ---- answers
 
 -- `until` is later than the asked instant, nothing changes before it, and there something does
 abbrev pub UntilIsTheNextChange : Type 0
-UntilIsTheNextChange = (tie : Tie) (book : Book) (id : List ℕ) (kind : PayloadType) (t : ℤ) → IsUntil (λ u. governs tie book id kind u) t (until tie book id kind t)
+UntilIsTheNextChange = (tie : Tie) (book : Book) (id : List ℕ) (payload_type : PayloadType) (t : ℤ) → IsUntil (λ u. governs tie book id payload_type u) t (until tie book id payload_type t)
 
 -- the lines of a list begin at each instant of the window that is governed and is the first or differs from the one before, and at no other
 abbrev pub SegmentsBeginAtChanges : Type 0
 SegmentsBeginAtChanges =
-    (tie : Tie) (book : Book) (id : List ℕ) (kind : PayloadType) (from to u : ℤ)
-    → list_any (int_eq u) (beginnings tie book id kind from to) ≡ (int_le from u && (int_lt u to && begins tie book id kind from u))
+    (tie : Tie) (book : Book) (id : List ℕ) (payload_type : PayloadType) (from to u : ℤ)
+    → list_any (int_eq u) (beginnings tie book id payload_type from to) ≡ (int_le from u && (int_lt u to && begins tie book id payload_type from u))
 
 -- each instant is before those that follow it
 abbrev pub IsAscending : List ℤ → Type 0
@@ -66,45 +66,45 @@ IsAscending (t ∷ ts) = AllByRecursion (λ u. t <ℤ u) ts × IsAscending ts
 
 -- and they stand in order
 abbrev pub SegmentsAreInOrder : Type 0
-SegmentsAreInOrder = (tie : Tie) (book : Book) (id : List ℕ) (kind : PayloadType) (from to : ℤ) → IsAscending (beginnings tie book id kind from to)
+SegmentsAreInOrder = (tie : Tie) (book : Book) (id : List ℕ) (payload_type : PayloadType) (from to : ℤ) → IsAscending (beginnings tie book id payload_type from to)
 
 -- from where a line begins to where it ends one winner governs
 abbrev pub SegmentsShowOne : Type 0
 SegmentsShowOne =
-    (tie : Tie) (book : Book) (id : List ℕ) (kind : PayloadType) (to u v : ℤ)
-    → u ≤ℤ v → v <ℤ end_within to (until tie book id kind u) → governs tie book id kind v ≡ governs tie book id kind u
+    (tie : Tie) (book : Book) (id : List ℕ) (payload_type : PayloadType) (to u v : ℤ)
+    → u ≤ℤ v → v <ℤ end_within to (until tie book id payload_type u) → governs tie book id payload_type v ≡ governs tie book id payload_type u
 
 -- each governed instant of the window lies on a line
 abbrev pub SegmentsCoverAll : Type 0
 SegmentsCoverAll =
-    (tie : Tie) (book : Book) (id : List ℕ) (kind : PayloadType) (from to v : ℤ) → from ≤ℤ v → v <ℤ to → is_some (governs tie book id kind v) ≡ true
-    → (u : ℤ) × (list_any (int_eq u) (beginnings tie book id kind from to) ≡ true) × (u ≤ℤ v) × (v <ℤ end_within to (until tie book id kind u))
+    (tie : Tie) (book : Book) (id : List ℕ) (payload_type : PayloadType) (from to v : ℤ) → from ≤ℤ v → v <ℤ to → is_some (governs tie book id payload_type v) ≡ true
+    → (u : ℤ) × (list_any (int_eq u) (beginnings tie book id payload_type from to) ≡ true) × (u ≤ℤ v) × (v <ℤ end_within to (until tie book id payload_type u))
 
 -- and on no two: a line ends before the next one begins, or where it does
 abbrev pub SegmentsAreApart : Type 0
 SegmentsAreApart =
-    (tie : Tie) (book : Book) (id : List ℕ) (kind : PayloadType) (from to u w : ℤ)
-    → list_any (int_eq u) (beginnings tie book id kind from to) ≡ true → list_any (int_eq w) (beginnings tie book id kind from to) ≡ true
-    → u <ℤ w → end_within to (until tie book id kind u) ≤ℤ w
+    (tie : Tie) (book : Book) (id : List ℕ) (payload_type : PayloadType) (from to u w : ℤ)
+    → list_any (int_eq u) (beginnings tie book id payload_type from to) ≡ true → list_any (int_eq w) (beginnings tie book id payload_type from to) ≡ true
+    → u <ℤ w → end_within to (until tie book id payload_type u) ≤ℤ w
 
 -- a type is listed just where something of it governs at some instant
 abbrev pub TypesGovernSometime : Type 0
 TypesGovernSometime =
-    (tie : Tie) (book : Book) (id : List ℕ) (kind : PayloadType)
-    → IsTrue (is_governed tie book id kind) ↔ ((t : ℤ) × IsTrue (is_some (governs tie book id kind t)))
+    (tie : Tie) (book : Book) (id : List ℕ) (payload_type : PayloadType)
+    → IsTrue (is_governed tie book id payload_type) ↔ ((t : ℤ) × IsTrue (is_some (governs tie book id payload_type t)))
 
 -- `roll` has a line for each resource, in order of creation
 abbrev pub RollTellsEach : Type 0
 RollTellsEach =
-    (tie : Tie) (book : Book) (kind : PayloadType) (t : ℤ) → roll tie book kind t ≡ Ok (in_lines book (flat_map (λ r. roll_line tie book kind t r.id) book.resources))
+    (tie : Tie) (book : Book) (payload_type : PayloadType) (t : ℤ) → roll tie book payload_type t ≡ Ok (in_lines book (flat_map (λ r. roll_line tie book payload_type t r.id) book.resources))
 
 -- which says of it what `at` answers
 abbrev pub RollTellsWhatAtTells : Type 0
 RollTellsWhatAtTells =
-    (tie : Tie) (book : Book) (kind : PayloadType) (t : ℤ) (id : List ℕ) → is_some (resource_by book id) ≡ true
+    (tie : Tie) (book : Book) (payload_type : PayloadType) (t : ℤ) (id : List ℕ) → is_some (resource_by book id) ≡ true
     → (state : List ℕ)
-    × (roll_line tie book kind t id ≡ id ++ codes " " ++ state ++ codes "\n")
-    × (at tie book id kind t ≡ Ok (codes "version " ++ decimal book.version ++ codes " " ++ state ++ codes "\n"))
+    × (roll_line tie book payload_type t id ≡ id ++ codes " " ++ state ++ codes "\n")
+    × (at tie book id payload_type t ≡ Ok (codes "version " ++ decimal book.version ++ codes " " ++ state ++ codes "\n"))
 
 -- ---- the machine
 

@@ -36,14 +36,14 @@ in_order cmp (x ∷ xs) = put_in_order cmp x (in_order cmp xs)
 
 -- something governs at the instant, and it is the window's first or what governs differs from the instant before
 abbrev pub begins : Tie → Book → List ℕ → PayloadType → ℤ → ℤ → Bool
-begins tie book id kind from u =
-    is_some (governs tie book id kind u)
-    && (int_eq u from || not (same_winner (governs tie book id kind (u -ℤ pos 1)) (governs tie book id kind u)))
+begins tie book id payload_type from u =
+    is_some (governs tie book id payload_type u)
+    && (int_eq u from || not (same_winner (governs tie book id payload_type (u -ℤ pos 1)) (governs tie book id payload_type u)))
 
 -- the instants of the window at which a segment begins, which are among its first and those where entries start or end
 unfoldable pub beginnings : Tie → Book → List ℕ → PayloadType → ℤ → ℤ → List ℤ
-beginnings tie book id kind from to =
-    filter (λ u. int_le from u && (int_lt u to && begins tie book id kind from u)) (in_order int_cmp (from ∷ bounds (entries_for book id kind)))
+beginnings tie book id payload_type from to =
+    filter (λ u. int_le from u && (int_lt u to && begins tie book id payload_type from u)) (in_order int_cmp (from ∷ bounds (entries_for book id payload_type)))
 
 -- the end, or the window's if that is earlier
 abbrev pub end_within : ℤ → End → ℤ
@@ -58,36 +58,36 @@ segment_text start end s =
 
 -- the line of the segment that begins at an instant
 abbrev pub segment_line : Tie → Book → List ℕ → PayloadType → ℤ → ℤ → List ℕ
-segment_line tie book id kind to u = option_map_or (segment_text u (end_within to (until tie book id kind u))) (shown tie book id kind u) []
+segment_line tie book id payload_type to u = option_map_or (segment_text u (end_within to (until tie book id payload_type u))) (shown tie book id payload_type u) []
 
 -- the first line and the last of an answer of several
 abbrev pub in_lines : Book → List ℕ → List ℕ
 in_lines book lines = codes "version " ++ decimal book.version ++ codes "\n" ++ lines ++ codes ".\n"
 
 abbrev pub list_text : Tie → Book → List ℕ → PayloadType → ℤ → ℤ → List ℕ
-list_text tie book id kind from to = in_lines book (flat_map (segment_line tie book id kind to) (beginnings tie book id kind from to))
+list_text tie book id payload_type from to = in_lines book (flat_map (segment_line tie book id payload_type to) (beginnings tie book id payload_type from to))
 
 -- the answer to `list`: a window that does not begin before it ends is refused, and then a resource that is not there
 unfoldable pub list : Tie → Book → List ℕ → PayloadType → ℤ → ℤ → Result (List ℕ) Refusal
-list tie book id kind from to =
-    if int_lt from to then (if is_some (resource_by book id) then Ok (list_text tie book id kind from to) else Err UnknownResource)
+list tie book id payload_type from to =
+    if int_lt from to then (if is_some (resource_by book id) then Ok (list_text tie book id payload_type from to) else Err UnknownResource)
     else Err BadWindow
 
 -- ---- `roll`: the state of each resource
 
 -- `r1 event e1 interval 0 until end values 10` and a line feed
 abbrev pub roll_line : Tie → Book → PayloadType → ℤ → List ℕ → List ℕ
-roll_line tie book kind t id = id ++ codes " " ++ state_text (shown tie book id kind t) (until tie book id kind t) ++ codes "\n"
+roll_line tie book payload_type t id = id ++ codes " " ++ state_text (shown tie book id payload_type t) (until tie book id payload_type t) ++ codes "\n"
 
 -- the answer to `roll`, in order of creation: nothing is refused
 unfoldable pub roll : Tie → Book → PayloadType → ℤ → Result (List ℕ) Refusal
-roll tie book kind t = Ok (in_lines book (flat_map (λ r. roll_line tie book kind t r.id) book.resources))
+roll tie book payload_type t = Ok (in_lines book (flat_map (λ r. roll_line tie book payload_type t r.id) book.resources))
 
 -- ---- `types`: what governs a resource at some time
 
 -- something of the type governs at the start of some interval
 abbrev pub is_governed : Tie → Book → List ℕ → PayloadType → Bool
-is_governed tie book id kind = list_any (λ e. is_some (governs tie book id kind e.span.start)) (entries_for book id kind)
+is_governed tie book id payload_type = list_any (λ e. is_some (governs tie book id payload_type e.span.start)) (entries_for book id payload_type)
 
 abbrev pub private_name : PayloadType → List (List ℕ)
 private_name (Private name) = name ∷ []
@@ -114,7 +114,7 @@ abbrev pub type_text : List ℕ → List ℕ
 type_text name = if list_all is_bare_byte name then name else quoted name
 
 abbrev pub types_text : Tie → Book → List ℕ → List ℕ
-types_text tie book id = in_lines book (flat_map (λ kind. type_text (name_of kind) ++ codes "\n") (governing_types tie book id))
+types_text tie book id = in_lines book (flat_map (λ payload_type. type_text (name_of payload_type) ++ codes "\n") (governing_types tie book id))
 
 -- the answer to `types`: a resource that is not there is refused
 unfoldable pub types : Tie → Book → List ℕ → Result (List ℕ) Refusal
@@ -130,7 +130,7 @@ pub data Query : Type 0 where
 
 -- the answer to a query under a rule for ties
 abbrev pub answer : Tie → Book → Query → Result (List ℕ) Refusal
-answer tie book (at_query id kind t) = at tie book id kind t
-answer tie book (list_query id kind from to) = list tie book id kind from to
-answer tie book (roll_query kind t) = roll tie book kind t
+answer tie book (at_query id payload_type t) = at tie book id payload_type t
+answer tie book (list_query id payload_type from to) = list tie book id payload_type from to
+answer tie book (roll_query payload_type t) = roll tie book payload_type t
 answer tie book (types_query id) = types tie book id

@@ -13,7 +13,7 @@ use Rattle.adr_model.specs.declared.entry.Tie.TheVariants.{Newest, LatestStart}
 
 -- the interval has a payload of the type
 abbrev pub carries : Interval → PayloadType → Bool
-carries interval kind = list_any (λ p. same_type p.kind kind) interval.payloads
+carries interval payload_type = list_any (λ p. same_type p.kind payload_type) interval.payloads
 
 -- a lower number is a higher priority, and absence is below every number
 abbrev pub priority_of : Option ℕ → ℕ

@@ -22,13 +22,13 @@ ids_of_both old new = old ++ filter (λ id. not (list_any (bytes_eq id) old)) ne
 -- the payload types, each where it stands first
 abbrev pub types_of : List Payload → List PayloadType
 types_of [] = []
-types_of (p ∷ ps) = p.kind ∷ filter (λ kind. not (same_type p.kind kind)) (types_of ps)
+types_of (p ∷ ps) = p.kind ∷ filter (λ payload_type. not (same_type p.kind payload_type)) (types_of ps)
 
 -- a touch for each interval that lasts and each of its types
 abbrev pub touches_of : List ℕ → Written → List Touch
 touches_of resource w =
     flat_map
-    (λ p. if is_before p.1.start p.1.end then map (λ kind. record { resource = resource; kind = kind; window = p.1 }) (types_of p.0.payloads) else [])
+    (λ p. if is_before p.1.start p.1.end then map (λ payload_type. record { resource = resource; kind = payload_type; window = p.1 }) (types_of p.0.payloads) else [])
     (zip w.event.intervals (result_unwrap_or (layout w.event) []))
 
 -- the event, where both are there and it applies

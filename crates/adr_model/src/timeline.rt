@@ -1,3 +1,4 @@
+//! Who governs, and a stretch of time that one governs.
 use adr_time::{End, Moment};
 
 /// The interval that governs: the number of its event's edit, and its place in the event.

@@ -1,3 +1,4 @@
+//! Where an edit may change what governs.
 use adr_object::Id;
 use adr_time::Span;
 use adr_value::PayloadType;

@@ -1,3 +1,4 @@
+//! An event with the number of the edit that wrote it last.
 ghost use Rattle.adr_value.specs.Copy.{IsCopyOf};
 
 use adr_object::Event;

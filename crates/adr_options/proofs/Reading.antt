@@ -1,16 +1,23 @@
 -- What the matches of a subcommand hold.
-use Rattle.std.proofs.Common.{◌≡◌, ◌<◌, ◌^◌, ℕ, List, Option, Some, None, Result, Ok, Err, ap}
+use Rattle.std.proofs.Common.{ap₂, ◌∙◌, arith, refl, length, [], ◌∷◌, ◌≡◌, ◌<◌, ◌^◌, ℕ, List, Option, Some, None, Result, Ok, Err, ap}
 use Rattle.std.specs.Prelude.{codes, option_map}
 use Rattle.std.specs.Str.Parse.{IsNumeral, ParsesUnsigned, digits_value, without_leading_plus}
+use Rattle.std.specs.Borrow.{Bor}
 use Rattle.std.proofs.lemmas.Result.{Ok-from_Ok_iff}
+use Rattle.clap.specs.Walk.{texts}
 use Rattle.clap.specs.Matches.{ReadsOne}
-use Rattle.clap.specs.Words.{Row, Text, one_of}
-use Rattle.adr_options.specs.Grammar.{workers_in}
+use Rattle.clap.specs.Words.{Row, Text, first_of, one_of}
+use Rattle.adr_options.specs.Grammar.{Places, text_at, tie_in, tie_names, workers_in}
 
 pub workers_in-rows : (entered : Option (Text × List Row)) (rows : List Row) → Some rows ≡ option_map (λ own. own.1) entered
     → one_of (codes "workers") rows ≡ workers_in entered
 workers_in-rows None rows same = cc
 workers_in-rows (Some own) rows same = let is : rows ≡ own.1 = cc in ap (one_of (codes "workers")) is
+
+pub tie_in-rows : (entered : Option (Text × List Row)) (rows : List Row) → Some rows ≡ option_map (λ own. own.1) entered
+    → first_of (codes "tie") rows ≡ tie_in entered
+tie_in-rows None rows same = cc
+tie_in-rows (Some own) rows same = let is : rows ≡ own.1 = cc in ap (first_of (codes "tie")) is
 
 -- a numeral of a byte is read as its number
 pub byte_read : {E : Type 0} (gives : List ℕ → Result ℕ E → Type 0) → ((text : List ℕ) (r : Result ℕ E) → gives text r → ParsesUnsigned 8 10 text r)
@@ -22,3 +29,19 @@ byte_read {E} gives parses text (Some n) h numeral small =
 byte_read {E} gives parses text None h numeral small =
     let failed : Result ℕ E = Err h.0 in
     let is : failed ≡ Ok (digits_value 10 (without_leading_plus text)) = Ok-from_Ok_iff failed _ _ (parses text failed h.1) (numeral, small) in cc
+
+-- the names are somewhere
+pub names_are_somewhere : (names : Bor (List (Bor Text))) → texts names.now ≡ codes "newest" ∷ codes "latest-start" ∷ [] → (places : Places) × (names ≡ tie_names places)
+names_are_somewhere names e = go names.now e refl
+  where
+    go : (items : List (Bor Text)) → texts items ≡ codes "newest" ∷ codes "latest-start" ∷ [] → names.now ≡ items → (places : Places) × (names ≡ tie_names places)
+    go [] e is = absurd (omega (arith, ap length e))
+    go (a ∷ []) e is = absurd (omega (arith, ap length e))
+    go (a ∷ b ∷ []) e is =
+        let newest : a.now ≡ codes "newest" = cc in
+        let latest : b.now ≡ codes "latest-start" = cc in
+        let items : a ∷ b ∷ [] ≡ text_at a.ref_ptr (codes "newest") ∷ text_at b.ref_ptr (codes "latest-start") ∷ [] =
+        ap₂ (λ x y. text_at a.ref_ptr x ∷ text_at b.ref_ptr y ∷ []) newest latest in
+        let list : List (Bor Text) → Bor (List (Bor Text)) = λ now. record { ref_ptr = names.ref_ptr; now = now } in
+        (record { names = names.ref_ptr; newest = a.ref_ptr; latest_start = b.ref_ptr }, ap list (is ∙ items))
+    go (a ∷ b ∷ c ∷ rest) e is = absurd (omega (arith, ap length e))

@@ -1,7 +1,12 @@
 -- The command line, in clap's words: what `adr` has, and what a line of words asks of it.
-use Rattle.std.specs.Prelude.{true, pos, List, [], ◌∷◌, Option, Some, codes, option_and_then}
-use Rattle.clap.specs.Words.{App, Row, Rule, Text, new_app, new_rule, one_of, subcommand_of, with_rule, with_subcommand}
-use Rattle.clap.specs.declared.builder.value_parser.ValueParser.TheVariants.{Signed}
+use Rattle.std.specs.Prelude.{ℕ, true, false, pos, List, [], ◌∷◌, Option, Some, codes, option_and_then, if◌then◌else◌}
+use Rattle.std.specs.Str.{bytes_eq}
+use Rattle.std.specs.Option.{option_map_or}
+use Rattle.std.specs.Borrow.{Bor}
+use Rattle.adr_model.specs.declared.entry.Tie.{Tie}
+use Rattle.adr_model.specs.declared.entry.Tie.TheVariants.{Newest, LatestStart}
+use Rattle.clap.specs.Words.{App, Row, Rule, Text, new_app, new_rule, first_of, one_of, subcommand_of, with_rule, with_subcommand}
+use Rattle.clap.specs.declared.builder.value_parser.ValueParser.TheVariants.{Signed, Names}
 
 -- `--workers N`, of 1 to 64, and 1 where it isn't given
 abbrev pub workers_rule : Rule
@@ -12,21 +17,62 @@ workers_rule = record (new_rule (codes "workers")) {
   parser = Some (Signed (pos 1) (pos 64));
 }
 
--- `run [--workers N]`
-abbrev pub run_grammar : App
-run_grammar = with_rule (new_app (codes "run")) workers_rule
+-- where the names of the two rules for ties stand in memory, which no word of a line tells
+pub record Places : Type 0 where
+  pub names : ℕ × ℕ
+  pub newest : ℕ × ℕ
+  pub latest_start : ℕ × ℕ
+
+abbrev pub text_at : ℕ × ℕ → Text → Bor Text
+text_at place text = record { ref_ptr = place; now = text }
+
+-- the names
+abbrev pub tie_names : Places → Bor (List (Bor Text))
+tie_names places = record {
+  ref_ptr = places.names;
+  now = text_at places.newest (codes "newest") ∷ text_at places.latest_start (codes "latest-start") ∷ [];
+}
+
+-- `--tie newest|latest-start`, and newest where it isn't given
+abbrev pub tie_rule : Places → Rule
+tie_rule places = record (new_rule (codes "tie")) {
+  long = Some (codes "tie");
+  value_names = 1;
+  defaults = codes "newest" ∷ [];
+  parser = Some (Names (tie_names places));
+}
+
+-- `run [--workers N] [--tie newest|latest-start]`
+abbrev pub run_grammar : Places → App
+run_grammar places = with_rule (with_rule (new_app (codes "run")) workers_rule) (tie_rule places)
 
 abbrev pub bare_grammar : App
 bare_grammar = record (new_app (codes "adr")) { top = record (new_app (codes "adr")).top { no_binary_name = true; subcommand_required = true } }
 
 -- `adr` has to be told what to do, and `run` is all that it does
-abbrev pub adr_grammar : App
-adr_grammar = with_subcommand bare_grammar run_grammar.top
+abbrev pub adr_grammar : Places → App
+adr_grammar places = with_subcommand bare_grammar (run_grammar places).top
+
+-- it holds of the grammar whose names stand at one of these places
+abbrev pub ByTheGrammar : (App → Type 0) → Type 0
+ByTheGrammar P = (places : Places) × P (adr_grammar places)
 
 -- the text that stands for the number of workers among a subcommand's matches
 abbrev pub workers_in : Option (Text × List Row) → Option Text
 workers_in = option_and_then (λ own. one_of (codes "workers") own.1)
 
 -- and in a line of words
-abbrev pub workers_text : List Text → Option Text
-workers_text words = workers_in (subcommand_of adr_grammar words)
+abbrev pub workers_text : App → List Text → Option Text
+workers_text adr words = workers_in (subcommand_of adr words)
+
+-- the word that names a rule for ties among a subcommand's matches
+abbrev pub tie_in : Option (Text × List Row) → Option Text
+tie_in = option_and_then (λ own. first_of (codes "tie") own.1)
+
+-- and in a line of words
+abbrev pub tie_text : App → List Text → Option Text
+tie_text adr words = tie_in (subcommand_of adr words)
+
+-- the rule that a word names: the latest start where it says so, else the newest
+abbrev pub tie_named : Option Text → Tie
+tie_named word = if option_map_or (λ text. bytes_eq text (codes "latest-start")) word false then LatestStart else Newest

@@ -1,7 +1,8 @@
 //! An index over few entries, and over many.
 ghost use Rattle.std.specs.Prelude.{◌≡◌, length};
 
-use crate::spans::{at, endless, entry, span, tell_span};
+use crate::moments::at;
+use crate::spans::{endless, entry, span, tell_span};
 use adr_index::{Entry, Index};
 use adr_rule::Meter;
 use adr_time::{Moment, Span};
@@ -85,11 +86,20 @@ fn finds_all(alloc: Global, index: &Index) -> Result<bool, Refusal> {
     Ok(finds_what_covers(alloc, index)? && finds_what_overlaps(alloc, index)?)
 }
 
+fn finds_all_in_copy(alloc: Global, index: &Index) -> Result<bool, Refusal> {
+    let copy = index.copy()?;
+    let finds_all = finds_all(alloc, &copy);
+    drop(copy);
+    finds_all
+}
+
 #[test]
 fn entries_are_found(rt: HostRuntime) -> Result<(), Fail> {
     let index = three(rt.alloc())?;
-    assert!(rt; finds_all(rt.alloc(), &index)?);
-    assert!(rt; finds_all(rt.alloc(), &index.copy()?)?);
+    let finds = finds_all(rt.alloc(), &index);
+    let finds_in_copy = finds_all_in_copy(rt.alloc(), &index);
+    drop(index);
+    assert!(rt; finds? && finds_in_copy?);
     Ok(())
 }
 
@@ -101,12 +111,21 @@ fn loses_the_second(alloc: Global, index: &mut Index) -> Result<bool, Refusal> {
     Ok(is_found && is_left_out && !is_found_again)
 }
 
+/// Whether a copy keeps what is taken out.
+fn is_lost_but_in_the_copy(alloc: Global, index: &mut Index) -> Result<bool, Refusal> {
+    let copy = index.copy()?;
+    let is_lost = loses_the_second(alloc, index);
+    let finds_all = finds_all(alloc, &copy);
+    drop(copy);
+    Ok(is_lost? && finds_all?)
+}
+
 #[test]
 fn entries_are_removed_once(rt: HostRuntime) -> Result<(), Fail> {
     let mut index = three(rt.alloc())?;
-    let copy = index.copy()?;
-    assert!(rt; loses_the_second(rt.alloc(), &mut index)?);
-    assert!(rt; finds_all(rt.alloc(), &copy)?);
+    let is_lost = is_lost_but_in_the_copy(rt.alloc(), &mut index);
+    drop(index);
+    assert!(rt; is_lost?);
     Ok(())
 }
 
@@ -121,7 +140,9 @@ fn keeps_empty_ones(alloc: Global, index: &mut Index) -> Result<bool, Refusal> {
 #[test]
 fn entries_without_instants_are_kept_and_never_found(rt: HostRuntime) -> Result<(), Fail> {
     let mut index = three(rt.alloc())?;
-    assert!(rt; keeps_empty_ones(rt.alloc(), &mut index)?);
+    let keeps = keeps_empty_ones(rt.alloc(), &mut index);
+    drop(index);
+    assert!(rt; keeps?);
     Ok(())
 }
 
@@ -138,7 +159,9 @@ fn has_reserved_room(index: &mut Index) -> Result<bool, Refusal> {
 #[test]
 fn reserved_room_is_there(rt: HostRuntime) -> Result<(), Fail> {
     let mut index = Index::new(rt.alloc());
-    assert!(rt; has_reserved_room(&mut index)?);
+    let has_room = has_reserved_room(&mut index);
+    drop(index);
+    assert!(rt; has_room?);
     Ok(())
 }
 
@@ -169,12 +192,19 @@ fn looks_for_a_window(alloc: Global, index: &Index) -> Result<bool, Refusal>
     Ok(meter.count() <= 112 && are(alloc, &found, "[0 100 0 100 101]")?)
 }
 
+fn looks_among_many(alloc: Global, index: &mut Index) -> Result<bool, Refusal> {
+    put_instants(index, 4096)?;
+    if index.len() != 4096 {
+        return Ok(false);
+    }
+    Ok(looks_for_a_moment(alloc, index)? && looks_for_a_window(alloc, index)?)
+}
+
 #[test]
 fn few_of_many_entries_are_looked_at(rt: HostRuntime) -> Result<(), Fail> {
     let mut index = Index::new(rt.alloc());
-    put_instants(&mut index, 4096)?;
-    assert_eq!(rt; index.len(), 4096);
-    assert!(rt; looks_for_a_moment(rt.alloc(), &index)?);
-    assert!(rt; looks_for_a_window(rt.alloc(), &index)?);
+    let looks = looks_among_many(rt.alloc(), &mut index);
+    drop(index);
+    assert!(rt; looks?);
     Ok(())
 }

@@ -1,20 +1,27 @@
 #![tactic(auto)]
-//! Tests of the crates below the machine, by what their public functions answer: the book, the touches of an edit, the
-//! index and the timeline.
+//! Tests of values, times, ranks, the index and the timeline, by what their public functions answer.
 
 #[cfg(test)]
-mod book;
+mod decimals;
 #[cfg(test)]
-mod condensing;
-#[cfg(test)]
-mod edits;
+mod faults;
 #[cfg(test)]
 mod index;
 #[cfg(test)]
+mod lengths;
+#[cfg(test)]
+mod moments;
+#[cfg(test)]
+mod payloads;
+#[cfg(test)]
+mod ranks;
+#[cfg(test)]
+mod rows;
+#[cfg(test)]
+mod shields;
+#[cfg(test)]
 mod spans;
 #[cfg(test)]
+mod texts;
+#[cfg(test)]
 mod timeline;
-#[cfg(test)]
-mod touches;
-#[cfg(test)]
-mod words;

@@ -1,7 +1,8 @@
 //! Timelines of few entries.
 ghost use Rattle.std.specs.Prelude.{◌≤◌, length};
 
-use crate::spans::{at, endless, entry, span, tell_span};
+use crate::moments::at;
+use crate::spans::{endless, entry, span, tell_span};
 use adr_model::Entry;
 use adr_rule::Meter;
 use adr_time::{End, Moment, Span};
@@ -62,13 +63,22 @@ fn has(alloc: Global, timeline: &Timeline, wanted: &str) -> Result<bool, Refusal
 /// What the three show.
 const SHOWN: &str = "[0 5 4 0][5 15 5 0][15 20 6 0]";
 
+fn has_in_copy(alloc: Global, timeline: &Timeline, wanted: &str) -> Result<bool, Refusal> {
+    let copy = timeline.copy()?;
+    let has = has(alloc, &copy, wanted);
+    drop(copy);
+    has
+}
+
 #[test]
 fn the_least_entry_is_shown(rt: HostRuntime) -> Result<(), Fail> {
     let mut meter = Meter::new();
     let timeline = three(rt.alloc(), &mut meter)?;
+    let is_shown = has(rt.alloc(), &timeline, SHOWN);
+    let is_shown_by_copy = has_in_copy(rt.alloc(), &timeline, SHOWN);
+    drop(timeline);
     assert!(rt; meter.count() <= 21);
-    assert!(rt; has(rt.alloc(), &timeline, SHOWN)?);
-    assert!(rt; has(rt.alloc(), &timeline.copy()?, SHOWN)?);
+    assert!(rt; is_shown? && is_shown_by_copy?);
     Ok(())
 }
 
@@ -105,28 +115,64 @@ fn is_told(alloc: Global, timeline: &Timeline) -> Result<bool, Refusal> {
     )
 }
 
+/// Whether a timeline and its copy tell it.
+fn is_told_with_copy(alloc: Global, timeline: &Timeline) -> Result<bool, Refusal> {
+    let copy = timeline.copy()?;
+    let is_told_by_copy = is_told(alloc, &copy);
+    drop(copy);
+    Ok(is_told_by_copy? && is_told(alloc, timeline)?)
+}
+
 #[test]
 fn governors_and_changes_are_told(rt: HostRuntime) -> Result<(), Fail> {
     let mut meter = Meter::new();
     let timeline = three(rt.alloc(), &mut meter)?;
-    assert!(rt; is_told(rt.alloc(), &timeline)?);
-    assert!(rt; is_told(rt.alloc(), &timeline.copy()?)?);
+    let is_told = is_told_with_copy(rt.alloc(), &timeline);
+    drop(timeline);
+    assert!(rt; is_told?);
     Ok(())
+}
+
+fn is_clipped(
+    alloc: Global,
+    timeline: &Timeline,
+    window: Span,
+    wanted: &str,
+) -> Result<bool, Refusal> {
+    let clipped = timeline.clip(window)?;
+    let has = has(alloc, &clipped, wanted);
+    drop(clipped);
+    has
 }
 
 /// Whether windows of the timeline of the three are clipped.
 fn clips(alloc: Global, timeline: &Timeline) -> Result<bool, Refusal> {
-    let inside = timeline.clip(span(5, 6))?;
-    let around = timeline.clip(span(4, 16))?;
-    Ok(has(alloc, &inside, "[5 6 5 0]")? && has(alloc, &around, "[4 5 4 0][5 15 5 0][15 16 6 0]")?)
+    Ok(
+        is_clipped(alloc, timeline, span(5, 6), "[5 6 5 0]")?
+            && is_clipped(
+                alloc,
+                timeline,
+                span(4, 16),
+                "[4 5 4 0][5 15 5 0][15 16 6 0]",
+            )?,
+    )
+}
+
+/// Whether windows of a timeline and of its copy are clipped.
+fn clips_with_copy(alloc: Global, timeline: &Timeline) -> Result<bool, Refusal> {
+    let copy = timeline.copy()?;
+    let copy_clips = clips(alloc, &copy);
+    drop(copy);
+    Ok(copy_clips? && clips(alloc, timeline)?)
 }
 
 #[test]
 fn a_window_is_clipped(rt: HostRuntime) -> Result<(), Fail> {
     let mut meter = Meter::new();
     let timeline = three(rt.alloc(), &mut meter)?;
-    assert!(rt; clips(rt.alloc(), &timeline)?);
-    assert!(rt; clips(rt.alloc(), &timeline.copy()?)?);
+    let clips = clips_with_copy(rt.alloc(), &timeline);
+    drop(timeline);
+    assert!(rt; clips?);
     Ok(())
 }
 
@@ -139,7 +185,9 @@ fn is_spliced(
     wanted: &str,
 ) -> Result<bool, Refusal> {
     let spliced = outer.splice(window, inner)?;
-    has(alloc, &spliced, wanted)
+    let has = has(alloc, &spliced, wanted);
+    drop(spliced);
+    has
 }
 
 /// Whether another entry parts the timeline.
@@ -172,23 +220,43 @@ fn goes_on(alloc: Global, outer: &Timeline) -> Result<bool, Refusal> {
     is_spliced(alloc, outer, span(10, 12), &inner, "[0 12 4 0]")
 }
 
+fn is_spliced_each_way(alloc: Global, outer: &Timeline) -> Result<bool, Refusal> {
+    Ok(
+        is_parted(alloc, outer)?
+            && stays_whole(alloc, outer)?
+            && is_opened(alloc, outer)?
+            && goes_on(alloc, outer)?,
+    )
+}
+
 #[test]
 fn windows_are_spliced(rt: HostRuntime) -> Result<(), Fail> {
     let timeline = one(rt.alloc(), 0, 10, 4)?;
-    assert!(rt; is_parted(rt.alloc(), &timeline)?);
-    assert!(rt; stays_whole(rt.alloc(), &timeline)?);
-    assert!(rt; is_opened(rt.alloc(), &timeline)?);
-    assert!(rt; goes_on(rt.alloc(), &timeline)?);
+    let is_spliced = is_spliced_each_way(rt.alloc(), &timeline);
+    drop(timeline);
+    assert!(rt; is_spliced?);
     Ok(())
 }
 
 /// Whether two parts of the timeline, spliced in either order, are the whole again.
 fn is_whole_again(alloc: Global, timeline: &Timeline) -> Result<bool, Refusal> {
     let early = timeline.clip(span(0, 7))?;
+    let is_whole = is_whole_with_late(alloc, timeline, &early);
+    drop(early);
+    is_whole
+}
+
+/// Whether the early part and the rest are the whole again.
+fn is_whole_with_late(
+    alloc: Global,
+    timeline: &Timeline,
+    early: &Timeline,
+) -> Result<bool, Refusal> {
     let late = timeline.clip(span(7, 20))?;
-    let joined = early.splice(span(7, 20), &late)?;
-    let spliced_first = late.splice(span(-5, 7), &early)?;
-    Ok(has(alloc, &joined, SHOWN)? && has(alloc, &spliced_first, SHOWN)?)
+    let is_joined = is_spliced(alloc, early, span(7, 20), &late, SHOWN);
+    let is_joined_before = is_spliced(alloc, &late, span(-5, 7), early, SHOWN);
+    drop(late);
+    Ok(is_joined? && is_joined_before?)
 }
 
 /// Timelines that show the same at every instant are equal, by whatever way they came about.
@@ -197,6 +265,8 @@ fn timelines_that_show_the_same_are_equal(rt: HostRuntime) -> Result<(), Fail> {
     timeline_laws();
     let mut meter = Meter::new();
     let timeline = three(rt.alloc(), &mut meter)?;
-    assert!(rt; is_whole_again(rt.alloc(), &timeline)?);
+    let is_whole = is_whole_again(rt.alloc(), &timeline);
+    drop(timeline);
+    assert!(rt; is_whole?);
     Ok(())
 }

@@ -1,3 +1,9 @@
+mod Applied
+mod Governed
+mod InOrder
+mod Numbered
 mod Placing
 mod Scanning
-mod Verdict
+mod Segments
+mod States
+mod Walked

@@ -1,50 +1,61 @@
--- What a scan from the back of a list has found.
-use Rattle.std.proofs.Common.{◌≡◌, ℤ, Bool, true, false, List, [], ◌∷◌, ◌++◌, Option, Some, None, filter, refl, ap, ◌∙◌, cond}
+-- What a scan of a list has found when it has passed one more.
+use Rattle.std.proofs.Common.{◌≡◌, ℤ, Bool, true, false, List, [], ◌∷◌, ◌++◌, append-nil, Option, Some, None, filter, refl, sym, ap, ◌∙◌, cond, arith}
+use Rattle.std.specs.Prelude.{int_lt}
+use Rattle.std.proofs.lemmas.Int.{ints}
 use Rattle.std.proofs.lemmas.List.Elements.{filter-append}
 use Rattle.adr_time.specs.declared.span.End.{End}
 use Rattle.adr_time.specs.declared.span.End.TheVariants.{At, Endless}
 use Rattle.adr_model.specs.declared.entry.Entry.{Entry}
-use Rattle.adr_model.specs.Governor.{first_of}
-use Rattle.adr_plain.specs.Scan.{first_with}
+use Rattle.adr_model.specs.declared.entry.Rank.{Rank}
 use Rattle.adr_model.specs.Answer.{earliest, earlier_of}
+use Rattle.adr_model.specs.Governor.{first_of}
+use Rattle.adr_model.specs.Rank.{goes_before}
+use Rattle.adr_model.proofs.Order.{going_before_passes_on, not_going_before_passes_on}
+use Rattle.std.specs.Option.{option_map_or}
+use Rattle.adr_plain.specs.Scan.{first_with}
 
--- the first of a list and of what was found behind it
-abbrev pub first_onto : List Entry → Option Entry → Option Entry
-first_onto [] found = found
-first_onto (e ∷ es) found = Some (first_with e (first_onto es found))
+-- of three entries it is one which two are held against each other first
+choice : (e f x : Entry) (a b : Bool) → goes_before e.rank f.rank ≡ a → goes_before f.rank x.rank ≡ b
+    → cond (goes_before (cond a e f).rank x.rank) (cond a e f) x ≡ cond (goes_before e.rank (cond b f x).rank) e (cond b f x)
+choice e f x true true ha hb =
+    ap (λ (c : Bool). cond c e x) (going_before_passes_on e.rank f.rank x.rank ha hb) ∙ sym (ap (λ (c : Bool). cond c e f) ha)
+choice e f x true false ha hb = refl
+choice e f x false true ha hb = ap (λ (c : Bool). cond c f x) hb ∙ sym (ap (λ (c : Bool). cond c e f) ha)
+choice e f x false false ha hb =
+    ap (λ (c : Bool). cond c f x) hb ∙ sym (ap (λ (c : Bool). cond c e x) (not_going_before_passes_on e.rank f.rank x.rank ha hb))
 
-pub first_onto-none : (es : List Entry) → first_onto es None ≡ first_of es
-first_onto-none [] = refl
-first_onto-none (e ∷ es) = ap (λ o. Some (first_with e o)) (first_onto-none es)
+abbrev first_of_two : Entry → Option Entry → Option Entry
+first_of_two y o = Some (option_map_or (λ (f : Entry). cond (goes_before f.rank y.rank) f y) o y)
 
-first_onto-push : (es : List Entry) (e : Entry) (found : Option Entry) → first_onto (es ++ e ∷ []) found ≡ first_onto es (Some (first_with e found))
-first_onto-push [] e found = refl
-first_onto-push (x ∷ es) e found = ap (λ o. Some (first_with x o)) (first_onto-push es e found)
+held_first : (e x : Entry) (o : Option Entry) → first_of_two x (Some (first_with e o)) ≡ Some (first_with e (first_of_two x o))
+held_first e x None = refl
+held_first e x (Some f) = ap (λ (y : Entry). Some y) (choice e f x (goes_before e.rank f.rank) (goes_before f.rank x.rank) refl refl)
 
-kept : (b : Bool) (es : List Entry) (e : Entry) (found : Option Entry) → first_onto (es ++ cond b (e ∷ []) []) found ≡ first_onto es (cond b (Some (first_with e found)) found)
-kept true es e found = first_onto-push es e found
-kept false es e found = ap (λ xs. first_onto xs found) (Rattle.std.proofs.Common.append-nil es)
+-- the first of a list and one more is the first of that one and of the first
+pub first_of-last : (es : List Entry) (e : Entry) → first_of (es ++ e ∷ []) ≡ Some (first_with e (first_of es))
+first_of-last [] e = refl
+first_of-last (x ∷ es) e = ap (first_of_two x) (first_of-last es e) ∙ held_first e x (first_of es)
 
-pub first_onto-last : (test : Entry → Bool) (es : List Entry) (e : Entry) (found : Option Entry)
-    → first_onto (filter test (es ++ e ∷ [])) found ≡ first_onto (filter test es) (cond (test e) (Some (first_with e found)) found)
-first_onto-last test es e found = ap (λ xs. first_onto xs found) (filter-append test es (e ∷ [])) ∙ kept (test e) (filter test es) e found
+pub first_passed : (test : Entry → Bool) (es : List Entry) (e : Entry)
+    → first_of (filter test (es ++ e ∷ [])) ≡ cond (test e) (Some (first_with e (first_of (filter test es)))) (first_of (filter test es))
+first_passed test es e = ap first_of (filter-append test es (e ∷ [])) ∙ by (test e)
+  where
+    by : (b : Bool) → first_of (filter test es ++ cond b (e ∷ []) []) ≡ cond b (Some (first_with e (first_of (filter test es)))) (first_of (filter test es))
+    by true = first_of-last (filter test es) e
+    by false = ap first_of (append-nil (filter test es))
 
-abbrev pub earliest_onto : List ℤ → End → End
-earliest_onto [] found = found
-earliest_onto (t ∷ ts) found = earlier_of t (earliest_onto ts found)
+swap : (t u : ℤ) (e : End) → earlier_of u (earlier_of t e) ≡ earlier_of t (earlier_of u e)
+swap t u Endless = grind (arith, ints)
+swap t u (At v) = grind (arith, ints)
 
-pub earliest_onto-none : (ts : List ℤ) → earliest_onto ts Endless ≡ earliest ts
-earliest_onto-none [] = refl
-earliest_onto-none (t ∷ ts) = ap (earlier_of t) (earliest_onto-none ts)
+pub earliest-last : (ts : List ℤ) (t : ℤ) → earliest (ts ++ t ∷ []) ≡ earlier_of t (earliest ts)
+earliest-last [] t = refl
+earliest-last (u ∷ ts) t = ap (earlier_of u) (earliest-last ts t) ∙ swap t u (earliest ts)
 
-earliest_onto-push : (ts : List ℤ) (t : ℤ) (found : End) → earliest_onto (ts ++ t ∷ []) found ≡ earliest_onto ts (earlier_of t found)
-earliest_onto-push [] t found = refl
-earliest_onto-push (u ∷ ts) t found = ap (earlier_of u) (earliest_onto-push ts t found)
-
-earliest_kept : (b : Bool) (ts : List ℤ) (t : ℤ) (found : End) → earliest_onto (ts ++ cond b (t ∷ []) []) found ≡ earliest_onto ts (cond b (earlier_of t found) found)
-earliest_kept true ts t found = earliest_onto-push ts t found
-earliest_kept false ts t found = ap (λ xs. earliest_onto xs found) (Rattle.std.proofs.Common.append-nil ts)
-
-pub earliest_onto-last : (test : ℤ → Bool) (ts : List ℤ) (t : ℤ) (found : End)
-    → earliest_onto (filter test (ts ++ t ∷ [])) found ≡ earliest_onto (filter test ts) (cond (test t) (earlier_of t found) found)
-earliest_onto-last test ts t found = ap (λ xs. earliest_onto xs found) (filter-append test ts (t ∷ [])) ∙ earliest_kept (test t) (filter test ts) t found
+pub earliest_passed : (test : ℤ → Bool) (ts : List ℤ) (t : ℤ)
+    → earliest (filter test (ts ++ t ∷ [])) ≡ cond (test t) (earlier_of t (earliest (filter test ts))) (earliest (filter test ts))
+earliest_passed test ts t = ap earliest (filter-append test ts (t ∷ [])) ∙ by (test t)
+  where
+    by : (b : Bool) → earliest (filter test ts ++ cond b (t ∷ []) []) ≡ cond b (earlier_of t (earliest (filter test ts))) (earliest (filter test ts))
+    by true = earliest-last (filter test ts) t
+    by false = ap earliest (append-nil (filter test ts))

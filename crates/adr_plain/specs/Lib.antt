@@ -1,3 +1,3 @@
 pub mod Kept
+pub mod Order
 pub mod Scan
-pub mod Shown

@@ -1,35 +1,44 @@
-ghost use Rattle.std.specs.Prelude.{◌≡◌, ◌++◌, OnOk, IfErr, IfOk, map, filter};
-ghost use Rattle.std.specs.List.{zip, list_any};
-ghost use Rattle.std.specs.Prelude.{[]};
+//! The entries of a payload type for a resource, found by going through all events.
+ghost use Rattle.std.specs.Prelude.{◌≡◌, ◌++◌, [], false, OnOk, IfOk};
+ghost use Rattle.std.specs.Option.{option_map_or};
 ghost use Rattle.std.specs.Result.{result_unwrap_or};
+ghost use Rattle.adr_value.specs.Answer.{OnlyNoMemory};
+ghost use Rattle.adr_model.specs.Book.{scene_of};
+ghost use Rattle.adr_model.specs.Governor.{entry_at, entries_of, entries_for as entries_of_type, ranked_entries as entries_by_rank};
 ghost use Rattle.adr_model.specs.Layout.{layout, placed_from};
-ghost use Rattle.adr_plain.specs.Scan.{placed_entries};
-ghost use Rattle.adr_value.specs.Same.{same_type as the_same_type};
-ghost use Rattle.adr_model.specs.Governor.{entry_at, entries_of, applies_to, entries_for, ranked_entries};
-ghost use Rattle.adr_model.specs.Rank.{carries as the_carries, late_of, priority_of, ranked};
+ghost use Rattle.adr_model.specs.Matching.{applies as applies_in};
+ghost use Rattle.adr_model.specs.Rank.{carries as has_type, late_of as lateness, priority_of as priority_number, ranked as ranked_by};
+ghost use Rattle.adr_plain.specs.Scan.{entries_at, placed_entries, written_event};
+ghost use Rattle.adr_value.specs.Same.{same_type as is_same_type};
 
-use crate::counting::same_type;
-use crate::objects::Objects;
+use adr_book::Book;
 use adr_layout::{Placed, lay_out};
-use adr_model::{Entry, Rank, Tie, Written};
-use adr_object::{Event, Id, Interval, Resource};
+use adr_model::{Entry, Rank, Tie};
+use adr_object::{Event, Id, Interval, Kind, Resource};
 use adr_rule::{Scene, applies};
 use adr_time::Moment;
 use adr_value::{PayloadType, Refusal};
 use std::alloc::Global;
 
-fn carries(interval: &Interval, kind: &PayloadType) -> bool
-    ensures { result ≡ the_carries interval.now kind.now }
+/// Whether two payload types are one.
+pub(crate) fn same_type(a: &PayloadType, b: &PayloadType) -> bool
+    ensures { result ≡ is_same_type a.now b.now }
+{
+    a.name() == b.name()
+}
+
+fn carries(interval: &Interval, payload_type: &PayloadType) -> bool
+    ensures { result ≡ has_type interval.now payload_type.now }
 {
     interval
         .payloads
         .as_slice()
         .iter()
-        .any(|payload| same_type(&payload.kind, kind))
+        .any(|payload| same_type(&payload.kind, payload_type))
 }
 
 fn priority_of(priority: Option<u32>) -> u64
-    ensures { result ≡ priority_of priority }
+    ensures { result ≡ priority_number priority }
 {
     match priority {
         Some(priority) => u64::from(priority),
@@ -37,15 +46,15 @@ fn priority_of(priority: Option<u32>) -> u64
     }
 }
 
-/// The entry of an interval.
-fn entry(written: &Written, placed: &Placed) -> Entry
-    ensures { result ≡ entry_at written.now placed.now.place placed.now.span }
+/// The entry of an interval of the event that the edit of that number wrote.
+fn entry(event: &Event, written: u64, placed: &Placed) -> Entry
+    ensures { result ≡ entry_at (written_event event.now written) placed.now.place placed.now.span }
 {
     Entry {
         rank: Rank {
-            priority: priority_of(written.event.priority),
+            priority: priority_of(event.priority),
             late: 0,
-            written: written.written,
+            written,
             place: placed.place,
         },
         span: placed.span,
@@ -53,18 +62,18 @@ fn entry(written: &Written, placed: &Placed) -> Entry
 }
 
 /// Whether the event applies to the resource.
-pub(crate) fn applies_to(objects: &Objects, resource: &Resource, written: &Written) -> bool
-    ensures { result ≡ applies_to objects.now resource.now written.now }
+fn is_applied(book: &Book, resource: &Resource, event: &Event) -> bool
+    ensures { result ≡ option_map_or applies_in (scene_of book.now.objects event.now resource.now) false }
 {
-    let Some(program) = objects.program(&written.event.program_id) else {
+    let Some(program) = book.program(&event.program_id) else {
         return false;
     };
-    let Some(ven) = objects.ven(&resource.ven_id) else {
+    let Some(ven) = book.ven(&resource.ven_id) else {
         return false;
     };
     applies(&Scene {
         program,
-        event: &written.event,
+        event,
         ven,
         resource,
     })
@@ -74,7 +83,7 @@ pub(crate) fn applies_to(objects: &Objects, resource: &Resource, written: &Writt
 #[tactic(auto, using(crate::proofs::Placing::placed_spans), unfolding(adr_model::specs::Layout::layout))]
 fn places(alloc: Global, event: &Event) -> Result<Vec<Placed>, Refusal>
     ensures ok { IfOk result (λ places. places.items ≡ placed_from 0 (result_unwrap_or (layout event.now) [])) }
-    ensures memory { IfErr result (λ refusal. refusal ≡ Refusal.NoMemory) }
+    ensures memory { OnlyNoMemory result }
 {
     match lay_out(alloc, event) {
         Ok(places) => Ok(places),
@@ -91,33 +100,36 @@ fn places(alloc: Global, event: &Event) -> Result<Vec<Placed>, Refusal>
 fn add_entries(
     entries: &mut Vec<Entry>,
     alloc: Global,
-    written: &Written,
-    kind: &PayloadType,
+    event: &Event,
+    written: u64,
+    payload_type: &PayloadType,
 ) -> Result<(), Refusal>
-    ensures ok { OnOk result (entries.new.items ≡ entries.old.items ++ entries_of kind.now written.now) }
-    ensures memory { IfErr result (λ refusal. refusal ≡ Refusal.NoMemory) }
+    ensures ok { OnOk result (entries.new.items ≡ entries.old.items ++ entries_of payload_type.now (written_event event.now written)) }
+    ensures memory { OnlyNoMemory result }
 {
-    let places = places(alloc, &written.event)?;
-    add_placed(entries, written, places.as_slice(), kind)
+    let places = places(alloc, event)?;
+    add_placed(entries, event, written, places.as_slice(), payload_type)
 }
 
+// Two lists are walked in step.
 fn add_placed(
     entries: &mut Vec<Entry>,
-    written: &Written,
+    event: &Event,
+    written: u64,
     places: &[Placed],
-    kind: &PayloadType,
+    payload_type: &PayloadType,
 ) -> Result<(), Refusal>
-    ensures ok { OnOk result (entries.new.items ≡ entries.old.items ++ placed_entries kind.now written.now written.now.event.intervals places.now) }
-    ensures memory { IfErr result (λ refusal. refusal ≡ Refusal.NoMemory) }
+    ensures ok { OnOk result (entries.new.items ≡ entries.old.items ++ placed_entries payload_type.now (written_event event.now written) event.now.intervals places.now) }
+    ensures memory { OnlyNoMemory result }
 {
-    let mut intervals = written.event.intervals.as_slice();
+    let mut intervals = event.intervals.as_slice();
     let mut places = places;
     'rest: while let Some((place, others)) = places.split_first() {
         let Some((interval, more)) = intervals.split_first() else {
             return Ok(());
         };
-        if carries(interval, kind) {
-            entries.push(entry(written, place))?;
+        if carries(interval, payload_type) {
+            entries.push(entry(event, written, place))?;
         }
         intervals = more;
         places = others;
@@ -125,33 +137,53 @@ fn add_placed(
     Ok(())
 }
 
+/// Adds the entries of the event at the place, if it applies to the resource.
+fn add_event(
+    entries: &mut Vec<Entry>,
+    book: &Book,
+    resource: &Resource,
+    place: usize,
+    payload_type: &PayloadType,
+) -> Result<(), Refusal>
+    ensures ok { OnOk result (entries.new.items ≡ entries.old.items ++ entries_at book.now.objects resource.now payload_type.now place) }
+    ensures memory { OnlyNoMemory result }
+{
+    let Some(event) = book.event_at(place) else {
+        return Ok(());
+    };
+    let Some(written) = book.written_at(place) else {
+        return Ok(());
+    };
+    if !is_applied(book, resource, event) {
+        return Ok(());
+    }
+    add_entries(entries, *entries.allocator(), event, written, payload_type)
+}
+
 /// The entries of the type in the events that apply to the resource.
+#[tactic(auto, using(crate::proofs::Walked::one_more))]
 fn entries_for(
     alloc: Global,
-    objects: &Objects,
+    book: &Book,
     id: &Id,
-    kind: &PayloadType,
+    payload_type: &PayloadType,
 ) -> Result<Vec<Entry>, Refusal>
-    ensures ok { IfOk result (λ entries. entries.items ≡ entries_for objects.now id.now kind.now) }
-    ensures memory { IfErr result (λ refusal. refusal ≡ Refusal.NoMemory) }
+    ensures ok { IfOk result (λ entries. entries.items ≡ entries_of_type book.now.objects id.now payload_type.now) }
+    ensures memory { OnlyNoMemory result }
 {
     let mut entries = Vec::new(alloc);
-    let Some(resource) = objects.resource(id) else {
+    let Some(resource) = book.resource(id) else {
         return Ok(entries);
     };
-    let mut rest = objects.events();
-    'rest: while let Some((written, more)) = rest.split_first() {
-        if applies_to(objects, resource, written) {
-            add_entries(&mut entries, alloc, written, kind)?;
-        }
-        rest = more;
+    for place in 0..book.count(Kind::Event) {
+        add_event(&mut entries, book, resource, place, payload_type)?;
     }
     Ok(entries)
 }
 
 /// How late an interval counts that starts then.
 fn late_of(tie: Tie, start: Moment) -> i128
-    ensures { result ≡ late_of tie start }
+    ensures { result ≡ lateness tie start }
 {
     match tie {
         Tie::Newest => 0,
@@ -160,7 +192,7 @@ fn late_of(tie: Tie, start: Moment) -> i128
 }
 
 fn ranked(tie: Tie, entry: &Entry) -> Entry
-    ensures { result ≡ ranked tie entry.now }
+    ensures { result ≡ ranked_by tie entry.now }
 {
     Entry {
         rank: Rank {
@@ -171,18 +203,18 @@ fn ranked(tie: Tie, entry: &Entry) -> Entry
     }
 }
 
-/// The same entries as they compete under the rule for ties.
+/// The entries of the type for the resource, as they compete under the rule for ties.
 pub(crate) fn ranked_entries(
     alloc: Global,
-    objects: &Objects,
+    book: &Book,
     tie: Tie,
     id: &Id,
-    kind: &PayloadType,
+    payload_type: &PayloadType,
 ) -> Result<Vec<Entry>, Refusal>
-    ensures ok { IfOk result (λ entries. entries.items ≡ ranked_entries tie objects.now id.now kind.now) }
-    ensures memory { IfErr result (λ refusal. refusal ≡ Refusal.NoMemory) }
+    ensures ok { IfOk result (λ entries. entries.items ≡ entries_by_rank tie book.now.objects id.now payload_type.now) }
+    ensures memory { OnlyNoMemory result }
 {
-    let entries = entries_for(alloc, objects, id, kind)?;
+    let entries = entries_for(alloc, book, id, payload_type)?;
     Ok(
         entries
             .iter()

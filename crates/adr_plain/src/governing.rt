@@ -1,9 +1,11 @@
-ghost use Rattle.std.specs.Prelude.{◌≡◌, ◌++◌, IfOk, IfErr, option_map, filter, flat_map};
-ghost use Rattle.adr_time.specs.Spans.{covers as span_covers};
-ghost use Rattle.adr_model.specs.Governor.{first_of as the_first_of, winner_of, winner_at as the_winner_at};
-ghost use Rattle.adr_model.specs.Rank.{goes_before as the_goes_before};
-ghost use Rattle.adr_plain.specs.Scan.{first_with as the_first_with};
-ghost use Rattle.adr_model.specs.Answer.{same_winner as the_same_winner, bounds as the_bounds, is_change as the_is_change, changes, earliest, earlier_of as the_earlier_of};
+//! What wins among entries, and until when.
+ghost use Rattle.std.specs.Prelude.{◌≡◌, Some, cond, filter, IfOk};
+ghost use Rattle.adr_value.specs.Answer.{OnlyNoMemory};
+ghost use Rattle.adr_time.specs.Spans.{covers as is_covered};
+ghost use Rattle.adr_model.specs.Answer.{bounds as bounds_of, changes, earlier_of, earliest, is_change, same_winner as is_same_winner};
+ghost use Rattle.adr_model.specs.Governor.{first_of, winner_at as winner_of_all_at};
+ghost use Rattle.adr_model.specs.Rank.{goes_before as goes_first};
+ghost use Rattle.adr_plain.specs.Scan.{first_with};
 
 use adr_model::{Entry, Rank, Winner};
 use adr_time::{End, Moment, covers};
@@ -11,7 +13,7 @@ use adr_value::Refusal;
 use std::alloc::Global;
 
 fn goes_before(a: &Rank, b: &Rank) -> bool
-    ensures { result ≡ the_goes_before a.now b.now }
+    ensures { result ≡ goes_first a.now b.now }
 {
     a.priority < b.priority
         || (a.priority == b.priority
@@ -20,37 +22,44 @@ fn goes_before(a: &Rank, b: &Rank) -> bool
                     && (b.written < a.written || (a.written == b.written && a.place < b.place)))))
 }
 
-/// The entry, or the one that was found where it goes before.
-fn first_with(entry: Entry, found: Option<Entry>) -> Entry
-    ensures { result ≡ the_first_with entry found }
+/// The entry, or the one that was found unless the entry goes before it.
+fn better_of(entry: Entry, found: Option<Entry>) -> Entry
+    ensures { result ≡ first_with entry found }
 {
     let Some(found) = found else {
         return entry;
     };
-    if goes_before(&found.rank, &entry.rank) {
-        return found;
+    if goes_before(&entry.rank, &found.rank) {
+        return entry;
     }
-    entry
+    found
+}
+
+/// What is found when the entry is looked at too, if it covers the moment.
+fn found_with(entry: Entry, found: Option<Entry>, moment: Moment) -> Option<Entry>
+    ensures { result ≡ cond (is_covered entry.span moment) (Some (first_with entry found)) found }
+{
+    if covers(&entry.span, moment) {
+        Some(better_of(entry, found))
+    } else {
+        found
+    }
 }
 
 /// The entry that goes before all others that cover the moment.
 fn first_at(entries: &[Entry], moment: Moment) -> Option<Entry>
-    ensures { result ≡ the_first_of (filter (λ e. span_covers e.span moment) entries.now) }
+    ensures { result ≡ first_of (filter (λ e. is_covered e.span moment) entries.now) }
 {
     let mut found: Option<Entry> = None;
-    let mut rest = entries;
-    'rest: while let Some((last, more)) = rest.split_last() {
-        if covers(&last.span, moment) {
-            found = Some(first_with(*last, found));
-        }
-        rest = more;
+    for entry in entries {
+        found = found_with(*entry, found, moment);
     }
     found
 }
 
 /// The winner of those that cover the moment.
 pub(crate) fn winner_at(entries: &[Entry], moment: Moment) -> Option<Winner>
-    ensures { result ≡ the_winner_at entries.now moment }
+    ensures { result ≡ winner_of_all_at entries.now moment }
 {
     match first_at(entries, moment) {
         Some(entry) => Some(Winner {
@@ -61,8 +70,8 @@ pub(crate) fn winner_at(entries: &[Entry], moment: Moment) -> Option<Winner>
     }
 }
 
-fn same_winner(a: Option<Winner>, b: Option<Winner>) -> bool
-    ensures { result ≡ the_same_winner a b }
+pub(crate) fn same_winner(a: Option<Winner>, b: Option<Winner>) -> bool
+    ensures { result ≡ is_same_winner a b }
 {
     match (a, b) {
         (None, None) => true,
@@ -72,24 +81,23 @@ fn same_winner(a: Option<Winner>, b: Option<Winner>) -> bool
 }
 
 /// The moments at which an entry starts or ends.
-fn bounds(alloc: Global, entries: &[Entry]) -> Result<Vec<Moment>, Refusal>
-    ensures ok { IfOk result (λ moments. moments.items ≡ the_bounds entries.now) }
-    ensures memory { IfErr result (λ refusal. refusal ≡ Refusal.NoMemory) }
+pub(crate) fn bounds(alloc: Global, entries: &[Entry]) -> Result<Vec<Moment>, Refusal>
+    ensures ok { IfOk result (λ moments. moments.items ≡ bounds_of entries.now) }
+    ensures memory { OnlyNoMemory result }
 {
     let mut moments = Vec::new(alloc);
-    let mut rest = entries;
-    'rest: while let Some((entry, more)) = rest.split_first() {
+    for entry in entries {
         moments.push(entry.span.start)?;
         if let End::At(end) = entry.span.end {
             moments.push(end)?;
         }
-        rest = more;
     }
     Ok(moments)
 }
 
-fn earlier_of(moment: Moment, end: End) -> End
-    ensures { result ≡ the_earlier_of moment end }
+/// The moment, or the end if that is earlier.
+fn earlier(moment: Moment, end: End) -> End
+    ensures { result ≡ earlier_of moment end }
 {
     let End::At(other) = end else {
         return End::At(moment);
@@ -101,26 +109,34 @@ fn earlier_of(moment: Moment, end: End) -> End
 }
 
 /// Whether another entry than that winner wins at a later moment.
-fn is_change(entries: &[Entry], moment: Moment, now: Option<Winner>, later: Moment) -> bool
-    requires { now ≡ the_winner_at entries.now moment }
-    ensures { result ≡ the_is_change entries.now moment later }
+fn changes_at(entries: &[Entry], moment: Moment, now: Option<Winner>, later: Moment) -> bool
+    requires { now ≡ winner_of_all_at entries.now moment }
+    ensures { result ≡ is_change entries.now moment later }
 {
     moment.nanoseconds() < later.nanoseconds() && !same_winner(winner_at(entries, later), now)
 }
 
+/// The end when a bound is looked at too.
+fn end_with(entries: &[Entry], moment: Moment, now: Option<Winner>, bound: Moment, end: End) -> End
+    requires { now ≡ winner_of_all_at entries.now moment }
+    ensures { result ≡ cond (is_change entries.now moment bound) (earlier_of bound end) end }
+{
+    if changes_at(entries, moment, now, bound) {
+        earlier(bound, end)
+    } else {
+        end
+    }
+}
+
 /// The earliest of the later moments at which another entry wins.
 fn earliest_change(entries: &[Entry], bounds: &[Moment], moment: Moment) -> End
-    requires { bounds.now ≡ the_bounds entries.now }
+    requires { bounds.now ≡ bounds_of entries.now }
     ensures { result ≡ earliest (changes entries.now moment) }
 {
     let now = winner_at(entries, moment);
     let mut end = End::Endless;
-    let mut rest = bounds;
-    'rest: while let Some((last, more)) = rest.split_last() {
-        if is_change(entries, moment, now, *last) {
-            end = earlier_of(*last, end);
-        }
-        rest = more;
+    for bound in bounds {
+        end = end_with(entries, moment, now, *bound, end);
     }
     end
 }
@@ -128,7 +144,7 @@ fn earliest_change(entries: &[Entry], bounds: &[Moment], moment: Moment) -> End
 /// Until when the winner at a moment stays.
 pub(crate) fn until(alloc: Global, entries: &[Entry], moment: Moment) -> Result<End, Refusal>
     ensures ok { IfOk result (λ end. end ≡ earliest (changes entries.now moment)) }
-    ensures memory { IfErr result (λ refusal. refusal ≡ Refusal.NoMemory) }
+    ensures memory { OnlyNoMemory result }
 {
     let bounds = bounds(alloc, entries)?;
     Ok(earliest_change(entries, bounds.as_slice(), moment))

@@ -1,14 +1,14 @@
 #![tactic(auto)]
 //! The schedule answered by scanning: slow and plain, the reference that faster layers are compared with.
 
-mod counting;
 mod entries;
 mod governing;
-mod judging;
-mod objects;
+mod listing;
+mod order;
 mod plain;
-mod printing;
+mod roll;
 mod shown;
+mod state;
+mod types;
 
-pub use objects::Objects;
 pub use plain::{Plain, Published};

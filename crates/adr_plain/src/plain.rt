@@ -1,19 +1,20 @@
-ghost use Rattle.std.specs.Prelude.{◌≡◌, ◌+◌, ◌++◌, ◌⊎◌, ◌<◌, ◌≤◌, OnOk, OnErr, IfOk, IfErr, Ok, Err, nat_lt};
-ghost use Rattle.adr_value.specs.Answer.{Answers, result_map};
+//! The machine that keeps the book and answers from its last publication.
+ghost use Rattle.std.specs.Prelude.{◌≡◌, ◌+◌, ◌++◌, ◌⊎◌, ◌<◌, ◌≤◌, OnOk, OnErr, IfOk, IfErr, Ok, Err};
+ghost use Rattle.adr_value.specs.Answer.{Answers, OnlyNoMemory, result_map};
 ghost use Rattle.adr_value.specs.declared.refusal.Refusal.TheVariants.{NoMemory, Full};
-ghost use Rattle.adr_object.specs.declared.object.Edit.TheVariants.{Create};
 ghost use Rattle.adr_plain.specs.Kept.{kept_start};
 ghost use Rattle.adr_model.specs.Edits.{full_at, step_to};
-ghost use Rattle.adr_model.specs.Answer.{at, at_text, shown, until};
+ghost use Rattle.adr_model.specs.Answer.{at, at_text};
+ghost use Rattle.adr_model.specs.Queries.{list, roll, types};
 
-use crate::entries::ranked_entries;
-use crate::governing::{until, winner_at};
-use crate::judging::{full_at as version_when_full, judge_create};
-use crate::objects::Objects;
-use crate::printing::{put, put_state, put_version};
-use crate::shown::shown_of;
+use crate::listing::text_of_list;
+use crate::roll::text_of_roll;
+use crate::state::put_state_of;
+use crate::types::text_of_types;
+use adr_book::{Book, judge};
+use adr_calendar::{put, put_version};
 use adr_model::Tie;
-use adr_object::{Id, Object};
+use adr_object::{Edit, Id};
 use adr_time::Moment;
 use adr_value::limits::{MOST_PUBLICATIONS, MOST_VERSION};
 use adr_value::{PayloadType, Refusal};
@@ -27,27 +28,40 @@ pub struct Published {
     pub version: u64,
 }
 
-/// The objects that the accepted edits left, and a copy of those that were published last.
-#[derive(Drop)]
+/// The book, and a copy of it that was made when it was published last.
 pub struct Plain {
     tie: Tie,
-    base: u64,
-    current: Objects,
-    published: Objects,
+    book: Book,
+    published: Book,
     number: u64,
     alloc: Global,
 }
 
+impl Drop for Plain {
+    fn drop(self) {
+        let Plain {
+            tie: _,
+            book,
+            published,
+            number: _,
+            alloc: _,
+        } = self;
+        drop(book);
+        drop(published);
+    }
+}
+
 impl Model for Plain {
-    ghost use Rattle.std.specs.Prelude.{◌≤◌};
-    ghost use Rattle.adr_value.specs.declared.limits.TheConstants.{MOST_VERSION};
+    ghost use Rattle.std.specs.Prelude.{◌≡◌};
+    ghost use Rattle.adr_book.specs.Ledger.{sealed_of};
     ghost use Rattle.adr_plain.specs.Kept.{Kept};
 
     ghost Value = { Kept };
 
-    ghost view = { λ p. record { tie = p.tie; base = p.base; current = p.current; published = p.published; number = p.number } };
+    ghost view = { λ p. record { tie = p.tie; base = p.book.base.version; current = p.book.objects; published = p.published.objects; number = p.number } };
 
-    ghost invariant = { λ p. p.base ≤ MOST_VERSION };
+    // The closed batches lead to what was published.
+    ghost invariant = { λ p. p.published.objects ≡ sealed_of p.book };
 }
 
 impl Plain {
@@ -57,37 +71,32 @@ impl Plain {
     {
         Plain {
             tie,
-            base: 0,
-            current: Objects::new(alloc),
-            published: Objects::new(alloc),
+            book: Book::new(alloc),
+            published: Book::new(alloc),
             number: 0,
             alloc,
         }
     }
 
-    /// Creates an object, as the next accepted edit, and answers the version.
+    /// Makes an edit, and answers the version.
     ///
     /// The least fault is answered: `NoStart`, `AfterEndless` or `TimeRange` from the earliest interval that has one,
-    /// `Exists`, `NoProgram`, `NoVen`, `Full`. `NoMemory` may come in place of any answer. A refusal changes nothing.
-    pub fn create(&mut self, object: Object) -> Result<u64, Refusal>
-        ensures ok { IfOk result (λ version. (step_to (full_at self.old.base) self.old.current (Create object) ≡ Ok self.new.current) × (version ≡ self.new.current.version)) }
+    /// `Exists`, `NotThere`, `NoProgram`, `NoVen`, `InUse`, `Full`. `NoMemory` may come in place of any answer. A
+    /// refusal changes nothing. Cost: the edit's size, and for a delete the objects of the kind that come after.
+    pub fn edit(&mut self, edit: Edit) -> Result<u64, Refusal>
+        ensures ok { IfOk result (λ version. (step_to (full_at self.old.base) self.old.current edit ≡ Ok self.new.current) × (version ≡ self.new.current.version)) }
         ensures bound { IfOk result (λ version. version ≤ MOST_VERSION) }
         ensures kept { OnOk result (self.new ≡ record self.old { current = self.new.current }) }
-        ensures refused { IfErr result (λ refusal. (refusal ≡ NoMemory) ⊎ (step_to (full_at self.old.base) self.old.current (Create object) ≡ Err refusal)) }
+        ensures refused { IfErr result (λ refusal. (refusal ≡ NoMemory) ⊎ (step_to (full_at self.old.base) self.old.current edit ≡ Err refusal)) }
         ensures unchanged { OnErr result (self.new ≡ self.old) }
     {
-        judge_create(
-            self.alloc,
-            &self.current,
-            version_when_full(self.base),
-            &object,
-        )?;
-        self.current.create(object)?;
-        Ok(self.current.version())
+        judge(&self.book, &edit)?;
+        self.book.commit(edit)?;
+        Ok(self.book.version())
     }
 
     /// Publishes the objects as they are. `Full` after 1,000,000 publications, `NoMemory` where there is no room for
-    /// a copy; a refusal changes nothing. Cost: a copy of each object.
+    /// a copy; a refusal changes nothing. Cost: a copy of the book's tables and batches, which share their objects.
     pub fn publish(&mut self) -> Result<Published, Refusal>
         ensures ok { OnOk result ((self.old.number < MOST_PUBLICATIONS)
             × (self.new ≡ record self.old { published = self.old.current; number = self.old.number + 1 })) }
@@ -99,7 +108,9 @@ impl Plain {
         if MOST_PUBLICATIONS <= self.number {
             return Err(Refusal::Full);
         }
-        self.published = self.current.copy()?;
+        let copy = self.book.copy()?;
+        self.book.seal()?;
+        self.published = copy;
         self.number += 1;
         Ok(Published {
             number: self.number,
@@ -107,53 +118,100 @@ impl Plain {
         })
     }
 
-    /// Counts the accepted edits from the last publication on, and answers its version.
-    pub fn condense(&mut self) -> u64
-        ensures answer { result ≡ self.old.published.version }
-        ensures bound { result ≤ MOST_VERSION }
-        ensures base { self.new ≡ record self.old { base = self.old.published.version } }
+    /// Counts the accepted edits from the last publication on, and answers its version. `NoMemory` leaves all as it
+    /// was. Cost: a copy of the tables.
+    #[tactic(auto, unfolding(adr_model::specs::Edits::after_from))]
+    pub fn condense(&mut self) -> Result<u64, Refusal>
+        ensures answer { IfOk result (λ version. version ≡ self.old.published.version) }
+        ensures bound { IfOk result (λ version. version ≤ MOST_VERSION) }
+        ensures base { OnOk result (self.new ≡ record self.old { base = self.old.published.version }) }
+        ensures memory { OnlyNoMemory result }
+        ensures unchanged { OnErr result (self.new ≡ self.old) }
     {
-        self.base = self.published.version();
-        self.base
+        self.book.condense(&self.published)?;
+        Ok(self.published.version())
     }
 
     /// The reply to `at`: what governs the resource for the type at the moment, in the last publication, and until
     /// when. `UnknownResource` where the publication has no such resource; `NoMemory`. Cost: all events and intervals
-    /// are scanned, and once more for each end and start of an interval.
+    /// are scanned, and those that apply once more for each end and start of an interval.
     #[tactic(auto, unfolding(adr_model::specs::Answer::at))]
-    pub fn at(&self, id: &Id, kind: &PayloadType, moment: Moment) -> Result<Vec<u8>, Refusal>
-        ensures { Answers (result_map (λ v. v.items) result) (at self.now.tie self.now.published id.now kind.now moment) }
+    pub fn at(
+        &self,
+        id: &Id,
+        payload_type: &PayloadType,
+        moment: Moment,
+    ) -> Result<Vec<u8>, Refusal>
+        ensures { Answers (result_map (λ v. v.items) result) (at self.now.tie self.now.published id.now payload_type.now moment) }
     {
         if self.published.resource(id).is_none() {
             return Err(Refusal::UnknownResource);
         }
-        at_text(self.alloc, &self.published, self.tie, id, kind, moment)
+        let book = &self.published;
+        text_of_state(self.alloc, book, self.tie, id, payload_type, moment)
+    }
+
+    /// The reply to `list`: the segments of the window, each with what governs there. `BadWindow` where the window
+    /// doesn't begin before it ends, then `UnknownResource`; `NoMemory`. Cost: the entries of the type for the
+    /// resource, times their starts and ends.
+    #[tactic(auto, unfolding(adr_model::specs::Queries::list))]
+    pub fn list(
+        &self,
+        id: &Id,
+        payload_type: &PayloadType,
+        from: Moment,
+        to: Moment,
+    ) -> Result<Vec<u8>, Refusal>
+        ensures { Answers (result_map (λ v. v.items) result) (list self.now.tie self.now.published id.now payload_type.now from to) }
+    {
+        if to.nanoseconds() <= from.nanoseconds() {
+            return Err(Refusal::BadWindow);
+        }
+        if self.published.resource(id).is_none() {
+            return Err(Refusal::UnknownResource);
+        }
+        let book = &self.published;
+        text_of_list(self.alloc, book, self.tie, id, payload_type, from, to)
+    }
+
+    /// The reply to `roll`: the state of each resource, in order of creation. `NoMemory`. Cost: that of `at` for each
+    /// resource.
+    #[tactic(auto, unfolding(adr_model::specs::Queries::roll))]
+    pub fn roll(&self, payload_type: &PayloadType, moment: Moment) -> Result<Vec<u8>, Refusal>
+        ensures { Answers (result_map (λ v. v.items) result) (roll self.now.tie self.now.published payload_type.now moment) }
+    {
+        text_of_roll(self.alloc, &self.published, self.tie, payload_type, moment)
+    }
+
+    /// The reply to `types`: the payload types that govern the resource at some moment. `UnknownResource`; `NoMemory`.
+    /// Cost: all events for each of the 34 types and each private one.
+    #[tactic(auto, unfolding(adr_model::specs::Queries::types))]
+    pub fn types(&self, id: &Id) -> Result<Vec<u8>, Refusal>
+        ensures { Answers (result_map (λ v. v.items) result) (types self.now.tie self.now.published id.now) }
+    {
+        if self.published.resource(id).is_none() {
+            return Err(Refusal::UnknownResource);
+        }
+        text_of_types(self.alloc, &self.published, self.tie, id)
     }
 }
 
-/// The reply's bytes.
-#[tactic(auto, using(adr_model::proofs::Ranked::governs_wins), unfolding(adr_model::specs::Answer::until))]
-fn at_text(
+/// The bytes of the reply to `at`.
+fn text_of_state(
     alloc: Global,
-    objects: &Objects,
+    book: &Book,
     tie: Tie,
     id: &Id,
-    kind: &PayloadType,
+    payload_type: &PayloadType,
     moment: Moment,
 ) -> Result<Vec<u8>, Refusal>
-    ensures ok { IfOk result (λ v. v.items ≡ at_text tie objects.now id.now kind.now moment) }
-    ensures memory { IfErr result (λ refusal. refusal ≡ NoMemory) }
+    ensures ok { IfOk result (λ v. v.items ≡ at_text tie book.now.objects id.now payload_type.now moment) }
+    ensures memory { OnlyNoMemory result }
 {
-    let entries = ranked_entries(alloc, objects, tie, id, kind)?;
-    let shown = match winner_at(entries.as_slice(), moment) {
-        Some(winner) => shown_of(objects, kind, winner),
-        None => None,
-    };
-    let end = until(alloc, entries.as_slice(), moment)?;
     let mut out = Vec::new(alloc);
-    put_version(&mut out, objects.version())?;
+    put_version(&mut out, book.version())?;
     put(&mut out, b" ")?;
-    put_state(&mut out, shown, end)?;
+    put_state_of(&mut out, book, tie, id, payload_type, moment)?;
     put(&mut out, b"\n")?;
     Ok(out)
 }

@@ -1,58 +1,45 @@
-ghost use Rattle.std.specs.Prelude.{◌≡◌, option_map};
-ghost use Rattle.std.specs.Option.{option_copied};
-ghost use Rattle.adr_model.specs.Answer.{event_written, first_payload, shown_in, shown_of};
-ghost use Rattle.adr_plain.specs.Shown.{shown_view};
+//! What governs shows of a payload type.
+ghost use Rattle.std.specs.Prelude.{◌≡◌};
+ghost use Rattle.std.specs.Option.{option_copied, option_map};
+ghost use Rattle.adr_calendar.specs.Shown.{shown_view};
+ghost use Rattle.adr_model.specs.Answer.{first_payload as first_of_type, shown_in as shown_at, shown_of as shown_by};
+ghost use Rattle.adr_plain.specs.Scan.{written_event};
 
-use crate::counting::same_type;
-use crate::objects::Objects;
-use adr_model::{Winner, Written};
-use adr_object::{Id, Payload};
-use adr_value::{Datum, PayloadType};
+use crate::entries::same_type;
+use adr_book::Book;
+use adr_calendar::Shown;
+use adr_model::Winner;
+use adr_object::{Event, Payload};
+use adr_value::PayloadType;
 
-/// What governs shows: the event's id, the interval's id, and the values of its first payload of the type.
-#[derive(Clone, Copy)]
-pub(crate) struct Shown<'a> {
-    pub(crate) event: &'a Id,
-    pub(crate) interval: i64,
-    pub(crate) values: &'a [Datum],
-}
-
-fn event_written(objects: &Objects, written: u64) -> Option<&Written>
-    ensures { option_copied result ≡ event_written objects.now written }
-{
-    objects
-        .events()
-        .iter()
-        .find(|event| written == event.written)
-}
-
-fn first_payload<'a>(kind: &PayloadType, payloads: &'a [Payload]) -> Option<&'a Payload>
-    ensures { option_copied result ≡ first_payload kind.now payloads.now }
+fn first_payload<'a>(payload_type: &PayloadType, payloads: &'a [Payload]) -> Option<&'a Payload>
+    ensures { option_copied result ≡ first_of_type payload_type.now payloads.now }
 {
     payloads
         .iter()
-        .find(|payload| same_type(&payload.kind, kind))
+        .find(|payload| same_type(&payload.kind, payload_type))
 }
 
-fn shown_in<'a>(kind: &PayloadType, place: u32, written: &'a Written) -> Option<Shown<'a>>
-    ensures { option_map shown_view result ≡ shown_in kind.now place written.now }
+fn shown_in<'a>(payload_type: &PayloadType, place: u32, event: &'a Event) -> Option<Shown<'a>>
+    ensures { option_map shown_view result ≡ shown_at payload_type.now place (written_event event.now 0) }
 {
-    let interval = written.event.intervals.as_slice().get(place as usize)?;
-    let payload = first_payload(kind, interval.payloads.as_slice())?;
+    let interval = event.intervals.as_slice().get(place as usize)?;
+    let payload = first_payload(payload_type, interval.payloads.as_slice())?;
     Some(Shown {
-        event: &written.event.id,
+        event: &event.id,
         interval: interval.id,
         values: payload.values.as_slice(),
     })
 }
 
 /// What a winner shows of the type.
+#[tactic(auto, using(crate::proofs::Numbered::event_of_winner))]
 pub(crate) fn shown_of<'a>(
-    objects: &'a Objects,
-    kind: &PayloadType,
+    book: &'a Book,
+    payload_type: &PayloadType,
     winner: Winner,
 ) -> Option<Shown<'a>>
-    ensures { option_map shown_view result ≡ shown_of objects.now kind.now winner }
+    ensures { option_map shown_view result ≡ shown_by book.now.objects payload_type.now winner }
 {
-    shown_in(kind, winner.place, event_written(objects, winner.written)?)
+    shown_in(payload_type, winner.place, book.event_by(winner.written)?)
 }

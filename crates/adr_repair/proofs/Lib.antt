@@ -14,3 +14,6 @@ pub mod Marks
 pub mod Lookups
 pub mod Table
 pub mod Least
+pub mod Within
+pub mod Shown
+pub mod Types

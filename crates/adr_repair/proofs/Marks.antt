@@ -38,7 +38,7 @@ distinct_append {X = X} e (x ∷ xs) ys d f h =
     by y (inr n) = h x y (inl refl) n
 
 module _ (kind : PayloadType) where
-  abbrev entries_from : Written → ℕ → List (Interval × Span) → List Entry
+  abbrev pub entries_from : Written → ℕ → List (Interval × Span) → List Entry
   entries_from w n ps = filter_map (λ p. then_some (carries p.1.0 kind) (entry_at w p.0 p.1.1)) (enumerate_from n ps)
 
   -- places do not fall below where the count begins

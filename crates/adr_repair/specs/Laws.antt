@@ -13,21 +13,21 @@ use Rattle.adr_repair.specs.Windows.{is_touched, windows_of, any_covers}
 abbrev pub AtEachEdit : (Book → Book → List ℕ → PayloadType → ℤ → Type 0) → Type 0
 AtEachEdit P =
     (edits : List Edit) (edit : Edit) (new : Book) → step (after edits) edit ≡ Ok new
-    → (id : List ℕ) (kind : PayloadType) (t : ℤ) → P (after edits) new id kind t
+    → (id : List ℕ) (payload_type : PayloadType) (t : ℤ) → P (after edits) new id payload_type t
 
 -- where no window covers the instant, the candidates are the same
 abbrev pub CandidatesStay : Book → Book → List ℕ → PayloadType → ℤ → Type 0
-CandidatesStay old new id kind t = is_touched old new id kind t ≡ false → candidates old id kind t ≡ candidates new id kind t
+CandidatesStay old new id payload_type t = is_touched old new id payload_type t ≡ false → candidates old id payload_type t ≡ candidates new id payload_type t
 
 -- and the same one governs, under either rule for ties
 abbrev pub GovernorStays : Tie → Book → Book → List ℕ → PayloadType → ℤ → Type 0
-GovernorStays tie old new id kind t = is_touched old new id kind t ≡ false → governs tie old id kind t ≡ governs tie new id kind t
+GovernorStays tie old new id payload_type t = is_touched old new id payload_type t ≡ false → governs tie old id payload_type t ≡ governs tie new id payload_type t
 
 -- the windows cover the disturbed instants and no others
 abbrev pub WindowsAreDisturbed : Book → Book → List ℕ → PayloadType → ℤ → Type 0
-WindowsAreDisturbed old new id kind t = IsTrue (is_touched old new id kind t) ↔ Disturbed old new id kind t
+WindowsAreDisturbed old new id payload_type t = IsTrue (is_touched old new id payload_type t) ↔ Disturbed old new id payload_type t
 
 -- what governed before, repaired inside the windows alone, is what governs now
 abbrev pub RepairsAll : Tie → Book → Book → List ℕ → PayloadType → ℤ → Type 0
-RepairsAll tie old new id kind t =
-    (if any_covers (windows_of id kind (touches old new)) t then governs tie new id kind t else governs tie old id kind t) ≡ governs tie new id kind t
+RepairsAll tie old new id payload_type t =
+    (if any_covers (windows_of id payload_type (touches old new)) t then governs tie new id payload_type t else governs tie old id payload_type t) ≡ governs tie new id payload_type t

@@ -26,7 +26,7 @@ IntervalsAreApart =
 
 -- no two entries of a resource and a type are of one write and one place
 abbrev pub EntriesAreApart : Type 0
-EntriesAreApart = (edits : List Edit) (id : List ℕ) (kind : PayloadType) → IsDistinct same_mark (entries_for (after edits) id kind)
+EntriesAreApart = (edits : List Edit) (id : List ℕ) (payload_type : PayloadType) → IsDistinct same_mark (entries_for (after edits) id payload_type)
 
 -- the entry is in the list, and none goes before it
 abbrev pub IsLeast : List Entry → Entry → Type 0
@@ -34,11 +34,11 @@ IsLeast es e = In e es × ((f : Entry) → In f es → goes_before f.rank e.rank
 
 -- the winner of a least candidate under the rule for ties, or none where there is no candidate
 abbrev pub IsGovernor : Tie → Book → List ℕ → PayloadType → ℤ → Option Winner → Type 0
-IsGovernor tie book id kind t None = candidates book id kind t ≡ []
-IsGovernor tie book id kind t (Some w) = (e : Entry) × IsLeast (map (ranked tie) (candidates book id kind t)) e × (w ≡ winner_of e)
+IsGovernor tie book id payload_type t None = candidates book id payload_type t ≡ []
+IsGovernor tie book id payload_type t (Some w) = (e : Entry) × IsLeast (map (ranked tie) (candidates book id payload_type t)) e × (w ≡ winner_of e)
 
 abbrev pub GovernsTheLeast : Type 0
-GovernsTheLeast = (tie : Tie) (book : Book) (id : List ℕ) (kind : PayloadType) (t : ℤ) → IsGovernor tie book id kind t (governs tie book id kind t)
+GovernsTheLeast = (tie : Tie) (book : Book) (id : List ℕ) (payload_type : PayloadType) (t : ℤ) → IsGovernor tie book id payload_type t (governs tie book id payload_type t)
 
 -- a list of distinct marks has one least entry
 abbrev pub LeastIsOne : Type 0

@@ -1,15 +1,17 @@
 #![tactic(auto)]
-//! Why it is enough to repair timelines inside the windows of an edit: the laws of local repair, of the
-//! definitions alone. Each function's clause is a law, and its body does nothing.
+//! Why it is enough to repair timelines inside the windows of an edit, and what every book of edits keeps: laws
+//! of the definitions alone. Each function's clause is a law, and its body does nothing.
 //!
 //! An edit's windows are the spans of the events that it brings in, takes away or lets apply otherwise, each with
 //! a resource and a payload type.
 
 ghost use Rattle.adr_model.specs.declared.entry.Tie.{Tie};
+ghost use Rattle.adr_repair.specs.Answers.{GovernorsAreShown, TypesThatGovernAreListed};
 ghost use Rattle.adr_repair.specs.Laws.{AtEachEdit, CandidatesStay, GovernorStays, RepairsAll, WindowsAreDisturbed};
 ghost use Rattle.adr_repair.specs.Ranks.{EntriesAreApart, GovernsTheLeast, IntervalsAreApart, LeastIsOne};
 ghost use Rattle.adr_repair.specs.Table.{TouchesAreTheTable};
 ghost use Rattle.adr_repair.specs.Whole.{BooksAreWhole, StepsKeepWhole};
+ghost use Rattle.adr_repair.specs.Within.{BooksAreWithin, EditsKeepLimits};
 
 /// Outside the windows of an accepted edit everything stays: at an instant that no window covers, the same
 /// intervals compete as before, and the same one governs, under either rule for ties.
@@ -43,6 +45,14 @@ pub fn books_are_whole()
     ensures after { BooksAreWhole }
 {}
 
+/// No limit is ever passed: after any list of edits the programs, vens, resources, events and entries are at most
+/// as many as their limits, and the version is at most the greatest. The same holds of any limits, on a base that
+/// is within them.
+pub fn books_are_within_limits()
+    ensures any { EditsKeepLimits }
+    ensures after { BooksAreWithin }
+{}
+
 /// There are no ties: no two intervals of one book have one rank, and no two entries of one resource and payload
 /// type are of one write and one place.
 pub fn ranks_are_apart()
@@ -55,4 +65,15 @@ pub fn ranks_are_apart()
 pub fn governor_is_the_least()
     ensures least { GovernsTheLeast }
     ensures one { LeastIsOne }
+{}
+
+/// What governs can always be shown: in every book of accepted edits an answer shows an event, its interval and
+/// their values exactly at those instants at which something governs.
+pub fn governors_are_shown()
+    ensures { GovernorsAreShown }
+{}
+
+/// `types` lists each payload type of which something governs the resource at some instant, and no other.
+pub fn types_that_govern_are_listed()
+    ensures { TypesThatGovernAreListed }
 {}

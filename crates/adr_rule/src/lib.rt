@@ -9,6 +9,3 @@ pub use adr_model::{Rank, Tie};
 pub use matching::{applies, matches};
 pub use ranking::{Meter, before, rank_laws};
 pub use scene::Scene;
-
-#[cfg(test)]
-mod tests;

@@ -1,5 +1,5 @@
 -- The laws of `fan`'s text.
-use Rattle.std.proofs.Common.{◌≡◌, ℕ, zero, suc, ◌+◌, ◌-◌, ◌≤◌, Bool, true, false, List, [], ◌∷◌, ◌++◌, length, nat_lt, refl, sym, ap, subst, ◌∙◌, cond, arith, inl, inr, if◌then◌else◌}
+use Rattle.std.proofs.Common.{◌≡◌, ℕ, zero, suc, ◌+◌, ◌-◌, ◌≤◌, Bool, true, false, List, [], ◌∷◌, ◌++◌, length, nat_lt, refl, arith, inl, if◌then◌else◌}
 use Rattle.std.specs.Prelude.{Result, Ok, Err}
 use Rattle.std.specs.List.{AllByRecursion}
 use Rattle.std.specs.Io.BufRead.{strip_last}
@@ -9,15 +9,15 @@ use Rattle.adr_model.specs.Book.{Book}
 use Rattle.adr_value.specs.declared.limits.TheConstants.{MOST_PUBLICATIONS}
 use Rattle.adr_model.specs.Edits.{full_at, step_to}
 use Rattle.adr_model.specs.Machine.{Publication, State, Reply, refused, published as published_as, last_number, after_edit}
-use Rattle.adr_model.specs.Queries.{Query, at_query}
+use Rattle.adr_model.specs.Queries.{Query, at_query, list_query, roll_query, types_query}
 use Rattle.adr_value.specs.declared.refusal.Refusal.TheVariants.{Full}
 use Rattle.adr_object.specs.declared.object.Edit.{Edit as Change}
 use Rattle.adr_script.specs.Text.{state_but, after_line}
 use Rattle.adr_server.specs.declared.command.Command.{Command}
-use Rattle.adr_server.specs.declared.command.Command.TheVariants.{Edit, Publish, Condense, At}
+use Rattle.adr_server.specs.declared.command.Command.TheVariants.{Edit, Publish, Condense, At, List as Listed, Roll, Types}
 use Rattle.adr_server.specs.Line.{line_named}
 use Rattle.adr_server.specs.Text.{command_next, next_or}
-use Rattle.adr_server.specs.Fan.{Sent, Fan, fan_start, most_queries, with_query, editor_next, fan_next, answer_from, IsReaderPart, AreReaderParts, part_from_last, parts_from_last, parts_after, FanRunsTheScript, ReadersMayAnswerAtTheEnd}
+use Rattle.adr_server.specs.Fan.{Sent, Fan, fan_start, most_queries, editor_next, fan_next, answer_from, IsReaderPart, AreReaderParts, part_from_last, parts_from_last, parts_after, FanRunsTheScript, ReadersMayAnswerAtTheEnd}
 
 -- ---- the editor's machine
 
@@ -30,7 +30,10 @@ next_machine fan (Err f) = refl
 next_machine fan (Ok (Edit x)) = refl
 next_machine fan (Ok Publish) = refl
 next_machine fan (Ok Condense) = refl
-next_machine fan (Ok (At id kind moment)) = unsent fan (at_query id kind moment) (nat_lt (length fan.sent) most_queries)
+next_machine fan (Ok (At id payload_type moment)) = unsent fan (at_query id payload_type moment) (nat_lt (length fan.sent) most_queries)
+next_machine fan (Ok (Listed id payload_type from to)) = unsent fan (list_query id payload_type from to) (nat_lt (length fan.sent) most_queries)
+next_machine fan (Ok (Roll payload_type moment)) = unsent fan (roll_query payload_type moment) (nat_lt (length fan.sent) most_queries)
+next_machine fan (Ok (Types id)) = unsent fan (types_query id) (nat_lt (length fan.sent) most_queries)
 
 pub fan_runs_the_script : FanRunsTheScript
 fan_runs_the_script fan line = next_machine fan (line_named line)
@@ -71,7 +74,10 @@ timely_next fan (Err f) h = h
 timely_next fan (Ok (Edit x)) h = edited fan x (step_to (full_at fan.machine.base) fan.machine.current x) h
 timely_next fan (Ok Publish) h = published fan (nat_lt (last_number fan.machine) MOST_PUBLICATIONS) (published_as (length fan.machine.published) fan.machine.current.version) (refused Full) h
 timely_next fan (Ok Condense) h = h
-timely_next fan (Ok (At id kind moment)) h = sent_on fan (at_query id kind moment) (nat_lt (length fan.sent) most_queries) h
+timely_next fan (Ok (At id payload_type moment)) h = sent_on fan (at_query id payload_type moment) (nat_lt (length fan.sent) most_queries) h
+timely_next fan (Ok (Listed id payload_type from to)) h = sent_on fan (list_query id payload_type from to) (nat_lt (length fan.sent) most_queries) h
+timely_next fan (Ok (Roll payload_type moment)) h = sent_on fan (roll_query payload_type moment) (nat_lt (length fan.sent) most_queries) h
+timely_next fan (Ok (Types id)) h = sent_on fan (types_query id) (nat_lt (length fan.sent) most_queries) h
 
 timely_if : (b : Bool) (fan next : Fan) → IsTimely fan → IsTimely next → IsTimely (if b then fan else next)
 timely_if true fan next h k = h

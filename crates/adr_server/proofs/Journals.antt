@@ -1,5 +1,5 @@
 -- What the plain machine keeps is what the state has, line after line.
-use Rattle.std.proofs.Common.{◌≡◌, ℕ, ◌+◌, ◌-◌, Bool, true, false, List, [], ◌∷◌, ◌++◌, length, get_or, refl, sym, ap, ap₂, ◌∙◌, arith, nat_lt, subst}
+use Rattle.std.proofs.Common.{◌≡◌, ℕ, ◌+◌, ◌-◌, Bool, true, false, List, [], ◌∷◌, ◌++◌, length, refl, sym, ap, ap₂, ◌∙◌, arith, nat_lt, subst}
 use Rattle.std.specs.Prelude.{Option, Some, None, Result, Ok, Err}
 use Rattle.std.proofs.lemmas.List.{length_push, get_or_push}
 use Rattle.adr_value.specs.declared.limits.TheConstants.{MOST_PUBLICATIONS}
@@ -15,7 +15,7 @@ use Rattle.adr_script.specs.Script.{Told, IsToldInPart}
 use Rattle.adr_script.specs.Text.{AnswersBy, IsText, IsTextInPart}
 use Rattle.adr_script.proofs.TextLemmas.{told_is_text, alike_IsText}
 use Rattle.adr_server.specs.declared.command.Command.{Command}
-use Rattle.adr_server.specs.declared.command.Command.TheVariants.{Edit, Publish, Condense, At}
+use Rattle.adr_server.specs.declared.command.Command.TheVariants.{Edit, Publish, Condense, At, List as Listed, Roll, Types}
 use Rattle.adr_server.specs.Kept.{IsKept, asked_reply, edit_reply, edit_next, publish_reply, publish_next, kept_command_reply, kept_command_next, kept_reply, kept_next}
 use Rattle.adr_server.specs.Line.{line_named}
 use Rattle.adr_server.specs.Text.{published_line, condensed_line, reply_line, answer_line, command_reply, command_next, query_of, query_reply, reply_or, next_or, script_reply, script_next, script_start}
@@ -71,7 +71,10 @@ by_command k s (Ok Publish) h = published_next _ k s refl h
 by_command k s (Ok Condense) h =
     let version : k.published.version ≡ (last_book s).version = ap (λ (b : Book). b.version) h.published in
     (ap condensed_line version, record { tie = h.tie; base = version; current = h.current; published = h.published; number = h.number })
-by_command k s (Ok (At id kind moment)) h = (asked k s (query_of (At id kind moment)) h, h)
+by_command k s (Ok (At id payload_type moment)) h = (asked k s (query_of (At id payload_type moment)) h, h)
+by_command k s (Ok (Listed id payload_type from to)) h = (asked k s (query_of (Listed id payload_type from to)) h, h)
+by_command k s (Ok (Roll payload_type moment)) h = (asked k s (query_of (Roll payload_type moment)) h, h)
+by_command k s (Ok (Types id)) h = (asked k s (query_of (Types id)) h, h)
 
 -- a line is replied the same, and leaves what is kept in step with the state
 pub kept_line : (k : Kept) (s : State) (line : List ℕ) → IsKept k s → (kept_reply k line ≡ script_reply s line) × IsKept (kept_next k line) (script_next s line)

@@ -1,10 +1,10 @@
 -- Larger limits tell the same.
-use Rattle.std.proofs.Common.{◌≡◌, ℕ, ℤ, ◌<◌, ◌≤◌, min, Bool, true, false, ◌||◌, List, [], ◌∷◌, ◌++◌, length, refl, sym, ap, ap₂, ◌∙◌, arith, cond, nat_lt, nat_le, append-nil, append_assoc, lit≤, subst, inl, inr, ◌⊎◌}
-use Rattle.std.specs.Prelude.{◌≢◌, ⊤, Option, Some, None, Result, Ok, Err}
+use Rattle.std.proofs.Common.{◌≡◌, ℕ, ℤ, ◌≤◌, Bool, true, false, ◌||◌, List, [], ◌∷◌, ◌++◌, length, refl, sym, ap, ap₂, ◌∙◌, arith, cond, nat_lt, nat_le, lit≤, inl, inr, ◌⊎◌}
+use Rattle.std.specs.Prelude.{Option, Some, None, Result, Ok, Err}
 use Rattle.std.specs.Io.BufRead.{strip_last}
+use Rattle.std.specs.Option.{option_map_or}
 use Rattle.std.specs.Result.{result_err}
 use Rattle.std.proofs.lemmas.Bool.{false≢true}
-use Rattle.adr_value.specs.Answer.{result_and_then, result_map}
 use Rattle.adr_value.specs.Limits.{Limits, AreWithin}
 use Rattle.adr_value.specs.declared.refusal.Refusal.{Refusal}
 use Rattle.adr_value.specs.declared.refusal.Refusal.TheVariants.{Exists, Full, LongLine, NotThere, TooMany}
@@ -16,7 +16,7 @@ use Rattle.adr_object.specs.declared.object.Object.{Object}
 use Rattle.adr_object.specs.declared.object.Object.TheVariants.{Program as program, Event as event, Ven as ven, Resource as resource}
 use Rattle.adr_object.specs.Object.{kind_of, id_of}
 use Rattle.adr_model.specs.Book.{Book}
-use Rattle.adr_model.specs.Edits.{count_of, fault_if, faults_by, full_at, has_id, has_too_many_entries_by, is_full_for_by, layout_faults, made, most_objects_by, reference_faults, step_by}
+use Rattle.adr_model.specs.Edits.{count_of, fault_if, full_at, has_id, has_too_many_entries_by, is_full_for_by, layout_faults, made, most_objects_by, reference_faults, step_by}
 use Rattle.adr_model.specs.Machine.{State, after_edit}
 use Rattle.std.specs.Prelude.{not, codes}
 use Rattle.adr_read.specs.Body.{event_named_by}
@@ -28,10 +28,10 @@ use Rattle.adr_script.specs.Lines.{all_lines}
 use Rattle.adr_script.specs.Script.{long_line}
 use Rattle.adr_script.specs.Text.{after_line, line_reply, text}
 use Rattle.adr_server.specs.declared.command.Command.{Command}
-use Rattle.adr_server.specs.declared.command.Command.TheVariants.{Edit, Publish, Condense, At}
-use Rattle.adr_server.specs.Fields.{AtLine, CreateLine, at_line, create_line}
+use Rattle.adr_server.specs.declared.command.Command.TheVariants.{Edit, Publish, Condense, At, List as Listed, Roll, Types}
+use Rattle.adr_server.specs.Fields.{WriteLine, delete_line, write_line}
 use Rattle.adr_server.specs.Larger.{LargerLimitsTellTheSame, LimitsGrew, MeetsNoLimit, NoneMeetsALimit, line_refusal_by, named_refusal_by}
-use Rattle.adr_server.specs.Line.{create_command_by, creates_by, edit_or_other_by, id_word, line_named_by, moment_word, object_of_by}
+use Rattle.adr_server.specs.Line.{delete_command, id_word, line_named_by, moment_word, object_of_by, query_named, write_command_by, writes_by}
 use Rattle.adr_server.specs.Text.{command_next_by, command_reply_by, next_or, reply_line, reply_or, script_next_by, script_reply_by, script_start}
 
 -- ---- edits
@@ -92,26 +92,29 @@ module _ (a b : Limits) (within : AreWithin a b) where
   object_within ven_kind now id body n = refl
   object_within resource_kind now id body n = refl
 
-  create_within : (line : CreateLine) → Agrees TooMany (create_command_by a line) (create_command_by b line)
-  unfolding create_command_by
-  create_within line n =
+  write_within : (line : WriteLine) → Agrees TooMany (write_command_by a line) (write_command_by b line)
+  unfolding write_command_by
+  write_within line n =
       agrees_then TooMany _ _ (moment_word line.moment)
-      (λ now. agrees_then TooMany (creates_by a line now) (creates_by b line now) (id_word line.id)
+      (λ now. agrees_then TooMany (writes_by a line now) (writes_by b line now) (id_word line.id)
       (λ id. agrees_map TooMany _ (object_of_by a line.kind now id line.body) (object_of_by b line.kind now id line.body) (object_within line.kind now id line.body)))
       n
 
   line_within : (line : List ℕ) → Agrees TooMany (line_named_by a line) (line_named_by b line)
   unfolding line_named_by
-  line_within line = by (nat_lt 4194304 (length line)) (bytes_eq line (codes "publish")) (bytes_eq line (codes "condense")) (create_line line)
+  line_within line = by (nat_lt 4194304 (length line)) (bytes_eq line (codes "publish")) (bytes_eq line (codes "condense")) (write_line line)
     where
-      by : (long first second : Bool) (o : Option CreateLine) → Agrees {T = Command} TooMany
-          (cond long (Err LongLine) (cond first (Ok Publish) (cond second (Ok Condense) (edit_or_other_by a o (at_line line)))))
-          (cond long (Err LongLine) (cond first (Ok Publish) (cond second (Ok Condense) (edit_or_other_by b o (at_line line)))))
+      others : Result Command Refusal
+      others = option_map_or delete_command (delete_line line) (query_named line)
+
+      by : (long first second : Bool) (o : Option WriteLine) → Agrees {T = Command} TooMany
+          (cond long (Err LongLine) (cond first (Ok Publish) (cond second (Ok Condense) (option_map_or (write_command_by a) o others))))
+          (cond long (Err LongLine) (cond first (Ok Publish) (cond second (Ok Condense) (option_map_or (write_command_by b) o others))))
       by true first second o n = refl
       by false true second o n = refl
       by false false true o n = refl
       by false false false None n = refl
-      by false false false (Some l) n = create_within l n
+      by false false false (Some l) n = write_within l n
 
   -- ---- texts
 
@@ -126,7 +129,10 @@ module _ (a b : Limits) (within : AreWithin a b) where
       (ap (λ (r : Result Book Refusal). reply_line (after_edit s x r).0) same, ap (λ (r : Result Book Refusal). (after_edit s x r).1) same)
   command_same s Publish h = (refl, refl)
   command_same s Condense h = (refl, refl)
-  command_same s (At id kind moment) h = (refl, refl)
+  command_same s (At id payload_type moment) h = (refl, refl)
+  command_same s (Listed id payload_type from to) h = (refl, refl)
+  command_same s (Roll payload_type moment) h = (refl, refl)
+  command_same s (Types id) h = (refl, refl)
 
   named_same : (s : State) (x y : Result Command Refusal) → Agrees TooMany x y → MeetsNoLimit (named_refusal_by a s x)
       → (reply_or (command_reply_by a s) x ≡ reply_or (command_reply_by b s) y) × (next_or s (command_next_by a s) x ≡ next_or s (command_next_by b s) y)

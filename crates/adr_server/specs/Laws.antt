@@ -18,8 +18,8 @@ use Rattle.adr_server.specs.Text.{ok_line, refusal_line, command_reply, command_
 -- objects that the accepted edits left, and none where none matches.
 abbrev pub GovernsTheLeastMatching : Type 0
 GovernsTheLeastMatching =
-    (s : State) (id : List ℕ) (kind : PayloadType) (t : ℤ)
-    → IsGovernor s.tie (last_book s) id kind t (governs s.tie (last_book s) id kind t)
+    (s : State) (id : List ℕ) (payload_type : PayloadType) (t : ℤ)
+    → IsGovernor s.tie (last_book s) id payload_type t (governs s.tie (last_book s) id payload_type t)
 
 -- a line that is refused changes nothing, and neither does an edit
 abbrev pub RefusalsChangeNothing : Type 0

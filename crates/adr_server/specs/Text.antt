@@ -1,5 +1,5 @@
 -- What a script is answered: the machine of edits and publications, run over its lines.
-use Rattle.std.specs.Prelude.{ℕ, List, [], ◌∷◌, ◌++◌, codes, Option, Some, None, Result, Ok, Err}
+use Rattle.std.specs.Prelude.{ℕ, List, [], ◌++◌, codes, Option, Some, None, Result, Ok, Err}
 use Rattle.std.specs.Fmt.{decimal}
 use Rattle.adr_value.specs.Limits.{Limits, limits}
 use Rattle.adr_value.specs.Refusal.{number_of, name_of}
@@ -7,9 +7,9 @@ use Rattle.adr_value.specs.declared.refusal.Refusal.{Refusal}
 use Rattle.adr_model.specs.declared.entry.Tie.{Tie}
 use Rattle.adr_model.specs.Edits.{full_at, step_by}
 use Rattle.adr_model.specs.Machine.{State, Reply, refused, done, published, condensed, told, seen, start, after_edit, after_publish, after_condense, last_book}
-use Rattle.adr_model.specs.Queries.{Query, answer, at_query}
+use Rattle.adr_model.specs.Queries.{Query, answer, at_query, list_query, roll_query, types_query}
 use Rattle.adr_server.specs.declared.command.Command.{Command}
-use Rattle.adr_server.specs.declared.command.Command.TheVariants.{Edit, Publish, Condense, At}
+use Rattle.adr_server.specs.declared.command.Command.TheVariants.{Edit, Publish, Condense, At, List as Listed, Roll, Types}
 use Rattle.adr_server.specs.Line.{line_named_by}
 
 -- `refused 22 Exists`, with a line feed
@@ -46,7 +46,10 @@ abbrev pub query_of : Command → Option Query
 query_of (Edit x) = None
 query_of Publish = None
 query_of Condense = None
-query_of (At id kind moment) = Some (at_query id kind moment)
+query_of (At id payload_type moment) = Some (at_query id payload_type moment)
+query_of (Listed id payload_type from to) = Some (list_query id payload_type from to)
+query_of (Roll payload_type moment) = Some (roll_query payload_type moment)
+query_of (Types id) = Some (types_query id)
 
 -- a query is answered from the book that was published last
 abbrev pub query_reply : State → Option Query → List ℕ

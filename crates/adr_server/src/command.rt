@@ -1,3 +1,4 @@
+//! What lines ask for.
 use adr_object::{Edit, Id};
 use adr_time::Moment;
 use adr_value::PayloadType;
@@ -11,4 +12,10 @@ pub enum Command {
     Condense,
     /// What governs a resource for a payload type at a moment.
     At(Id, PayloadType, Moment),
+    /// What governs a resource for a payload type from a moment to before another.
+    List(Id, PayloadType, Moment, Moment),
+    /// What governs each resource for a payload type at a moment.
+    Roll(PayloadType, Moment),
+    /// The payload types that govern a resource at some time.
+    Types(Id),
 }

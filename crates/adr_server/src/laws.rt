@@ -1,3 +1,4 @@
+//! The laws of the script's text.
 ghost use Rattle.adr_server.specs.Fan.{FanRunsTheScript, ReadersMayAnswerAtTheEnd};
 ghost use Rattle.adr_server.specs.Larger.{LargerLimitsTellTheSame, LimitsGrew};
 ghost use Rattle.adr_server.specs.Laws.{GovernsTheLeastMatching, RefusalsChangeNothing, RefusedEditsChangeNothing, AcceptedEditsAreKept, QueriesChangeNothing};

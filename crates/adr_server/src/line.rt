@@ -1,10 +1,14 @@
-ghost use Rattle.std.specs.Prelude.{◌≡◌, IfOk};
+//! From a line to its command, or the least of its faults.
+ghost use Rattle.std.specs.Prelude.{◌≡◌};
 ghost use Rattle.adr_value.specs.Answer.{Answers};
-ghost use Rattle.adr_server.specs.Line.{moment_word, id_word, type_word, object_of, create_command, at_command, line_named, OnlyCreates};
-ghost use Rattle.adr_server.specs.Views.{create_view, at_view};
+ghost use Rattle.adr_server.specs.Line.{moment_word, id_word, type_word, object_of, write_command, delete_command, at_command, list_command, roll_command, types_command, query_named, line_named};
+ghost use Rattle.adr_server.specs.Views.{write_view, delete_view, at_view, list_view, roll_view};
 
 use crate::command::Command;
-use crate::fields::{AtLine, CreateLine, at_line, create_line};
+use crate::fields::{
+    AtLine, DeleteLine, ListLine, RollLine, Verb, WriteLine, at_line, delete_line, list_line,
+    roll_line, types_line, write_line,
+};
 use adr_object::{Edit, Id, Kind, Object};
 use adr_read::{read_event, read_program, read_resource, read_ven};
 use adr_time::{Moment, read_moment};
@@ -59,26 +63,82 @@ fn object_of(
     }
 }
 
-#[tactic(auto, unfolding(crate::specs::Line::create_command_by))]
-fn create_command(alloc: Global, line: &CreateLine<'_>) -> Result<Command, Refusal>
-    ensures answer { Answers result (create_command (create_view line.now)) }
-    ensures creates { IfOk result OnlyCreates }
+#[tactic(auto, unfolding(crate::specs::Line::write_command_by))]
+fn write_command(alloc: Global, line: &WriteLine<'_>) -> Result<Command, Refusal>
+    ensures { Answers result (write_command (write_view line.now)) }
 {
     let now = moment_word(line.moment)?;
     let id = id_word(alloc, line.id)?;
     let object = object_of(alloc, line.kind, now, &id, line.body)?;
-    Ok(Command::Edit(Edit::Create(object)))
+    match line.verb {
+        Verb::Create => Ok(Command::Edit(Edit::Create(object))),
+        Verb::Change => Ok(Command::Edit(Edit::Change(object))),
+    }
+}
+
+#[tactic(auto, unfolding(crate::specs::Line::delete_command))]
+fn delete_command(alloc: Global, line: &DeleteLine<'_>) -> Result<Command, Refusal>
+    ensures { Answers result (delete_command (delete_view line.now)) }
+{
+    moment_word(line.moment)?;
+    let id = id_word(alloc, line.id)?;
+    Ok(Command::Edit(Edit::Remove(line.kind, id)))
 }
 
 #[tactic(auto, unfolding(crate::specs::Line::at_command))]
 fn at_command(alloc: Global, line: &AtLine<'_>) -> Result<Command, Refusal>
-    ensures answer { Answers result (at_command (at_view line.now)) }
-    ensures creates { IfOk result OnlyCreates }
+    ensures { Answers result (at_command (at_view line.now)) }
 {
     let moment = moment_word(line.moment)?;
     let resource = id_word(alloc, line.resource)?;
-    let kind = type_word(alloc, line.kind)?;
-    Ok(Command::At(resource, kind, moment))
+    let payload_type = type_word(alloc, line.payload_type)?;
+    Ok(Command::At(resource, payload_type, moment))
+}
+
+#[tactic(auto, unfolding(crate::specs::Line::list_command))]
+fn list_command(alloc: Global, line: &ListLine<'_>) -> Result<Command, Refusal>
+    ensures { Answers result (list_command (list_view line.now)) }
+{
+    let from = moment_word(line.from)?;
+    let to = moment_word(line.to)?;
+    let resource = id_word(alloc, line.resource)?;
+    let payload_type = type_word(alloc, line.payload_type)?;
+    Ok(Command::List(resource, payload_type, from, to))
+}
+
+#[tactic(auto, unfolding(crate::specs::Line::roll_command))]
+fn roll_command(alloc: Global, line: &RollLine<'_>) -> Result<Command, Refusal>
+    ensures { Answers result (roll_command (roll_view line.now)) }
+{
+    let moment = moment_word(line.moment)?;
+    let payload_type = type_word(alloc, line.payload_type)?;
+    Ok(Command::Roll(payload_type, moment))
+}
+
+fn types_command(alloc: Global, resource: &[u8]) -> Result<Command, Refusal>
+    ensures { Answers result (types_command resource.now) }
+{
+    Ok(Command::Types(id_word(alloc, resource)?))
+}
+
+/// The query that a line is.
+#[tactic(auto, unfolding(crate::specs::Line::query_named))]
+fn query_named(alloc: Global, line: &[u8]) -> Result<Command, Refusal>
+    ensures { Answers result (query_named line.now) }
+{
+    if let Some(at) = at_line(line) {
+        return at_command(alloc, &at);
+    }
+    if let Some(list) = list_line(line) {
+        return list_command(alloc, &list);
+    }
+    if let Some(roll) = roll_line(line) {
+        return roll_command(alloc, &roll);
+    }
+    match types_line(line) {
+        Some(resource) => types_command(alloc, resource),
+        None => Err(Refusal::BadLine),
+    }
 }
 
 /// The command that a line is. The line has no line feed, and no carriage return at its end.
@@ -88,8 +148,7 @@ fn at_command(alloc: Global, line: &AtLine<'_>) -> Result<Command, Refusal>
 /// the body (`BadNumber` to `TooMany`). `NoMemory` may come in place of any. Cost: one pass over the line and its body.
 #[tactic(auto, unfolding(crate::specs::Line::line_named_by))]
 pub fn parse_line(alloc: Global, line: &[u8]) -> Result<Command, Refusal>
-    ensures answer { Answers result (line_named line.now) }
-    ensures creates { IfOk result OnlyCreates }
+    ensures { Answers result (line_named line.now) }
 {
     if line.len() > MAX_LINE {
         return Err(Refusal::LongLine);
@@ -100,11 +159,11 @@ pub fn parse_line(alloc: Global, line: &[u8]) -> Result<Command, Refusal>
     if line == b"condense".as_slice() {
         return Ok(Command::Condense);
     }
-    if let Some(create) = create_line(line) {
-        return create_command(alloc, &create);
+    if let Some(write) = write_line(line) {
+        return write_command(alloc, &write);
     }
-    match at_line(line) {
-        Some(at) => at_command(alloc, &at),
-        None => Err(Refusal::BadLine),
+    match delete_line(line) {
+        Some(delete) => delete_command(alloc, &delete),
+        None => query_named(alloc, line),
     }
 }

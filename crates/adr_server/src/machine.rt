@@ -1,16 +1,16 @@
-ghost use Rattle.std.specs.Prelude.{◌≡◌, ◌≤◌, ◌++◌, ◌⊎◌, [], OnOk, OnErr, IsErrOf, vec_capacity, vec_len};
+//! The plain machine, as what answers a script's lines.
+ghost use Rattle.std.specs.Prelude.{◌≡◌, ◌≢◌, ◌≤◌, [], OnOk, OnErr, vec_capacity};
+ghost use Rattle.adr_value.specs.Answer.{result_map};
 ghost use Rattle.adr_plain.specs.Kept.{kept_start};
-ghost use Rattle.adr_object.specs.declared.object.Edit.TheVariants.{Create};
-ghost use Rattle.adr_server.specs.declared.command.Command.TheVariants.{Edit as EditCommand, At as AtCommand, Publish as PublishCommand, Condense as CondenseCommand};
-ghost use Rattle.adr_server.specs.Kept.{kept_reply, kept_next, kept_command_reply, kept_command_next};
-ghost use Rattle.adr_server.specs.Line.{OnlyCreates};
-ghost use Rattle.adr_server.specs.Text.{refusal_line};
+ghost use Rattle.adr_server.specs.declared.command.Command.TheVariants.{Edit as EditCommand, Publish as PublishCommand, Condense as CondenseCommand, At as AtCommand, List as ListCommand, Roll as RollCommand, Types as TypesCommand};
+ghost use Rattle.adr_server.specs.Kept.{kept_command_reply, kept_command_next};
+ghost use Rattle.adr_server.specs.Text.{answer_line};
 
 use crate::command::Command;
 use crate::line::parse_line;
 use crate::replies::{put_answer, put_condensed, put_ok, put_published, put_refusal};
 use adr_model::Tie;
-use adr_object::{Edit, Id, Object};
+use adr_object::{Edit, Id};
 use adr_plain::Plain;
 use adr_script::{Machine, Unanswered};
 use adr_time::Moment;
@@ -46,7 +46,6 @@ impl PlainScript {
 
     /// Makes an edit.
     fn edit(&mut self, edit: Edit, reply: &mut Vec<u8>) -> Result<(), Unanswered>
-        requires creates { OnlyCreates (EditCommand edit) }
         requires empty { reply.old.items ≡ [] }
         requires room { 64 ≤ vec_capacity reply.old }
         ensures reply { OnOk result (reply.new.items ≡ kept_command_reply self.old (EditCommand edit)) }
@@ -54,22 +53,7 @@ impl PlainScript {
         ensures err { OnErr result ((self.new ≡ self.old) × (result ≡ Err Unanswered.NoMemory)) }
         ensures room { 64 ≤ vec_capacity reply.new }
     {
-        match edit {
-            Edit::Create(object) => self.create(object, reply),
-            Edit::Change(_) | Edit::Remove(_, _) => unreachable!(),
-        }
-    }
-
-    /// Creates an object.
-    fn create(&mut self, object: Object, reply: &mut Vec<u8>) -> Result<(), Unanswered>
-        requires empty { reply.old.items ≡ [] }
-        requires room { 64 ≤ vec_capacity reply.old }
-        ensures reply { OnOk result (reply.new.items ≡ kept_command_reply self.old (EditCommand (Create object))) }
-        ensures next { OnOk result (self.new ≡ kept_command_next self.old (EditCommand (Create object))) }
-        ensures err { OnErr result ((self.new ≡ self.old) × (result ≡ Err Unanswered.NoMemory)) }
-        ensures room { 64 ≤ vec_capacity reply.new }
-    {
-        match self.plain.create(object) {
+        match self.plain.edit(edit) {
             Ok(version) => put_ok(reply, version),
             Err(refusal) => {
                 if refusal == Refusal::NoMemory {
@@ -103,41 +87,108 @@ impl PlainScript {
     }
 
     /// Makes the last publication the base.
-    fn condense(&mut self, reply: &mut Vec<u8>)
+    fn condense(&mut self, reply: &mut Vec<u8>) -> Result<(), Unanswered>
         requires empty { reply.old.items ≡ [] }
         requires room { 64 ≤ vec_capacity reply.old }
-        ensures reply { reply.new.items ≡ kept_command_reply self.old CondenseCommand }
-        ensures next { self.new ≡ kept_command_next self.old CondenseCommand }
+        ensures reply { OnOk result (reply.new.items ≡ kept_command_reply self.old CondenseCommand) }
+        ensures next { OnOk result (self.new ≡ kept_command_next self.old CondenseCommand) }
+        ensures err { OnErr result ((self.new ≡ self.old) × (result ≡ Err Unanswered.NoMemory)) }
         ensures room { 64 ≤ vec_capacity reply.new }
     {
-        put_condensed(reply, self.plain.condense());
+        match self.plain.condense() {
+            Ok(version) => {
+                put_condensed(reply, version);
+                Ok(())
+            }
+            Err(_) => Err(Unanswered::NoMemory),
+        }
     }
 
     /// Answers what governs.
     fn at(
         &self,
         id: &Id,
-        kind: &PayloadType,
+        payload_type: &PayloadType,
         moment: Moment,
         reply: &mut Vec<u8>,
     ) -> Result<(), Unanswered>
         requires empty { reply.old.items ≡ [] }
         requires room { 64 ≤ vec_capacity reply.old }
-        ensures reply { OnOk result (reply.new.items ≡ kept_command_reply self.now (AtCommand id.now kind.now moment)) }
+        ensures reply { OnOk result (reply.new.items ≡ kept_command_reply self.now (AtCommand id.now payload_type.now moment)) }
         ensures err { OnErr result (result ≡ Err Unanswered.NoMemory) }
         ensures room { 64 ≤ vec_capacity reply.new }
     {
-        match self.plain.at(id, kind, moment) {
-            Ok(answer) => put_answer(reply, &answer)?,
-            Err(refusal) => {
-                if refusal == Refusal::NoMemory {
-                    return Err(Unanswered::NoMemory);
-                }
-                put_refusal(reply, refusal);
-            }
-        }
-        Ok(())
+        put_answer_or_refusal(reply, self.plain.at(id, payload_type, moment))
     }
+
+    /// Answers what governs from a moment to before another.
+    fn list(
+        &self,
+        id: &Id,
+        payload_type: &PayloadType,
+        from: Moment,
+        to: Moment,
+        reply: &mut Vec<u8>,
+    ) -> Result<(), Unanswered>
+        requires empty { reply.old.items ≡ [] }
+        requires room { 64 ≤ vec_capacity reply.old }
+        ensures reply { OnOk result (reply.new.items ≡ kept_command_reply self.now (ListCommand id.now payload_type.now from to)) }
+        ensures err { OnErr result (result ≡ Err Unanswered.NoMemory) }
+        ensures room { 64 ≤ vec_capacity reply.new }
+    {
+        put_answer_or_refusal(reply, self.plain.list(id, payload_type, from, to))
+    }
+
+    /// Answers what governs each resource.
+    fn roll(
+        &self,
+        payload_type: &PayloadType,
+        moment: Moment,
+        reply: &mut Vec<u8>,
+    ) -> Result<(), Unanswered>
+        requires empty { reply.old.items ≡ [] }
+        requires room { 64 ≤ vec_capacity reply.old }
+        ensures reply { OnOk result (reply.new.items ≡ kept_command_reply self.now (RollCommand payload_type.now moment)) }
+        ensures err { OnErr result (result ≡ Err Unanswered.NoMemory) }
+        ensures room { 64 ≤ vec_capacity reply.new }
+    {
+        put_answer_or_refusal(reply, self.plain.roll(payload_type, moment))
+    }
+
+    /// Answers which payload types govern a resource.
+    fn types(&self, id: &Id, reply: &mut Vec<u8>) -> Result<(), Unanswered>
+        requires empty { reply.old.items ≡ [] }
+        requires room { 64 ≤ vec_capacity reply.old }
+        ensures reply { OnOk result (reply.new.items ≡ kept_command_reply self.now (TypesCommand id.now)) }
+        ensures err { OnErr result (result ≡ Err Unanswered.NoMemory) }
+        ensures room { 64 ≤ vec_capacity reply.new }
+    {
+        put_answer_or_refusal(reply, self.plain.types(id))
+    }
+}
+
+/// Puts the answer to a query, or its refusal; want of memory is no reply.
+fn put_answer_or_refusal(
+    reply: &mut Vec<u8>,
+    answer: Result<Vec<u8>, Refusal>,
+) -> Result<(), Unanswered>
+    requires empty { reply.old.items ≡ [] }
+    requires room { 64 ≤ vec_capacity reply.old }
+    ensures reply { OnOk result (reply.new.items ≡ answer_line (result_map (λ v. v.items) answer)) }
+    ensures answer { OnOk result (result_map (λ v. v.items) answer ≢ Err Refusal.NoMemory) }
+    ensures err { OnErr result (result ≡ Err Unanswered.NoMemory) }
+    ensures room { 64 ≤ vec_capacity reply.new }
+{
+    match answer {
+        Ok(answer) => put_answer(reply, &answer)?,
+        Err(refusal) => {
+            if refusal == Refusal::NoMemory {
+                return Err(Unanswered::NoMemory);
+            }
+            put_refusal(reply, refusal);
+        }
+    }
+    Ok(())
 }
 
 impl Machine for PlainScript {
@@ -158,11 +209,17 @@ impl Machine for PlainScript {
         match parse_line(rt.alloc(), line) {
             Ok(Command::Edit(edit)) => self.edit(edit, reply),
             Ok(Command::Publish) => self.publish(reply),
-            Ok(Command::Condense) => {
-                self.condense(reply);
-                Ok(())
-            }
-            Ok(Command::At(id, kind, moment)) => self.at(&id, &kind, moment, reply),
+            Ok(Command::Condense) => self.condense(reply),
+            Ok(Command::At(id, payload_type, moment)) => self.at(&id, &payload_type, moment, reply),
+            Ok(Command::List(id, payload_type, from, to)) => self.list(
+                &id,
+                &payload_type,
+                from,
+                to,
+                reply,
+            ),
+            Ok(Command::Roll(payload_type, moment)) => self.roll(&payload_type, moment, reply),
+            Ok(Command::Types(id)) => self.types(&id, reply),
             Err(refusal) => {
                 if refusal == Refusal::NoMemory {
                     return Err(Unanswered::NoMemory);

@@ -1,3 +1,4 @@
+//! The replies, made in room that is there.
 ghost use Rattle.std.specs.Prelude.{◌≡◌, ◌++◌, ◌+◌, ◌^◌, ◌≤◌, ◌<◌, codes, length, vec_len, vec_capacity, OnOk, OnErr};
 ghost use Rattle.std.specs.Fmt.{decimal};
 ghost use Rattle.adr_value.specs.Refusal.{number_of, name_of};

@@ -24,7 +24,7 @@ pub fn start_program<R: AllocGlobal + Env + Input + Print + Eprint + Threads + W
 ) -> ExitCode {
     match words(rt) {
         Ok(words) => match job(rt.alloc(), words) {
-            Ok(Job::Run(workers)) => run_script(rt, workers),
+            Ok(Job::Run(workers, tie)) => run_script(rt, workers, tie),
             Err(error) => explain(rt, &error),
         },
         Err(error) if error.kind() == io::ErrorKind::InvalidData => {
@@ -46,12 +46,13 @@ fn words<R: AllocGlobal + Env>(rt: &R) -> io::Result<Vec<String>> {
 fn run_script<R: AllocGlobal + Input + Print + Eprint + Threads + Wait>(
     rt: &R,
     workers: usize,
+    tie: Tie,
 ) -> ExitCode
     requires { (1 ≤ workers) × (workers ≤ 64) }
 {
     let mut reader = rt.reader();
     let mut writer = io::writer(rt);
-    let outcome = run(rt, &mut reader, &mut writer, workers, Tie::Newest);
+    let outcome = run(rt, &mut reader, &mut writer, workers, tie);
     if let Err(fault) = &outcome {
         tell(rt, fault);
     }

@@ -1,8 +1,9 @@
 //! The events in order of creation, and what is counted of them.
-ghost use Rattle.std.specs.Prelude.{◌≡◌, ◌+◌, ◌++◌, ◌∷◌, [], ◌<◌, ◌≤◌, eqb, not, filter, map, length, slice_get, sum_by, IsSome, None, OnOk, OnErr, IfErr};
+ghost use Rattle.std.specs.Prelude.{◌≡◌, ◌+◌, ◌++◌, ◌∷◌, [], ◌<◌, ◌≤◌, eqb, not, filter, map, length, slice_get, sum_by, IsSome, None, OnOk, OnErr};
 ghost use Rattle.std.specs.List.{IsDistinct, list_any};
 ghost use Rattle.std.specs.Option.{option_copied, option_map};
 ghost use Rattle.std.specs.Str.{bytes_eq};
+ghost use Rattle.adr_value.specs.Answer.{OnlyNoMemory};
 ghost use Rattle.adr_value.specs.Copy.{IsCopyOf};
 ghost use Rattle.adr_model.specs.Edits.{put_at, entry_count};
 ghost use Rattle.adr_store.specs.Numbers.{all_entries, by_number as numbered};
@@ -24,7 +25,6 @@ pub(crate) struct Events {
     alloc: Global,
 }
 
-// A function of its own, so that callers that let a value go need not look into it.
 impl Drop for Events {
     fn drop(self) {
         let Events {
@@ -94,6 +94,16 @@ impl Events {
         }
     }
 
+    /// The number of the edit that last wrote the event at the place.
+    pub(crate) fn written_at(&self, place: usize) -> Option<u64>
+        ensures { result ≡ option_map (λ w. w.written) (slice_get self.now place) }
+    {
+        match self.table.at(place) {
+            Some(kept) => Some(kept.written()),
+            None => None,
+        }
+    }
+
     /// The event that the edit of that number wrote last.
     pub(crate) fn by_number(&self, number: u64) -> Option<&Event>
         ensures { option_copied result ≡ option_map (λ w. w.event) (numbered self.now number) }
@@ -127,7 +137,7 @@ impl Events {
         requires entries { all_entries self.old + entry_count event ≤ MOST_ENTRIES }
         ensures ok { OnOk result (self.new ≡ self.old ++ record { event = event; written = written } ∷ []) }
         ensures err { OnErr result (self.new ≡ self.old) }
-        ensures refusal { IfErr result (λ refusal. refusal ≡ Refusal.NoMemory) }
+        ensures refusal { OnlyNoMemory result }
     {
         let kept = Kept::new(self.alloc, event, written)?;
         self.push_kept(kept)
@@ -140,7 +150,7 @@ impl Events {
         requires entries { all_entries self.old + entry_count kept.event ≤ MOST_ENTRIES }
         ensures ok { OnOk result (self.new ≡ self.old ++ kept ∷ []) }
         ensures err { OnErr result (self.new ≡ self.old) }
-        ensures refusal { IfErr result (λ refusal. refusal ≡ Refusal.NoMemory) }
+        ensures refusal { OnlyNoMemory result }
     {
         let note = kept.note(self.alloc)?;
         self.numbers.reserve()?;
@@ -172,7 +182,7 @@ impl Events {
         requires entries { sum_by (λ w. entry_count w.event) (filter (λ w. not (bytes_eq event.id w.event.id)) self.old) + entry_count event ≤ MOST_ENTRIES }
         ensures ok { OnOk result (self.new ≡ put_at (λ w. bytes_eq event.id w.event.id) (record { event = event; written = written }) self.old) }
         ensures err { OnErr result (self.new ≡ self.old) }
-        ensures refusal { IfErr result (λ refusal. refusal ≡ Refusal.NoMemory) }
+        ensures refusal { OnlyNoMemory result }
     {
         let kept = Kept::new(self.alloc, event, written)?;
         let note = kept.note(self.alloc)?;

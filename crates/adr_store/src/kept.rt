@@ -1,7 +1,7 @@
 //! An event as the book keeps it.
 ghost use Rattle.std.specs.Prelude.{◌≡◌};
 ghost use Rattle.adr_value.specs.Copy.{IsCopyOf};
-ghost use Rattle.adr_model.specs.Edits.{entry_count as the_entry_count};
+ghost use Rattle.adr_model.specs.Edits.{entry_count as number_of_entries};
 
 use crate::counting::entry_count;
 use crate::shared::Shared;
@@ -78,7 +78,7 @@ impl Kept {
     }
 
     pub(crate) fn entries(&self) -> usize
-        ensures { result ≡ the_entry_count self.now.event }
+        ensures { result ≡ number_of_entries self.now.event }
     {
         self.entries
     }

@@ -1,6 +1,7 @@
 //! What is kept of the events beside their table.
-ghost use Rattle.std.specs.Prelude.{◌≡◌, ◌+◌, ◌-◌, ◌<◌, ◌≤◌, ◌^◌, ◌==◌, nat_eq, ℕ, List, Some, None, OnOk, IfErr, if◌then◌else◌};
+ghost use Rattle.std.specs.Prelude.{◌≡◌, ◌+◌, ◌-◌, ◌<◌, ◌≤◌, ◌^◌, ◌==◌, nat_eq, ℕ, List, Some, None, OnOk, if◌then◌else◌};
 ghost use Rattle.std.specs.Str.{bytes_eq};
+ghost use Rattle.adr_value.specs.Answer.{OnlyNoMemory};
 ghost use Rattle.indexmap.specs.IndexMap.{get, spare};
 ghost use Rattle.adr_model.specs.Edits.{entry_count};
 ghost use Rattle.adr_store.specs.Numbers.{one_if, times};
@@ -19,7 +20,6 @@ pub struct Numbers {
     pub(crate) writes: Writes,
 }
 
-// A function of its own, so that callers that let a value go need not look into it.
 impl Drop for Numbers {
     fn drop(self) {
         let Numbers {
@@ -53,7 +53,7 @@ impl Numbers {
         ensures writes { (n : ℕ) → get nat_eq self.new.writes.events n ≡ get nat_eq self.old.writes.events n }
         ensures named_room { OnOk result (0 < spare self.new.named.counts) }
         ensures writes_room { OnOk result (0 < spare self.new.writes.events) }
-        ensures refusal { IfErr result (λ refusal. refusal ≡ Refusal.NoMemory) }
+        ensures refusal { OnlyNoMemory result }
     {
         self.named.reserve()?;
         self.writes.reserve()

@@ -1,8 +1,9 @@
 //! The resources in order of creation, and how many name each ven.
-ghost use Rattle.std.specs.Prelude.{◌≡◌, ◌++◌, ◌∷◌, [], ◌<◌, ◌≤◌, not, filter, length, slice_get, IsSome, None, OnOk, OnErr, IfErr};
+ghost use Rattle.std.specs.Prelude.{◌≡◌, ◌++◌, ◌∷◌, [], ◌<◌, ◌≤◌, not, filter, length, slice_get, IsSome, None, OnOk, OnErr};
 ghost use Rattle.std.specs.List.{list_any};
 ghost use Rattle.std.specs.Option.{option_copied};
 ghost use Rattle.std.specs.Str.{bytes_eq};
+ghost use Rattle.adr_value.specs.Answer.{OnlyNoMemory};
 ghost use Rattle.adr_value.specs.Copy.{IsCopyOf};
 ghost use Rattle.adr_model.specs.Edits.{put_at};
 ghost use Rattle.adr_store.specs.Table.{find_by};
@@ -23,7 +24,6 @@ pub(crate) struct Resources {
     alloc: Global,
 }
 
-// A function of its own, so that callers that let a value go need not look into it.
 impl Drop for Resources {
     fn drop(self) {
         let Resources {
@@ -96,7 +96,7 @@ impl Resources {
         requires few { length self.old < MOST_RESOURCES }
         ensures ok { OnOk result (self.new ≡ self.old ++ resource ∷ []) }
         ensures err { OnErr result (self.new ≡ self.old) }
-        ensures refusal { IfErr result (λ refusal. refusal ≡ Refusal.NoMemory) }
+        ensures refusal { OnlyNoMemory result }
     {
         let shared = Shared::new(self.alloc, resource)?;
         self.push_shared(shared)
@@ -107,7 +107,7 @@ impl Resources {
         requires few { length self.old < MOST_RESOURCES }
         ensures ok { OnOk result (self.new ≡ self.old ++ resource ∷ []) }
         ensures err { OnErr result (self.new ≡ self.old) }
-        ensures refusal { IfErr result (λ refusal. refusal ≡ Refusal.NoMemory) }
+        ensures refusal { OnlyNoMemory result }
     {
         let ven = resource.get().ven_id.text().to_string(self.alloc)?;
         self.owners.reserve()?;
@@ -135,7 +135,7 @@ impl Resources {
         requires there { IsSome (find_by (λ r. r.id) self.old resource.id) }
         ensures ok { OnOk result (self.new ≡ put_at (λ r. bytes_eq resource.id r.id) resource self.old) }
         ensures err { OnErr result (self.new ≡ self.old) }
-        ensures refusal { IfErr result (λ refusal. refusal ≡ Refusal.NoMemory) }
+        ensures refusal { OnlyNoMemory result }
     {
         let shared = Shared::new(self.alloc, resource)?;
         let ven = shared.get().ven_id.text().to_string(self.alloc)?;

@@ -1,8 +1,9 @@
 //! The objects of the four kinds.
-ghost use Rattle.std.specs.Prelude.{◌≡◌, ◌+◌, ◌<◌, ◌≤◌, eqb, map, not, filter, length, slice_get, sum_by, IsOk, IsSome, None, Ok, OnOk, OnErr, IfErr};
+ghost use Rattle.std.specs.Prelude.{◌≡◌, ◌+◌, ◌<◌, ◌≤◌, eqb, map, not, filter, length, slice_get, sum_by, IsOk, IsSome, None, Ok, OnOk, OnErr};
 ghost use Rattle.std.specs.List.{IsDistinct, list_any};
 ghost use Rattle.std.specs.Option.{option_copied, option_map};
 ghost use Rattle.std.specs.Str.{bytes_eq};
+ghost use Rattle.adr_value.specs.Answer.{OnlyNoMemory};
 ghost use Rattle.adr_value.specs.Copy.{IsCopyOf};
 ghost use Rattle.adr_object.specs.declared.object.Object.TheVariants.{Program as program, Event as event, Ven as ven, Resource as resource};
 ghost use Rattle.adr_object.specs.declared.object.Edit.TheVariants.{Create, Change, Remove};
@@ -32,7 +33,6 @@ pub struct Store {
     alloc: Global,
 }
 
-// A function of its own, so that callers that let a value go need not look into it.
 impl Drop for Store {
     fn drop(self) {
         let Store {
@@ -172,6 +172,13 @@ impl Store {
         self.events.written(id)
     }
 
+    /// The number of the edit that created or last changed the event at the place.
+    pub fn written_at(&self, place: usize) -> Option<u64>
+        ensures { result ≡ option_map (λ w. w.written) (slice_get self.now.events place) }
+    {
+        self.events.written_at(place)
+    }
+
     /// The event that the edit of that number created or last changed.
     pub fn event_by(&self, number: u64) -> Option<&Event>
         ensures { option_copied result ≡ option_map (λ w. w.event) (by_number self.now.events number) }
@@ -206,7 +213,7 @@ impl Store {
         requires room { self.old.version < MOST_VERSION }
         ensures ok { OnOk result (self.new ≡ made self.old (Create (Object.Program program))) }
         ensures err { OnErr result (self.new ≡ self.old) }
-        ensures refusal { IfErr result (λ refusal. refusal ≡ Refusal.NoMemory) }
+        ensures refusal { OnlyNoMemory result }
     {
         let shared = Shared::new(self.alloc, program)?;
         self.programs.add(self.alloc, shared)?;
@@ -219,7 +226,7 @@ impl Store {
         requires room { self.old.version < MOST_VERSION }
         ensures ok { OnOk result (self.new ≡ made self.old (Create (Object.Ven ven))) }
         ensures err { OnErr result (self.new ≡ self.old) }
-        ensures refusal { IfErr result (λ refusal. refusal ≡ Refusal.NoMemory) }
+        ensures refusal { OnlyNoMemory result }
     {
         let shared = Shared::new(self.alloc, ven)?;
         self.vens.add(self.alloc, shared)?;
@@ -233,7 +240,7 @@ impl Store {
         requires room { self.old.version < MOST_VERSION }
         ensures ok { OnOk result (self.new ≡ made self.old (Create (Object.Resource resource))) }
         ensures err { OnErr result (self.new ≡ self.old) }
-        ensures refusal { IfErr result (λ refusal. refusal ≡ Refusal.NoMemory) }
+        ensures refusal { OnlyNoMemory result }
     {
         self.resources.push(resource)?;
         self.version += 1;
@@ -248,7 +255,7 @@ impl Store {
         requires room { self.old.version < MOST_VERSION }
         ensures ok { OnOk result (self.new ≡ made self.old (Create (Object.Event event))) }
         ensures err { OnErr result (self.new ≡ self.old) }
-        ensures refusal { IfErr result (λ refusal. refusal ≡ Refusal.NoMemory) }
+        ensures refusal { OnlyNoMemory result }
     {
         self.events.push(event, self.version + 1)?;
         self.version += 1;
@@ -260,7 +267,7 @@ impl Store {
         requires room { self.old.version < MOST_VERSION }
         ensures ok { OnOk result (self.new ≡ made self.old (Change (Object.Program program))) }
         ensures err { OnErr result (self.new ≡ self.old) }
-        ensures refusal { IfErr result (λ refusal. refusal ≡ Refusal.NoMemory) }
+        ensures refusal { OnlyNoMemory result }
     {
         let shared = Shared::new(self.alloc, program)?;
         let _old = self.programs.replace(shared);
@@ -273,7 +280,7 @@ impl Store {
         requires room { self.old.version < MOST_VERSION }
         ensures ok { OnOk result (self.new ≡ made self.old (Change (Object.Ven ven))) }
         ensures err { OnErr result (self.new ≡ self.old) }
-        ensures refusal { IfErr result (λ refusal. refusal ≡ Refusal.NoMemory) }
+        ensures refusal { OnlyNoMemory result }
     {
         let shared = Shared::new(self.alloc, ven)?;
         let _old = self.vens.replace(shared);
@@ -286,7 +293,7 @@ impl Store {
         requires room { self.old.version < MOST_VERSION }
         ensures ok { OnOk result (self.new ≡ made self.old (Change (Object.Resource resource))) }
         ensures err { OnErr result (self.new ≡ self.old) }
-        ensures refusal { IfErr result (λ refusal. refusal ≡ Refusal.NoMemory) }
+        ensures refusal { OnlyNoMemory result }
     {
         self.resources.replace(resource)?;
         self.version += 1;
@@ -301,7 +308,7 @@ impl Store {
         requires room { self.old.version < MOST_VERSION }
         ensures ok { OnOk result (self.new ≡ made self.old (Change (Object.Event event))) }
         ensures err { OnErr result (self.new ≡ self.old) }
-        ensures refusal { IfErr result (λ refusal. refusal ≡ Refusal.NoMemory) }
+        ensures refusal { OnlyNoMemory result }
     {
         self.events.replace(event, self.version + 1)?;
         self.version += 1;
@@ -331,7 +338,7 @@ impl Store {
         requires whole { IsWhole self.old }
         ensures ok { OnOk result (self.new ≡ made self.old (Create object)) }
         ensures err { OnErr result (self.new ≡ self.old) }
-        ensures refusal { IfErr result (λ refusal. refusal ≡ Refusal.NoMemory) }
+        ensures refusal { OnlyNoMemory result }
     {
         match object {
             Object::Program(program) => self.create_program(program),
@@ -346,7 +353,7 @@ impl Store {
         requires whole { IsWhole self.old }
         ensures ok { OnOk result (self.new ≡ made self.old (Change object)) }
         ensures err { OnErr result (self.new ≡ self.old) }
-        ensures refusal { IfErr result (λ refusal. refusal ≡ Refusal.NoMemory) }
+        ensures refusal { OnlyNoMemory result }
     {
         match object {
             Object::Program(program) => self.change_program(program),
@@ -363,7 +370,7 @@ impl Store {
         requires whole { IsWhole self.old }
         ensures ok { OnOk result (step self.old edit ≡ Ok self.new) }
         ensures err { OnErr result (self.new ≡ self.old) }
-        ensures refusal { IfErr result (λ refusal. refusal ≡ Refusal.NoMemory) }
+        ensures refusal { OnlyNoMemory result }
     {
         match edit {
             Edit::Create(object) => self.create(object),

@@ -1,8 +1,10 @@
-ghost use Rattle.std.specs.Prelude.{◌≡◌, ◌+◌, ◌<◌, ◌≤◌, ◌↔◌, ◌++◌, ◌∷◌, [], length, map, slice_get, Some, None, IsSome, IsTrue, OnOk, OnErr, IfOk, IfErr};
+//! Values under texts, in the order in which they were added.
+ghost use Rattle.std.specs.Prelude.{◌≡◌, ◌+◌, ◌<◌, ◌≤◌, ◌↔◌, ◌++◌, ◌∷◌, [], length, map, slice_get, Some, None, IsSome, IsTrue, OnOk, OnErr, IfOk};
 ghost use Rattle.std.specs.Option.{option_copied};
 ghost use Rattle.std.specs.List.{IsDistinct};
 ghost use Rattle.std.specs.Str.{bytes_eq};
 ghost use Rattle.std.specs.String.{string_bytes};
+ghost use Rattle.adr_value.specs.Answer.{OnlyNoMemory};
 ghost use Rattle.adr_store.specs.Table.{find_by, put_by, without};
 
 use adr_value::{Refusal, TryClone};
@@ -27,7 +29,6 @@ pub struct Table<T: Keyed> {
     entries: IndexMap<String, T>,
 }
 
-// A function of its own, so that callers that let a value go need not look into it.
 impl<T: Keyed> Drop for Table<T> {
     fn drop(self) {
         let Table { entries } = self;
@@ -86,7 +87,7 @@ impl<T: Keyed> Table<T> {
     pub fn reserve(&mut self) -> Result<(), Refusal>
         ensures items { self.new.items ≡ self.old.items }
         ensures room { OnOk result (0 < self.new.room) }
-        ensures refusal { IfErr result (λ refusal. refusal ≡ Refusal.NoMemory) }
+        ensures refusal { OnlyNoMemory result }
     {
         self.entries.reserve(1)?;
         Ok(())
@@ -108,7 +109,7 @@ impl<T: Keyed> Table<T> {
         requires { find_by T.key self.old.items (T.key value) ≡ None }
         ensures ok { OnOk result (self.new.items ≡ self.old.items ++ value ∷ []) }
         ensures err { OnErr result (self.new.items ≡ self.old.items) }
-        ensures refusal { IfErr result (λ refusal. refusal ≡ Refusal.NoMemory) }
+        ensures refusal { OnlyNoMemory result }
     {
         let key = value.key().to_string(alloc)?;
         self.reserve()?;
@@ -143,7 +144,7 @@ impl<T: Keyed + TryClone> Table<T> {
     /// A table of copies of these values.
     pub fn copy(&self, alloc: Global) -> Result<Table<T>, Refusal>
         ensures items { IfOk result (λ copy. copy.items ≡ self.now.items) }
-        ensures refusal { IfErr result (λ refusal. refusal ≡ Refusal.NoMemory) }
+        ensures refusal { OnlyNoMemory result }
     {
         let mut copy = Table::new(alloc);
         for place in 0..self.len() {

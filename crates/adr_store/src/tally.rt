@@ -1,7 +1,8 @@
 //! How many times each of some texts was added.
-ghost use Rattle.std.specs.Prelude.{◌≡◌, ◌+◌, ◌<◌, ◌≤◌, ◌^◌, List, ℕ, OnOk, IfErr};
+ghost use Rattle.std.specs.Prelude.{◌≡◌, ◌+◌, ◌<◌, ◌≤◌, ◌^◌, List, ℕ, OnOk};
 ghost use Rattle.std.specs.String.{string_bytes};
 ghost use Rattle.std.specs.Str.{bytes_eq};
+ghost use Rattle.adr_value.specs.Answer.{OnlyNoMemory};
 ghost use Rattle.indexmap.specs.IndexMap.{spare};
 ghost use Rattle.adr_store.specs.Numbers.{one_if, times};
 
@@ -14,7 +15,6 @@ pub struct Tally {
     counts: IndexMap<String, usize>,
 }
 
-// A function of its own, so that callers that let a value go need not look into it.
 impl Drop for Tally {
     fn drop(self) {
         let Tally { counts } = self;
@@ -46,7 +46,7 @@ impl Tally {
     pub fn reserve(&mut self) -> Result<(), Refusal>
         ensures counts { (id : List ℕ) → times self.new.counts id ≡ times self.old.counts id }
         ensures room { OnOk result (0 < spare self.new.counts) }
-        ensures refusal { IfErr result (λ refusal. refusal ≡ Refusal.NoMemory) }
+        ensures refusal { OnlyNoMemory result }
     {
         self.counts.reserve(1)?;
         Ok(())

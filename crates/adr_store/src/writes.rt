@@ -1,6 +1,7 @@
 //! Events by the numbers of their writes.
-ghost use Rattle.std.specs.Prelude.{◌≡◌, ◌==◌, nat_eq, ◌<◌, ◌≤◌, ℕ, Some, None, OnOk, IfErr, if◌then◌else◌};
+ghost use Rattle.std.specs.Prelude.{◌≡◌, ◌==◌, nat_eq, ◌<◌, ◌≤◌, ℕ, Some, None, OnOk, if◌then◌else◌};
 ghost use Rattle.std.specs.Option.{option_copied, option_map};
+ghost use Rattle.adr_value.specs.Answer.{OnlyNoMemory};
 ghost use Rattle.indexmap.specs.IndexMap.{get, spare};
 
 use crate::shared::Shared;
@@ -14,7 +15,6 @@ pub struct Writes {
     events: IndexMap<u64, Shared<Event>>,
 }
 
-// A function of its own, so that callers that let a value go need not look into it.
 impl Drop for Writes {
     fn drop(self) {
         let Writes { events } = self;
@@ -46,7 +46,7 @@ impl Writes {
     pub fn reserve(&mut self) -> Result<(), Refusal>
         ensures writes { (n : ℕ) → get nat_eq self.new.events n ≡ get nat_eq self.old.events n }
         ensures room { OnOk result (0 < spare self.new.events) }
-        ensures refusal { IfErr result (λ refusal. refusal ≡ Refusal.NoMemory) }
+        ensures refusal { OnlyNoMemory result }
     {
         self.events.reserve(1)?;
         Ok(())

@@ -1,11 +1,8 @@
 #![tactic(auto)]
-//! Tests that cross crates, against what was worked out by hand: scripts through the whole program, the script loop over
-//! streams that fail, bodies and command lines.
+//! Tests that cross crates, of what no transcript can say: streams that fail, hostile bytes and command lines.
 
 #[cfg(test)]
 mod bodies;
-#[cfg(test)]
-mod rows;
 #[cfg(test)]
 mod runs;
 #[cfg(test)]

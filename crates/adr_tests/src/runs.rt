@@ -2,6 +2,7 @@
 use crate::streams::{Pieces, Sink};
 use adr_server::{Fault, Tie, parse_line, run, status};
 use adr_value::Refusal;
+use std::alloc::{AllocError, Global};
 use std::sync::Wait;
 use std::test::Fail;
 use std::thread::Threads;
@@ -13,26 +14,10 @@ edit 2024-01-01T00:00:00Z create event e1 {\"programID\":\"p1\",\"intervals\":[{
 publish\n\
 at r1 PRICE 2024-01-01T00:30:00Z\n";
 
+const PROGRAM: &[u8] = b"edit 2024-01-01T00:00:00Z create program p1 {\"programName\":\"P\"}\n";
+
 const TEXT: &[u8] = b"ok 1\nok 2\nok 3\nok 4\npublished 1 version 4\n\
 version 4 event e1 interval 0 until 2024-01-01T01:00:00Z values 17\n";
-
-/// Whether the script, behind the first one, has that reply behind the first one's.
-fn goes_on(
-    rt: &(impl AllocGlobal + Threads + Wait),
-    script: &[u8],
-    replies: &[u8],
-) -> Result<bool, Fail> {
-    let mut input = Vec::new(rt.alloc());
-    input.extend_from_slice(SCRIPT)?;
-    input.extend_from_slice(script)?;
-    let mut reader = input.as_slice();
-    let mut writer = Vec::new(rt.alloc());
-    run(rt, &mut reader, &mut writer, 1, Tie::Newest)?;
-    let mut want = Vec::new(rt.alloc());
-    want.extend_from_slice(TEXT)?;
-    want.extend_from_slice(replies)?;
-    Ok(writer.as_slice() == want.as_slice())
-}
 
 /// Whether the script alone has those replies.
 fn answers(
@@ -89,69 +74,48 @@ fn stops_at_a_failed_write(rt: HostRuntime) -> Result<(), Fail> {
 }
 
 #[test]
-fn answers_at_the_bounds(rt: HostRuntime) -> Result<(), Fail> {
-    assert!(rt;
-        goes_on(
-            &rt,
-            b"at r1 PRICE 2024-01-01T01:00:00Z\n",
-            b"version 4 none until end\n"
-        )?
-    );
-    assert!(rt;
-        goes_on(
-            &rt,
-            b"at r1 PRICE 2023-12-31T23:59:59.5Z\n",
-            b"version 4 none until 2024-01-01T00:00:00Z\n"
-        )?
-    );
-    assert!(rt;
-        goes_on(
-            &rt,
-            b"at r2 PRICE 2024-01-01T00:30:00Z\n",
-            b"refused 29 UnknownResource\n"
-        )?
-    );
+fn answers_bytes_that_no_transcript_holds(rt: HostRuntime) -> Result<(), Fail> {
+    let runs: [(&[u8], &[u8]); 4] = [
+        (
+            b"publish\r\npublish",
+            b"published 1 version 0\npublished 2 version 0\n",
+        ),
+        (b"\n\r", b"refused 2 BadLine\nrefused 2 BadLine\n"),
+        (
+            b"at r1 \xff 2024-01-01T00:30:00Z\n",
+            b"refused 12 BadText\n",
+        ),
+        (
+            b"edit 2024-01-01T00:00:00Z create program x1 {\"programName\":\"\xff\"}\n",
+            b"refused 6 BadJson\n",
+        ),
+    ];
+    for (script, replies) in runs {
+        assert!(rt; answers(&rt, script, replies)?);
+    }
     Ok(())
 }
 
+/// A script that creates an event of so many intervals.
+fn intervals(alloc: Global, count: usize) -> Result<Vec<u8>, AllocError> {
+    let mut script = Vec::new(alloc);
+    script.extend_from_slice(PROGRAM)?;
+    script.extend_from_slice(
+        b"edit 2024-01-01T00:00:00Z create event e1 {\"programID\":\"p1\",\"intervalPeriod\":{\"start\":\"0000-00-00\"},\"intervals\":[{\"payloads\":[]}",
+    )?;
+    for _ in 1..count {
+        script.extend_from_slice(b",{\"payloads\":[]}")?;
+    }
+    script.extend_from_slice(b"]}\n")?;
+    Ok(script)
+}
+
 #[test]
-fn refuses_and_goes_on(rt: HostRuntime) -> Result<(), Fail> {
-    assert!(rt;
-        goes_on(
-            &rt,
-            b"edit 2024-01-01T00:00:00Z create program p1 {\"programName\":\"P\"}\n\
-edit 2024-01-01T00:00:00Z create ven v2 {\"venName\":\"W\"}\n",
-            b"refused 22 Exists\nok 5\n"
-        )?
-    );
-    assert!(rt;
-        goes_on(
-            &rt,
-            b"edit 2024-01-01T00:00:00Z delete event e1\n",
-            b"refused 2 BadLine\n"
-        )?
-    );
-    assert!(rt;
-        answers(
-            &rt,
-            b"publish\r\npublish",
-            b"published 1 version 0\npublished 2 version 0\n"
-        )?
-    );
-    assert!(rt;
-        answers(
-            &rt,
-            b"\nat r1 PRICE\nat r/1 PRICE noon\nat r/1 PRICE 2024-01-01T00:30:00Z\n\r",
-            b"refused 2 BadLine\nrefused 2 BadLine\nrefused 3 BadMoment\nrefused 4 BadId\nrefused 2 BadLine\n"
-        )?
-    );
-    assert!(rt;
-        answers(
-            &rt,
-            b"at r1 \xff 2024-01-01T00:30:00Z\n",
-            b"refused 12 BadText\n"
-        )?
-    );
+fn limits_the_intervals(rt: HostRuntime) -> Result<(), Fail> {
+    let most = intervals(rt.alloc(), 16_384)?;
+    assert!(rt; answers(&rt, &most, b"ok 1\nok 2\n")?);
+    let more = intervals(rt.alloc(), 16_385)?;
+    assert!(rt; answers(&rt, &more, b"ok 1\nrefused 18 TooMany\n")?);
     Ok(())
 }
 
@@ -167,6 +131,10 @@ fn refuses_long_lines(rt: HostRuntime) -> Result<(), Fail> {
     assert!(rt; answers(&rt, &script, b"refused 2 BadLine\nrefused 1 LongLine\n")?);
     script.truncate(4_194_304);
     script.push(b'a')?;
-    assert!(rt; matches!(parse_line(alloc, &script), Err(Refusal::LongLine)));
+    assert!(rt; is_long(alloc, &script));
     Ok(())
+}
+
+fn is_long(alloc: Global, line: &[u8]) -> bool {
+    matches!(parse_line(alloc, line), Err(Refusal::LongLine))
 }

@@ -1,5 +1,6 @@
 //! The command lines that users write.
 use adr_options::{Job, job};
+use adr_server::Tie;
 use std::alloc::{AllocError, Global};
 use std::test::Fail;
 
@@ -14,17 +15,29 @@ fn words(alloc: Global, texts: &[&str]) -> Result<Vec<String>, AllocError> {
 #[test]
 fn reads_jobs(rt: HostRuntime) -> Result<(), Fail> {
     let alloc = rt.alloc();
-    assert!(rt; job(alloc, words(alloc, &["run"])?)? == Job::Run(1));
-    assert!(rt; job(alloc, words(alloc, &["run", "--workers", "1"])?)? == Job::Run(1));
-    assert!(rt; job(alloc, words(alloc, &["run", "--workers", "64"])?)? == Job::Run(64));
-    assert!(rt; job(alloc, words(alloc, &["run", "--workers=7"])?)? == Job::Run(7));
+    let lines: [(&[&str], usize, Tie); 7] = [
+        (&["run"], 1, Tie::Newest),
+        (&["run", "--workers", "1"], 1, Tie::Newest),
+        (&["run", "--workers", "64"], 64, Tie::Newest),
+        (&["run", "--workers=7"], 7, Tie::Newest),
+        (&["run", "--tie", "newest"], 1, Tie::Newest),
+        (&["run", "--tie", "latest-start"], 1, Tie::LatestStart),
+        (
+            &["run", "--tie=latest-start", "--workers", "2"],
+            2,
+            Tie::LatestStart,
+        ),
+    ];
+    for (line, workers, tie) in lines {
+        assert!(rt; job(alloc, words(alloc, line)?)? == Job::Run(workers, tie));
+    }
     Ok(())
 }
 
 #[test]
 fn refuses_other_words(rt: HostRuntime) -> Result<(), Fail> {
     let alloc = rt.alloc();
-    let lines: [&[&str]; 8] = [
+    let lines: [&[&str]; 10] = [
         &[],
         &["fan"],
         &["adr", "run"],
@@ -33,6 +46,8 @@ fn refuses_other_words(rt: HostRuntime) -> Result<(), Fail> {
         &["run", "--workers", "0"],
         &["run", "--workers", "65"],
         &["run", "--workers", "two"],
+        &["run", "--tie"],
+        &["run", "--tie", "oldest"],
     ];
     for line in lines {
         match job(alloc, words(alloc, line)?) {

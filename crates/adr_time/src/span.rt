@@ -1,7 +1,7 @@
 //! Spans: from a moment up to an end.
-ghost use Rattle.std.specs.Prelude.{◌≡◌, ◌↔◌, IsTrue, false};
+ghost use Rattle.std.specs.Prelude.{◌≡◌, ◌↔◌, ◌&&◌, IsTrue, false};
 ghost use Rattle.adr_time.specs.Calendar.{is_in_range_sum, is_moment, sum_in_utc};
-ghost use Rattle.adr_time.specs.Ends.{NeedsOnlyItsSum, end_after, moment_after};
+ghost use Rattle.adr_time.specs.Ends.{NeedsOnlyItsSum, NeedsOnlyItsYearAndSum, end_after, is_on_calendar, moment_after};
 ghost use Rattle.adr_time.specs.Spans.{Covers, Meets, covers, meets};
 
 use crate::{Length, Moment};
@@ -67,6 +67,7 @@ pub fn meets(a: &Span, b: &Span) -> bool
 fn after(start: Moment, span: jiff::Span) -> Result<Moment, Refusal>
     ensures value { result ≡ moment_after start span }
     ensures forward { span.negative ≡ false → is_in_range_sum start span ≡ is_moment (sum_in_utc start span) }
+    ensures either { is_in_range_sum start span ≡ (is_on_calendar start span && is_moment (sum_in_utc start span)) }
 {
     let shown = start.timestamp().to_zoned(TimeZone::UTC);
     match shown.checked_add(span) {
@@ -83,6 +84,7 @@ fn after(start: Moment, span: jiff::Span) -> Result<Moment, Refusal>
 pub fn end_of(start: Moment, length: &Length) -> Result<End, Refusal>
     ensures value { result ≡ end_after start length.now }
     ensures forward { NeedsOnlyItsSum start length.now }
+    ensures either { NeedsOnlyItsYearAndSum start length.now }
 {
     match length {
         Length::Of(span) => Ok(End::At(after(start, *span)?)),

@@ -1,7 +1,7 @@
 //! Bounds of parts.
 ghost use Rattle.std.specs.Prelude.{◌≡◌};
 ghost use Rattle.std.specs.Int.{int_max};
-ghost use Rattle.adr_timeline.specs.Parts.{earlier as earlier_end, ends_at as lies_at, start_from as the_start_from};
+ghost use Rattle.adr_timeline.specs.Parts.{earlier as earlier_end, ends_at as lies_at, start_from};
 
 use adr_time::{End, Moment};
 
@@ -27,7 +27,7 @@ pub(crate) fn earlier(a: End, b: End) -> End
 
 /// The start, or the bound where that is later.
 pub(crate) fn start_from(bound: &Option<Moment>, start: Moment) -> Moment
-    ensures { result ≡ the_start_from bound.now start }
+    ensures { result ≡ start_from bound.now start }
 {
     match bound {
         Some(bound) => later(*bound, start),

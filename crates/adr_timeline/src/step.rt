@@ -1,7 +1,7 @@
 //! Steps: the least rank from moment to moment, by halves that are merged.
 ghost use Rattle.std.specs.Prelude.{◌≡◌, ◌+◌, ◌*◌, ◌<◌, ◌≤◌, ◌^◌, ℤ, [], IfOk, OnOk, None, length};
 ghost use Rattle.adr_timeline.specs.Parts.{joined_all, part};
-ghost use Rattle.adr_timeline.specs.Steps.{IsInOrder, first_from as the_first_from, goes_left as is_left_next, lesser as the_lesser, piece, pieces, rank_at, rank_from, steps_of as the_steps_of};
+ghost use Rattle.adr_timeline.specs.Steps.{IsInOrder, first_from, goes_left as is_left_next, lesser, piece, pieces, rank_at, rank_from, steps_of};
 
 use crate::part::trimmed;
 use crate::segment::join_some;
@@ -20,7 +20,7 @@ pub(crate) struct Step {
 /// The rank that goes before the other, where there are two. At most one comparison.
 fn lesser(first: Option<Rank>, second: Option<Rank>, meter: &mut Meter) -> Option<Rank>
     requires { meter.old + 1 < 2 ^ 128 }
-    ensures lesser { result ≡ the_lesser first second }
+    ensures lesser { result ≡ lesser first second }
     ensures compared { meter.new ≤ meter.old + 1 }
 {
     match (first, second) {
@@ -59,7 +59,7 @@ fn merged(
     requires right { IsInOrder right.now }
     ensures order { IfOk result (λ steps. IsInOrder steps.items) }
     ensures length { IfOk result (λ steps. length steps.items ≡ length left.now + length right.now) }
-    ensures ranks { IfOk result (λ steps. (t : ℤ) → rank_from None steps.items t ≡ the_lesser (rank_from None left.now t) (rank_from None right.now t)) }
+    ensures ranks { IfOk result (λ steps. (t : ℤ) → rank_from None steps.items t ≡ lesser (rank_from None left.now t) (rank_from None right.now t)) }
     ensures compared { meter.new ≤ meter.old + (length left.now + length right.now) }
 {
     let mut steps = Vec::with_capacity(alloc, left.len() + right.len())?;
@@ -88,7 +88,7 @@ fn merged(
 
 /// The steps of one entry: up at its start and down at its end, or none where it covers no moment.
 fn steps_of(alloc: Global, entry: &Entry) -> Result<Vec<Step>, AllocError>
-    ensures { IfOk result (λ steps. steps.items ≡ the_steps_of entry.now) }
+    ensures { IfOk result (λ steps. steps.items ≡ steps_of entry.now) }
 {
     let mut steps = Vec::new(alloc);
     if !entry.span.start.is_before(entry.span.end) {
@@ -158,7 +158,7 @@ fn join_step(
 
 /// Where the first of the steps begins.
 fn first_from(steps: &[Step]) -> End
-    ensures { result ≡ the_first_from steps.now }
+    ensures { result ≡ first_from steps.now }
 {
     match steps.first() {
         Some(step) => End::At(step.from),

@@ -1,10 +1,10 @@
 //! Timelines.
-ghost use Rattle.std.specs.Prelude.{◌≡◌, ◌+◌, ◌<◌, ◌≤◌, ◌^◌, ℤ, [], if◌then◌else◌, None, IfOk, IfErr};
+ghost use Rattle.std.specs.Prelude.{◌≡◌, ◌+◌, ◌<◌, ◌≤◌, ◌^◌, ℤ, [], if◌then◌else◌, None, IfOk};
+ghost use Rattle.adr_value.specs.Answer.{OnlyNoMemory};
 ghost use Rattle.adr_value.specs.Copy.{IsCopyOf};
-ghost use Rattle.adr_value.specs.declared.refusal.Refusal.TheVariants.{NoMemory};
 ghost use Rattle.adr_time.specs.Spans.{covers};
 ghost use Rattle.adr_model.specs.Answer.{IsUntil};
-ghost use Rattle.adr_model.specs.Entries.{meeting as the_meeting};
+ghost use Rattle.adr_model.specs.Entries.{meeting};
 ghost use Rattle.adr_model.specs.Governor.{winner_at};
 ghost use Rattle.adr_model.specs.Timeline.{shows, CanonicalIsUnique, IsCanonical};
 ghost use Rattle.adr_timeline.specs.Build.{most_compared};
@@ -40,7 +40,7 @@ impl Model for Timeline {
 
 /// The entries that meet the window.
 fn meeting(alloc: Global, entries: &[Entry], window: &Span) -> Result<Vec<Entry>, AllocError>
-    ensures { IfOk result (λ found. found.items ≡ the_meeting entries.now window.now) }
+    ensures { IfOk result (λ found. found.items ≡ meeting entries.now window.now) }
 {
     entries
         .iter()
@@ -73,7 +73,7 @@ impl Timeline {
         ensures canonical { IfOk result (λ timeline. IsCanonical timeline) }
         ensures shows { IfOk result (λ timeline. (t : ℤ) → shows timeline t ≡ (if covers window t then winner_at entries.now t else None)) }
         ensures compared { meter.new ≤ meter.old + most_compared entries.now window }
-        ensures refused { IfErr result (λ refusal. refusal ≡ NoMemory) }
+        ensures refused { OnlyNoMemory result }
     {
         let found = meeting(alloc, entries, &window)?;
         let steps = ranked(alloc, &found, meter)?;
@@ -117,7 +117,7 @@ impl Timeline {
     pub fn clip(&self, window: Span) -> Result<Timeline, Refusal>
         ensures canonical { IfOk result (λ timeline. IsCanonical timeline) }
         ensures shows { IfOk result (λ timeline. (t : ℤ) → shows timeline t ≡ (if covers window t then shows self.now t else None)) }
-        ensures refused { IfErr result (λ refusal. refusal ≡ NoMemory) }
+        ensures refused { OnlyNoMemory result }
     {
         let segments = clipped(*self.segments.allocator(), &self.segments, window)?;
         Ok(Timeline { segments })
@@ -127,7 +127,7 @@ impl Timeline {
     pub fn splice(&self, window: Span, inner: &Timeline) -> Result<Timeline, Refusal>
         ensures canonical { IfOk result (λ timeline. IsCanonical timeline) }
         ensures shows { IfOk result (λ timeline. (t : ℤ) → shows timeline t ≡ (if covers window t then shows inner.now t else shows self.now t)) }
-        ensures refused { IfErr result (λ refusal. refusal ≡ NoMemory) }
+        ensures refused { OnlyNoMemory result }
     {
         let segments = spliced(
             *self.segments.allocator(),

@@ -1,3 +1,4 @@
 mod Laid
 mod Listed
+mod Places
 mod Types

@@ -1,8 +1,9 @@
 -- Types that stand first in a list.
-use Rattle.std.proofs.Common.{◌≡◌, ℕ, Bool, true, false, not, ◌||◌, cond, List, [], ◌∷◌, ◌++◌, refl, ap, sym, subst, ◌∙◌, filter, append_assoc}
+use Rattle.std.proofs.Common.{◌≡◌, ℕ, ◌+◌, ◌<◌, length, take, get_or, Bool, true, false, not, ◌||◌, cond, List, [], ◌∷◌, ◌++◌, append-nil, refl, ap, sym, ◌∙◌, filter}
+use Rattle.std.proofs.lemmas.Grind.{take_at_read}
+use Rattle.std.proofs.lemmas.List.Elements.{filter-append}
 use Rattle.std.specs.List.{list_any}
 use Rattle.std.specs.Str.{bytes_eq}
-use Rattle.std.proofs.lemmas.List.Folds.{list_any-append}
 use Rattle.std.proofs.lemmas.Slice.Eq.{bytes_eq-Decides}
 use Rattle.adr_value.specs.Same.{same_type}
 use Rattle.adr_value.specs.Payload.{name_of}
@@ -12,85 +13,72 @@ use Rattle.adr_model.specs.Touches.{types_of}
 
 -- the list has the type
 abbrev pub has : List PayloadType → PayloadType → Bool
-has kinds kind = list_any (λ k. same_type k kind) kinds
-
--- the types that the first list has not
-abbrev pub fresh : List PayloadType → List PayloadType → List PayloadType
-fresh kinds types = filter (λ t. not (has kinds t)) types
+has types t = list_any (λ k. same_type k t) types
 
 -- the types that are not this one
 abbrev pub others : PayloadType → List PayloadType → List PayloadType
-others kind types = filter (λ t. not (same_type kind t)) types
+others t types = filter (λ k. not (same_type t k)) types
 
-pub fresh_of_none : (types : List PayloadType) → fresh [] types ≡ types
-fresh_of_none [] = refl
-fresh_of_none (t ∷ ts) = ap (λ (r : List PayloadType). t ∷ r) (fresh_of_none ts)
+-- a type alone, unless the list has it
+abbrev pub unless_had : List PayloadType → PayloadType → List PayloadType
+unless_had types t = cond (has types t) [] (t ∷ [])
 
-module _ (kinds : List PayloadType) (kind : PayloadType) where
-  has_same : (t : PayloadType) → has kinds kind ≡ true → same_type kind t ≡ true → has kinds t ≡ true
-  has_same t known same =
-      subst (λ (name : List ℕ). list_any (λ k. bytes_eq (name_of k) name) kinds ≡ true) ((bytes_eq-Decides (name_of kind) (name_of t)).0 same) known
+same_as_both : (a b t : PayloadType) → same_type a b ≡ true → same_type b t ≡ same_type a t
+same_as_both a b t same = ap (λ (name : List ℕ). bytes_eq name (name_of t)) (sym ((bytes_eq-Decides (name_of a) (name_of b)).0 same))
 
-  -- what is the same as a known type was not fresh
-  fresh-others : has kinds kind ≡ true → (types : List PayloadType) → fresh kinds types ≡ fresh kinds (others kind types)
-  fresh-others known [] = refl
-  fresh-others known (t ∷ ts) = by (same_type kind t) refl (fresh-others known ts)
-    where
-      by : (b : Bool) → same_type kind t ≡ b → fresh kinds ts ≡ fresh kinds (others kind ts)
-          → cond (not (has kinds t)) (t ∷ fresh kinds ts) (fresh kinds ts) ≡ fresh kinds (cond (not b) (t ∷ others kind ts) (others kind ts))
-      by true same rest = ap (λ (b : Bool). cond (not b) (t ∷ fresh kinds ts) (fresh kinds ts)) (has_same t known same) ∙ rest
-      by false other rest = ap (λ (r : List PayloadType). cond (not (has kinds t)) (t ∷ r) r) rest
+-- the types other than one have all that isn't the same as that one
+others_have : (a t : PayloadType) → same_type a t ≡ false → (types : List PayloadType) → has (others a types) t ≡ has types t
+others_have a t apart [] = refl
+others_have a t apart (b ∷ types) = by (same_type a b) refl (others_have a t apart types)
+  where
+    by : (c : Bool) → same_type a b ≡ c → has (others a types) t ≡ has types t → has (cond (not c) (b ∷ others a types) (others a types)) t ≡ (same_type b t || has types t)
+    by true same rest = rest ∙ ap (λ (c : Bool). c || has types t) (sym (same_as_both a b t same ∙ apart))
+    by false other rest = ap (λ (c : Bool). same_type b t || c) rest
 
-  -- a known type adds nothing
-  pub known_type : has kinds kind ≡ true → (types : List PayloadType) → fresh kinds types ≡ fresh kinds (kind ∷ others kind types)
-  known_type known types =
-      fresh-others known types
-      ∙ sym (ap (λ (b : Bool). cond (not b) (kind ∷ fresh kinds (others kind types)) (fresh kinds (others kind types))) known)
+one_type_more : (payloads : List Payload) (payload : Payload)
+    → types_of (payloads ++ payload ∷ []) ≡ types_of payloads ++ unless_had (types_of payloads) payload.kind
+one_type_more [] payload = refl
+one_type_more (p ∷ ps) payload =
+    ap (λ (ts : List PayloadType). p.kind ∷ others p.kind ts) (one_type_more ps payload)
+    ∙ ap (λ (ts : List PayloadType). p.kind ∷ ts) (filter-append (λ k. not (same_type p.kind k)) (types_of ps) (unless_had (types_of ps) payload.kind))
+    ∙ ap (λ (ts : List PayloadType). p.kind ∷ others p.kind (types_of ps) ++ ts) (by (same_type p.kind payload.kind) refl)
+  where
+    kept : (h : Bool) (c : Bool) → same_type p.kind payload.kind ≡ c → others p.kind (cond h [] (payload.kind ∷ [])) ≡ cond (c || h) [] (payload.kind ∷ [])
+    kept true true same = refl
+    kept true false same = refl
+    kept false true same = rw same refl
+    kept false false same = rw same refl
 
-  fresh-push : (types : List PayloadType) → fresh (kinds ++ kind ∷ []) types ≡ fresh kinds (others kind types)
-  fresh-push [] = refl
-  fresh-push (t ∷ ts) =
-      ap (λ (b : Bool). cond (not b) (t ∷ fresh (kinds ++ kind ∷ []) ts) (fresh (kinds ++ kind ∷ []) ts)) (list_any-append (λ k. same_type k t) kinds (kind ∷ []))
-      ∙ by (has kinds t) refl (same_type kind t) (fresh-push ts)
-    where
-      by : (a : Bool) → has kinds t ≡ a → (b : Bool) → fresh (kinds ++ kind ∷ []) ts ≡ fresh kinds (others kind ts)
-          → cond (not (a || (b || false))) (t ∷ fresh (kinds ++ kind ∷ []) ts) (fresh (kinds ++ kind ∷ []) ts)
-          ≡ fresh kinds (cond (not b) (t ∷ others kind ts) (others kind ts))
-      by true e true rest = rest
-      by true e false rest = rest ∙ sym (ap (λ (b : Bool). cond (not b) (t ∷ fresh kinds (others kind ts)) (fresh kinds (others kind ts))) e)
-      by false e true rest = rest
-      by false e false rest =
-          ap (λ (r : List PayloadType). t ∷ r) rest
-          ∙ sym (ap (λ (b : Bool). cond (not b) (t ∷ fresh kinds (others kind ts)) (fresh kinds (others kind ts))) e)
+    by : (c : Bool) → same_type p.kind payload.kind ≡ c
+        → others p.kind (unless_had (types_of ps) payload.kind) ≡ cond (c || has (others p.kind (types_of ps)) payload.kind) [] (payload.kind ∷ [])
+    by true same = kept (has (types_of ps) payload.kind) true same
+    by false apart =
+        kept (has (types_of ps) payload.kind) false apart
+        ∙ ap (λ (h : Bool). cond h [] (payload.kind ∷ [])) (sym (others_have p.kind payload.kind apart (types_of ps)))
 
-  -- a new type stands first, and then the others
-  pub new_type : has kinds kind ≡ false → (types : List PayloadType)
-      → (kinds ++ kind ∷ []) ++ fresh (kinds ++ kind ∷ []) types ≡ kinds ++ fresh kinds (kind ∷ others kind types)
-  new_type new types =
-      append_assoc kinds (kind ∷ []) (fresh (kinds ++ kind ∷ []) types)
-      ∙ ap (λ (r : List PayloadType). kinds ++ kind ∷ r) (fresh-push types)
-      ∙ sym (ap (λ (b : Bool). kinds ++ cond (not b) (kind ∷ fresh kinds (others kind types)) (fresh kinds (others kind types))) new)
+next_payload : (payloads : List Payload) (i : ℕ) (payload : Payload) → i < length payloads → payload ≡ get_or payloads i payload
+    → take (i + 1) payloads ≡ take i payloads ++ payload ∷ []
+next_payload payloads i payload within is =
+    (take_at_read payloads i payload within).1 ∙ ap (λ (p : Payload). take i payloads ++ p ∷ []) (sym is)
 
--- ---- the steps of a scan, from what it has found
+-- one payload more adds its type, unless a payload before it has that
+module _ (payloads : List Payload) (i : ℕ) (payload : Payload) (types : List PayloadType) where
+  next_type : i < length payloads → payload ≡ get_or payloads i payload → types ≡ types_of (take i payloads)
+      → types_of (take (i + 1) payloads) ≡ types ++ unless_had types payload.kind
+  next_type within is found =
+      ap types_of (next_payload payloads i payload within is)
+      ∙ one_type_more (take i payloads) payload
+      ∙ ap (λ (ts : List PayloadType). ts ++ unless_had ts payload.kind) (sym found)
 
-pub started : (kinds types : List PayloadType) → kinds ≡ [] → kinds ++ fresh kinds types ≡ types
-started [] types h = fresh_of_none types
-started (k ∷ kinds) types h = cc
+  pub known_type : i < length payloads → payload ≡ get_or payloads i payload → types ≡ types_of (take i payloads)
+      → has types payload.kind ≡ true → types ≡ types_of (take (i + 1) payloads)
+  known_type within is found known =
+      sym
+      (next_type within is found
+      ∙ ap (λ (h : Bool). types ++ cond h [] (payload.kind ∷ [])) known
+      ∙ append-nil types)
 
-pub found_new : (kinds later all : List PayloadType) (kind : PayloadType) (payload : Payload) (more rest : List Payload)
-    → rest ≡ payload ∷ more → kind ≡ payload.kind → later ≡ kinds ++ kind ∷ [] → has kinds payload.kind ≡ false
-    → kinds ++ fresh kinds (types_of rest) ≡ all → later ++ fresh later (types_of more) ≡ all
-found_new kinds later all kind payload more rest is same added new found =
-    let pushed : later ≡ kinds ++ payload.kind ∷ [] = added ∙ ap (λ (k : PayloadType). kinds ++ k ∷ []) same in
-    ap (λ (ks : List PayloadType). ks ++ fresh ks (types_of more)) pushed
-    ∙ new_type kinds payload.kind new (types_of more)
-    ∙ sym (ap (λ (ps : List Payload). kinds ++ fresh kinds (types_of ps)) is)
-    ∙ found
-
-pub found_again : (kinds all : List PayloadType) (payload : Payload) (more rest : List Payload)
-    → rest ≡ payload ∷ more → has kinds payload.kind ≡ true
-    → kinds ++ fresh kinds (types_of rest) ≡ all → kinds ++ fresh kinds (types_of more) ≡ all
-found_again kinds all payload more rest is known found =
-    ap (λ (ts : List PayloadType). kinds ++ ts) (known_type kinds payload.kind known (types_of more))
-    ∙ sym (ap (λ (ps : List Payload). kinds ++ fresh kinds (types_of ps)) is)
-    ∙ found
+  pub new_type : i < length payloads → payload ≡ get_or payloads i payload → types ≡ types_of (take i payloads)
+      → has types payload.kind ≡ false → types ++ payload.kind ∷ [] ≡ types_of (take (i + 1) payloads)
+  new_type within is found new =
+      sym (next_type within is found ∙ ap (λ (h : Bool). types ++ cond h [] (payload.kind ∷ [])) new)

@@ -1,2 +1,2 @@
-pub mod Objects
+pub mod Applied
 pub mod Windows

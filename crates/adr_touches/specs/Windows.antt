@@ -11,7 +11,7 @@ use Rattle.adr_model.specs.Touches.{types_of, touches_between, applying}
 
 -- a touch of the window for each type
 abbrev pub touches_in : List ℕ → Span → List PayloadType → List Touch
-touches_in resource window kinds = map (λ kind. record { resource = resource; kind = kind; window = window }) kinds
+touches_in resource window kinds = map (λ payload_type. record { resource = resource; kind = payload_type; window = window }) kinds
 
 -- a touch for each type of an interval that lasts
 abbrev pub touches_at : List ℕ → Interval × Span → List Touch

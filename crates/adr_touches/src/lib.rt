@@ -5,8 +5,6 @@
 mod ids;
 mod listing;
 mod matching;
-mod objects;
 mod windows;
 
 pub use listing::touches;
-pub use objects::Objects;

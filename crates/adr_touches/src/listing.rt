@@ -1,14 +1,16 @@
-ghost use Rattle.std.specs.Prelude.{◌≡◌, ◌++◌, OnOk, IfOk, IfErr, flat_map};
-ghost use Rattle.std.specs.Option.{option_copied};
-ghost use Rattle.adr_model.specs.Touches.{touches as the_touches, touches_between};
-ghost use Rattle.adr_touches.specs.Objects.{book_of};
+//! The touches of two books, by resource and then by event.
+ghost use Rattle.std.specs.Prelude.{◌≡◌, ◌++◌, OnOk, IfOk, flat_map};
+ghost use Rattle.std.specs.Option.{option_map};
+ghost use Rattle.adr_value.specs.Answer.{OnlyNoMemory};
+ghost use Rattle.adr_model.specs.Touches.{touches as touches_of_books, touches_between};
+ghost use Rattle.adr_touches.specs.Applied.{written_event};
 ghost use Rattle.adr_touches.specs.Windows.{touches_on};
 
-use crate::ids::{event_ids, ids_of_both, resource_ids};
-use crate::matching::applying;
-use crate::objects::Objects;
+use crate::ids::{event_ids, joined_ids, resource_ids};
+use crate::matching::{Applied, applied_event};
 use crate::windows::add_event;
-use adr_model::{Touch, Written};
+use adr_book::Book;
+use adr_model::Touch;
 use adr_object::Id;
 use adr_value::Refusal;
 use std::alloc::Global;
@@ -18,11 +20,11 @@ fn add_between(
     touches: &mut Vec<Touch>,
     alloc: Global,
     resource: &Id,
-    old: Option<&Written>,
-    new: Option<&Written>,
+    old: Option<Applied<'_>>,
+    new: Option<Applied<'_>>,
 ) -> Result<(), Refusal>
-    ensures ok { OnOk result (touches.new.items ≡ touches.old.items ++ touches_between resource.now (option_copied old.entry) (option_copied new.entry)) }
-    ensures memory { IfErr result (λ refusal. refusal ≡ Refusal.NoMemory) }
+    ensures ok { OnOk result (touches.new.items ≡ touches.old.items ++ touches_between resource.now (option_map written_event old.entry) (option_map written_event new.entry)) }
+    ensures memory { OnlyNoMemory result }
 {
     match (old, new) {
         (None, None) => Ok(()),
@@ -42,20 +44,18 @@ fn add_between(
 fn add_resource(
     touches: &mut Vec<Touch>,
     alloc: Global,
-    old: &Objects<'_>,
-    new: &Objects<'_>,
+    old: &Book,
+    new: &Book,
     resource: &Id,
     events: &[Id],
 ) -> Result<(), Refusal>
-    ensures ok { OnOk result (touches.new.items ≡ touches.old.items ++ touches_on (book_of old.now) (book_of new.now) events.now resource.now) }
-    ensures memory { IfErr result (λ refusal. refusal ≡ Refusal.NoMemory) }
+    ensures ok { OnOk result (touches.new.items ≡ touches.old.items ++ touches_on old.now.objects new.now.objects events.now resource.now) }
+    ensures memory { OnlyNoMemory result }
 {
-    let mut rest = events;
-    'rest: while let Some((event, more)) = rest.split_first() {
-        let applied = applying(old, resource, event);
-        let applies = applying(new, resource, event);
-        add_between(touches, alloc, resource, applied, applies)?;
-        rest = more;
+    for event in events {
+        let before = applied_event(old, resource, event);
+        let after = applied_event(new, resource, event);
+        add_between(touches, alloc, resource, before, after)?;
     }
     Ok(())
 }
@@ -63,42 +63,32 @@ fn add_resource(
 /// The touches of the resources, by resource.
 fn list_touches(
     alloc: Global,
-    old: &Objects<'_>,
-    new: &Objects<'_>,
+    old: &Book,
+    new: &Book,
     resources: &[Id],
     events: &[Id],
 ) -> Result<Vec<Touch>, Refusal>
-    ensures ok { IfOk result (λ touches. touches.items ≡ flat_map (touches_on (book_of old.now) (book_of new.now) events.now) resources.now) }
-    ensures memory { IfErr result (λ refusal. refusal ≡ Refusal.NoMemory) }
+    ensures ok { IfOk result (λ touches. touches.items ≡ flat_map (touches_on old.now.objects new.now.objects events.now) resources.now) }
+    ensures memory { OnlyNoMemory result }
 {
     let mut touches = Vec::new(alloc);
-    let mut rest = resources;
-    'rest: while let Some((resource, more)) = rest.split_first() {
+    for resource in resources {
         add_resource(&mut touches, alloc, old, new, resource, events)?;
-        rest = more;
     }
     Ok(touches)
 }
 
-/// The touches between the objects before and after an edit: each stretch of time in which what governs a resource
+/// The touches between the books before and after an edit: each stretch of time in which what governs a resource
 /// and a payload type may have changed. They stand by resource, then by event, the old event before the new one,
 /// then by interval and type; one window may stand twice.
 ///
 /// Cost: each event is held against each resource in both, and an event that changed is laid out for each resource
 /// that it applies to. `NoMemory` where there is no room for the list.
-pub fn touches(alloc: Global, old: &Objects<'_>, new: &Objects<'_>) -> Result<Vec<Touch>, Refusal>
-    ensures ok { IfOk result (λ touches. touches.items ≡ the_touches (book_of old.now) (book_of new.now)) }
-    ensures memory { IfErr result (λ refusal. refusal ≡ Refusal.NoMemory) }
+pub fn touches(alloc: Global, old: &Book, new: &Book) -> Result<Vec<Touch>, Refusal>
+    ensures ok { IfOk result (λ touches. touches.items ≡ touches_of_books old.now.objects new.now.objects) }
+    ensures memory { OnlyNoMemory result }
 {
-    let resources = ids_of_both(
-        alloc,
-        resource_ids(alloc, old.resources)?,
-        resource_ids(alloc, new.resources)?,
-    )?;
-    let events = ids_of_both(
-        alloc,
-        event_ids(alloc, old.events)?,
-        event_ids(alloc, new.events)?,
-    )?;
+    let resources = joined_ids(alloc, resource_ids(alloc, old)?, resource_ids(alloc, new)?)?;
+    let events = joined_ids(alloc, event_ids(alloc, old)?, event_ids(alloc, new)?)?;
     list_touches(alloc, old, new, resources.as_slice(), events.as_slice())
 }

@@ -1,40 +1,49 @@
-ghost use Rattle.std.specs.Prelude.{◌≡◌};
-ghost use Rattle.std.specs.Option.{option_copied};
-ghost use Rattle.adr_model.specs.Governor.{applies_to as the_applies_to};
-ghost use Rattle.adr_model.specs.Touches.{applying as the_applying};
-ghost use Rattle.adr_touches.specs.Objects.{book_of};
+//! The event that applies to a resource.
+ghost use Rattle.std.specs.Prelude.{◌≡◌, false};
+ghost use Rattle.std.specs.Option.{option_map, option_map_or};
+ghost use Rattle.adr_model.specs.Book.{scene_of};
+ghost use Rattle.adr_model.specs.Matching.{applies as applies_in};
+ghost use Rattle.adr_model.specs.Touches.{applying};
+ghost use Rattle.adr_touches.specs.Applied.{written_event};
 
-use crate::objects::Objects;
-use adr_model::Written;
-use adr_object::{Id, Resource};
+use adr_book::Book;
+use adr_object::{Event, Id, Resource};
 use adr_rule::{Scene, applies};
 
+/// An event that applies, and the number of the edit that wrote it.
+#[derive(Clone, Copy)]
+pub struct Applied<'a> {
+    pub event: &'a Event,
+    pub written: u64,
+}
+
 /// Whether the event applies to the resource.
-fn applies_to(objects: &Objects<'_>, resource: &Resource, written: &Written) -> bool
-    ensures { result ≡ the_applies_to (book_of objects.now) resource.now written.now }
+fn is_applied(book: &Book, resource: &Resource, event: &Event) -> bool
+    ensures { result ≡ option_map_or applies_in (scene_of book.now.objects event.now resource.now) false }
 {
-    let Some(program) = objects.program(&written.event.program_id) else {
+    let Some(program) = book.program(&event.program_id) else {
         return false;
     };
-    let Some(ven) = objects.ven(&resource.ven_id) else {
+    let Some(ven) = book.ven(&resource.ven_id) else {
         return false;
     };
     applies(&Scene {
         program,
-        event: &written.event,
+        event,
         ven,
         resource,
     })
 }
 
 /// The event, where both are there and it applies.
-pub(crate) fn applying<'a>(objects: &Objects<'a>, resource: &Id, event: &Id) -> Option<&'a Written>
-    ensures { option_copied result ≡ the_applying (book_of objects.now) resource.now event.now }
+pub(crate) fn applied_event<'a>(book: &'a Book, resource: &Id, event: &Id) -> Option<Applied<'a>>
+    ensures { option_map written_event result ≡ applying book.now.objects resource.now event.now }
 {
-    let resource = objects.resource(resource)?;
-    let written = objects.event(event)?;
-    if !applies_to(objects, resource, written) {
+    let resource = book.resource(resource)?;
+    let written = book.written(event)?;
+    let event = book.event(event)?;
+    if !is_applied(book, resource, event) {
         return None;
     }
-    Some(written)
+    Some(Applied { event, written })
 }

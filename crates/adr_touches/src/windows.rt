@@ -1,46 +1,49 @@
-ghost use Rattle.std.specs.Prelude.{◌≡◌, ◌++◌, [], OnOk, IfOk, IfErr, map};
+//! The touches of one event that applies.
+ghost use Rattle.std.specs.Prelude.{◌≡◌, ◌++◌, [], OnOk, IfOk, map};
 ghost use Rattle.std.specs.List.{list_any};
 ghost use Rattle.std.specs.Result.{result_unwrap_or};
-ghost use Rattle.adr_value.specs.Same.{same_type as the_same_type};
+ghost use Rattle.adr_value.specs.Answer.{OnlyNoMemory};
+ghost use Rattle.adr_value.specs.Same.{same_type};
 ghost use Rattle.adr_model.specs.Layout.{layout};
-ghost use Rattle.adr_model.specs.Touches.{types_of as the_types_of, touches_of};
+ghost use Rattle.adr_model.specs.Touches.{types_of, touches_of};
+ghost use Rattle.adr_touches.specs.Applied.{written_event};
 ghost use Rattle.adr_touches.specs.Windows.{touches_in, touches_at, touches_along};
 
+use crate::matching::Applied;
 use adr_layout::{Placed, lay_out};
-use adr_model::{Touch, Written};
+use adr_model::Touch;
 use adr_object::{Event, Id, Interval, Payload};
 use adr_time::Span;
 use adr_value::{PayloadType, Refusal};
 use std::alloc::Global;
 
-/// Whether some type of the list is the same as this one.
-fn has_type(kinds: &[PayloadType], kind: &PayloadType) -> bool
-    ensures { result ≡ list_any (λ k. the_same_type k kind.now) kinds.now }
+fn has_type(types: &[PayloadType], payload_type: &PayloadType) -> bool
+    ensures { result ≡ list_any (λ t. same_type t payload_type.now) types.now }
 {
-    kinds.iter().any(|other| other.name() == kind.name())
+    types
+        .iter()
+        .any(|other| other.name() == payload_type.name())
 }
 
 /// The payload types, each where it stands first.
-fn types_of(alloc: Global, payloads: &[Payload]) -> Result<Vec<PayloadType>, Refusal>
-    ensures ok { IfOk result (λ kinds. kinds.items ≡ the_types_of payloads.now) }
-    ensures memory { IfErr result (λ refusal. refusal ≡ Refusal.NoMemory) }
+fn payload_types(alloc: Global, payloads: &[Payload]) -> Result<Vec<PayloadType>, Refusal>
+    ensures ok { IfOk result (λ types. types.items ≡ types_of payloads.now) }
+    ensures memory { OnlyNoMemory result }
 {
-    let mut kinds = Vec::new(alloc);
-    let mut rest = payloads;
-    'rest: while let Some((payload, more)) = rest.split_first() {
-        if !has_type(kinds.as_slice(), &payload.kind) {
-            kinds.push(payload.kind.copy()?)?;
+    let mut types = Vec::new(alloc);
+    for payload in payloads {
+        if !has_type(types.as_slice(), &payload.kind) {
+            types.push(payload.kind.copy()?)?;
         }
-        rest = more;
     }
-    Ok(kinds)
+    Ok(types)
 }
 
 /// Where the intervals of an event lie; nowhere where its layout has a fault.
 #[tactic(auto, using(crate::proofs::Laid::laid_spans, crate::proofs::Laid::no_span))]
 fn places(alloc: Global, event: &Event) -> Result<Vec<Placed>, Refusal>
     ensures ok { IfOk result (λ places. map (λ p. p.span) places.items ≡ result_unwrap_or (layout event.now) []) }
-    ensures memory { IfErr result (λ refusal. refusal ≡ Refusal.NoMemory) }
+    ensures memory { OnlyNoMemory result }
 {
     match lay_out(alloc, event) {
         Ok(places) => Ok(places),
@@ -58,19 +61,17 @@ fn add_types(
     touches: &mut Vec<Touch>,
     resource: &Id,
     window: Span,
-    kinds: &[PayloadType],
+    types: &[PayloadType],
 ) -> Result<(), Refusal>
-    ensures ok { OnOk result (touches.new.items ≡ touches.old.items ++ touches_in resource.now window kinds.now) }
-    ensures memory { IfErr result (λ refusal. refusal ≡ Refusal.NoMemory) }
+    ensures ok { OnOk result (touches.new.items ≡ touches.old.items ++ touches_in resource.now window types.now) }
+    ensures memory { OnlyNoMemory result }
 {
-    let mut rest = kinds;
-    'rest: while let Some((kind, more)) = rest.split_first() {
+    for payload_type in types {
         touches.push(Touch {
             resource: resource.copy()?,
-            kind: kind.copy()?,
+            kind: payload_type.copy()?,
             window,
         })?;
-        rest = more;
     }
     Ok(())
 }
@@ -84,16 +85,16 @@ fn add_interval(
     span: Span,
 ) -> Result<(), Refusal>
     ensures ok { OnOk result (touches.new.items ≡ touches.old.items ++ touches_at resource.now (interval.now, span)) }
-    ensures memory { IfErr result (λ refusal. refusal ≡ Refusal.NoMemory) }
+    ensures memory { OnlyNoMemory result }
 {
     if !span.start.is_before(span.end) {
         return Ok(());
     }
-    let kinds = types_of(alloc, interval.payloads.as_slice())?;
-    add_types(touches, resource, span, kinds.as_slice())
+    let types = payload_types(alloc, interval.payloads.as_slice())?;
+    add_types(touches, resource, span, types.as_slice())
 }
 
-/// Adds the touches of intervals that lie there.
+// Two lists are walked in step.
 fn add_intervals(
     touches: &mut Vec<Touch>,
     alloc: Global,
@@ -102,7 +103,7 @@ fn add_intervals(
     places: &[Placed],
 ) -> Result<(), Refusal>
     ensures ok { OnOk result (touches.new.items ≡ touches.old.items ++ touches_along resource.now intervals.now (map (λ p. p.span) places.now)) }
-    ensures memory { IfErr result (λ refusal. refusal ≡ Refusal.NoMemory) }
+    ensures memory { OnlyNoMemory result }
 {
     let mut intervals = intervals;
     let mut places = places;
@@ -122,12 +123,12 @@ pub(crate) fn add_event(
     touches: &mut Vec<Touch>,
     alloc: Global,
     resource: &Id,
-    written: &Written,
+    applied: Applied<'_>,
 ) -> Result<(), Refusal>
-    ensures ok { OnOk result (touches.new.items ≡ touches.old.items ++ touches_of resource.now written.now) }
-    ensures memory { IfErr result (λ refusal. refusal ≡ Refusal.NoMemory) }
+    ensures ok { OnOk result (touches.new.items ≡ touches.old.items ++ touches_of resource.now (written_event applied.entry)) }
+    ensures memory { OnlyNoMemory result }
 {
-    let places = places(alloc, &written.event)?;
-    let intervals = written.event.intervals.as_slice();
+    let places = places(alloc, applied.event)?;
+    let intervals = applied.event.intervals.as_slice();
     add_intervals(touches, alloc, resource, intervals, places.as_slice())
 }

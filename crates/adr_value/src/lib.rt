@@ -26,6 +26,3 @@ pub use refusal::{Refusal, refusal_laws};
 pub use shielding::{shield, shield_laws};
 pub use text::{Name, Text};
 pub use try_clone::TryClone;
-
-#[cfg(test)]
-mod tests;

@@ -5,11 +5,15 @@ use Rattle.adr_options.proofs.laws.lines_by_the_grammar.Goals as goal
 pub returns : goal.returns
 unfolding clap_on_literals
 returns c = record {
-  plain = (refl, refl);
-  most = (refl, refl);
-  joined = (refl, refl);
-  no_word = lit< tt;
-  unknown = lit< tt;
-  no_worker = lit< tt;
-  too_many = lit< tt;
+  plain = λ p. (refl, refl);
+  most = λ p. (refl, refl);
+  joined = λ p. (refl, refl);
+  no_tie = λ p. refl;
+  newest = λ p. (refl, refl);
+  latest_start = λ p. (refl, refl, refl);
+  no_word = λ p. lit< tt;
+  unknown = λ p. lit< tt;
+  no_worker = λ p. lit< tt;
+  too_many = λ p. lit< tt;
+  no_rule = λ p. lit< tt;
 }

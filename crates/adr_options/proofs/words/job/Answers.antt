@@ -1,41 +1,57 @@
-use Rattle.std.proofs.Common.{◌≡◌, map, string_bytes, ap, ap₂, ◌∙◌, sym, true, refl, subst, arith, unwrap_or}
+use Rattle.std.proofs.Common.{rules, ◌≡◌, map, string_bytes, ap, ap₂, ◌∙◌, sym, true, refl, subst, arith, unwrap_or}
 use Rattle.std.specs.Str.Parse.{digits_value, without_leading_plus}
-use Rattle.adr_options.specs.declared.kind.Job.TheVariants.{Run}
-use Rattle.std.proofs.lemmas.Result.{err_from_is_err_and}
+use Rattle.std.proofs.lemmas.Result.{IfOk-from_err, err_from_is_err_and}
 use Rattle.clap.specs.Words.{HasKind, app_of, fault_of, is_simple, is_simple_and_free, subcommand_of}
 use Rattle.clap.proofs.OnLiterals.{clap_on_literals}
-use Rattle.adr_options.specs.Grammar.{adr_grammar, workers_in}
+use Rattle.adr_options.specs.Grammar.{Places, adr_grammar, tie_in, tie_named, workers_in}
+use Rattle.adr_options.specs.Task.{HasTheWorkers}
+use Rattle.adr_options.specs.declared.kind.Job.TheVariants.{Run}
 use Rattle.adr_options.proofs.words.job.Goals as goal
 
-is_free : is_simple_and_free adr_grammar ≡ true
+is_free : (places : Places) → is_simple_and_free (adr_grammar places) ≡ true
 unfolding clap_on_literals
-is_free = refl
+is_free places = refl
 
-simple : is_simple adr_grammar ≡ true
+simple : (places : Places) → is_simple (adr_grammar places) ≡ true
 unfolding clap_on_literals
-simple = refl
+simple places = refl
 
-pub returns-in_err-matches-clause-fault : goal.returns-in_err-matches-clause-fault
-returns-in_err-matches-clause-fault c =
+-- where nothing was parsed, for want of memory
+anywhere : Places
+anywhere = record { names = (0, 0); newest = (0, 0); latest_start = (0, 0) }
+
+pub returns-in_err-adr-clause-asked : goal.returns-in_err-adr-clause-asked
+returns-in_err-adr-clause-asked c = (anywhere, (search rules, IfOk-from_err _ _ c.from_residual.ensures.0))
+
+pub returns-in_err-matches-clause-asked : goal.returns-in_err-matches-clause-asked
+returns-in_err-matches-clause-asked c =
     let p = err_from_is_err_and c.from_residual-in_err-matches.result c.from_residual-in_err-matches.ensures.1 in
-    let is : app_of c.in_ok-adr.adr ≡ adr_grammar = c.in_ok-adr.ensures in
-    let words_are = ap (map string_bytes) c.as_slice.ensures.value in
-    rw (p.1, p.2)
-    (subst (λ kinds. HasKind kinds c.in_err-matches.field-0.0) (ap₂ fault_of is words_are) (c.in_err-matches.ensures.kinds (ap is_simple_and_free is ∙ is_free)))
+    let places = c.in_ok-adr.ensures.0 in
+    let is : app_of c.in_ok-adr.adr ≡ adr_grammar places = c.in_ok-adr.ensures.1 in
+    let words_are = ap (map string_bytes) c.as_slice.ensures.value in (
+      places,
+      (
+        rw (p.1, p.2)
+            (subst (λ kinds. HasKind kinds c.in_err-matches.field-0.0) (ap₂ fault_of is words_are) (c.in_err-matches.ensures.kinds (ap is_simple_and_free is ∙ is_free places))),
+        IfOk-from_err _ _ c.from_residual-in_err-matches.ensures.0,
+      ),
+    )
 
-pub returns-clause-fault : goal.returns-clause-fault
-returns-clause-fault c =
-    let is : app_of c.in_ok-adr.adr ≡ adr_grammar = c.in_ok-adr.ensures in
+pub returns-clause-asked : goal.returns-clause-asked
+returns-clause-asked c =
+    let places = c.in_ok-adr.ensures.0 in
+    let is : app_of c.in_ok-adr.adr ≡ adr_grammar places = c.in_ok-adr.ensures.1 in
     let words_are = ap (map string_bytes) c.as_slice.ensures.value in
-    sym (ap₂ fault_of is words_are) ∙ c.in_ok-matches.ensures.kinds (ap is_simple_and_free is ∙ is_free)
-
-pub returns-clause-workers : goal.returns-clause-workers
-returns-clause-workers c = λ text written numeral low high.
-    let is : app_of c.in_ok-adr.adr ≡ adr_grammar = c.in_ok-adr.ensures in
-    let words_are = ap (map string_bytes) c.as_slice.ensures.value in
-    let entered = (c.in_ok-matches.ensures.matches (ap is_simple is ∙ simple)).1 ∙ ap₂ subcommand_of is words_are in
+    let entered = (c.in_ok-matches.ensures.matches (ap is_simple is ∙ simple places)).1 ∙ ap₂ subcommand_of is words_are in
+    let workers : HasTheWorkers (adr_grammar places) (map string_bytes c.args.words.items) (Run c.clamp.result c.tie_of-tie.result) = λ text written numeral low high.
     let found = c.workers_of.ensures text (ap workers_in entered ∙ written) numeral (omega arith) in
     let number = digits_value 10 (without_leading_plus text) in
     let held : c.unwrap_or-workers.result ≡ number = c.unwrap_or-workers.ensures ∙ ap (λ o. unwrap_or o 1) found in
-    let same : c.clamp.result ≡ number = omega arith in
-    ap Run same
+    let same : c.clamp.result ≡ number = omega arith in same
+    in (
+      places,
+      (
+        sym (ap₂ fault_of is words_are) ∙ c.in_ok-matches.ensures.kinds (ap is_simple_and_free is ∙ is_free places),
+        (workers, c.tie_of-tie.ensures ∙ ap (λ own. tie_named (tie_in own)) entered),
+      ),
+    )

@@ -1,10 +1,7 @@
-use Rattle.std.proofs.Common.{◌≡◌, ◌++◌, length}
+use Rattle.std.proofs.Common.{◌≡◌, take}
 use Rattle.adr_model.specs.Answer.{bounds}
 use Rattle.adr_plain.proofs.governing.bounds.Given as goal
 
--- the moments so far, and then those of what is left
-abbrev pub invariant-rest : goal.invariant-rest
-invariant-rest l = l.moments.items ++ bounds l.rest ≡ bounds l.entries
-
-abbrev pub decreases-rest : goal.decreases-rest
-decreases-rest l = length l.rest
+-- the moments of the entries so far
+abbrev pub invariant-loop-entry : goal.invariant-loop-entry
+invariant-loop-entry l = l.moments.items ≡ bounds (take l.entry-index l.entries)

@@ -1,14 +1,11 @@
-use Rattle.std.proofs.Common.{◌≡◌, filter, length}
-use Rattle.adr_model.specs.Answer.{is_change, earliest, changes}
-use Rattle.adr_plain.proofs.Scanning.{earliest_onto}
+use Rattle.std.proofs.Common.{◌≡◌, filter, take}
+use Rattle.adr_model.specs.Answer.{is_change, earliest}
+use Rattle.adr_model.specs.Governor.{winner_at}
 use Rattle.adr_plain.proofs.governing.earliest_change.Given as goal
 
--- the earliest change among what is left and what was found
-abbrev pub invariant-rest : goal.invariant-rest
-invariant-rest l = record {
-  known : l.now ≡ Rattle.adr_model.specs.Governor.winner_at l.entries l.moment;
-  found : earliest_onto (filter (is_change l.entries l.moment) l.rest) l.end ≡ earliest (changes l.entries l.moment);
+-- the earliest change among the bounds so far
+abbrev pub invariant-loop-bound : goal.invariant-loop-bound
+invariant-loop-bound l = record {
+  known : l.now ≡ winner_at l.entries l.moment;
+  found : l.end ≡ earliest (filter (is_change l.entries l.moment) (take l.bound-index l.bounds));
 }
-
-abbrev pub decreases-rest : goal.decreases-rest
-decreases-rest l = length l.rest

@@ -1,17 +1,17 @@
 use Rattle.std.proofs.Common.{◌≡◌, refl, ap}
-use Rattle.std.specs.Prelude.{Result, Option, Some}
+use Rattle.std.specs.Prelude.{Result, Some}
 use Rattle.adr_value.specs.declared.refusal.Refusal.{Refusal}
 use Rattle.adr_model.specs.Book.{Book}
 use Rattle.adr_model.specs.Machine.{State, after_edit, last_book}
 use Rattle.adr_model.specs.Queries.{Query}
 use Rattle.adr_repair.proofs.Least.{governor_is_least}
 use Rattle.adr_server.specs.declared.command.Command.{Command}
-use Rattle.adr_server.specs.declared.command.Command.TheVariants.{Edit, Publish, Condense, At}
+use Rattle.adr_server.specs.declared.command.Command.TheVariants.{Edit, Publish, Condense, At, List as Listed, Roll, Types}
 use Rattle.adr_server.specs.Text.{query_of, reply_line, command_reply, command_next, reply_or, next_or}
 use Rattle.adr_server.proofs.laws.least_matching_interval_governs.Goals as goal
 
 pub returns-clause-governs : goal.returns-clause-governs
-returns-clause-governs c = λ s id kind t. governor_is_least s.tie (last_book s) id kind t
+returns-clause-governs c = λ s id payload_type t. governor_is_least s.tie (last_book s) id payload_type t
 
 pub returns-clause-refused_lines : goal.returns-clause-refused_lines
 returns-clause-refused_lines c = λ s line f e. (ap (reply_or (command_reply s)) e, ap (next_or s (command_next s)) e)
@@ -35,4 +35,7 @@ returns-clause-queries c = λ s command query e. by s command query e
     by s (Edit x) query e = absurd (cc)
     by s Publish query e = absurd (cc)
     by s Condense query e = absurd (cc)
-    by s (At id kind moment) query e = refl
+    by s (At id payload_type moment) query e = refl
+    by s (Listed id payload_type from to) query e = refl
+    by s (Roll payload_type moment) query e = refl
+    by s (Types id) query e = refl

@@ -1,6 +1,5 @@
 use Rattle.std.proofs.Common.{◌∙◌}
 use Rattle.std.proofs.lemmas.Result.{IfOk-weaker}
-use Rattle.adr_touches.specs.Objects.{book_of}
 use Rattle.adr_touches.proofs.Listed.{listed_touches, from_calls}
 use Rattle.adr_touches.proofs.listing.touches.Goals as goal
 
@@ -8,7 +7,7 @@ pub returns-clause-ok : goal.returns-clause-ok
 returns-clause-ok c =
     IfOk-weaker c.list_touches.result _ _
     (λ touches is. is
-    ∙ listed_touches (book_of c.args.old.now) (book_of c.args.new.now) c.as_slice.result.now c.as_slice-2.result.now
+    ∙ listed_touches c.args.old.now.objects c.args.new.now.objects c.as_slice.result.now c.as_slice-2.result.now
     (from_calls _ _ _ _ _ _ c.as_slice.ensures.value c.in_ok-resources.ensures.ok c.in_ok-resource_ids.ensures.ok c.in_ok-resource_ids-2.ensures.ok)
     (from_calls _ _ _ _ _ _ c.as_slice-2.ensures.value c.in_ok-events.ensures.ok c.in_ok-event_ids.ensures.ok c.in_ok-event_ids-2.ensures.ok))
     c.list_touches.ensures.ok

@@ -1,0 +1,12 @@
+-- What a clause sees of what is shown.
+use Rattle.std.specs.Prelude.{ℕ, List, ◌++◌, codes}
+use Rattle.std.specs.Fmt.{signed_decimal}
+use Rattle.adr_model.specs.Answer.{Shown, values_text}
+use Rattle.adr_calendar.specs.declared.lines.Shown.{Shown as Borrowed}
+
+abbrev pub shown_view : Borrowed → Shown
+shown_view s = record { event = s.event.now; interval = s.interval; values = s.values.now }
+
+-- ` event e1 interval 0 values 10`
+abbrev pub shown_text : Shown → List ℕ
+shown_text s = codes " event " ++ s.event ++ codes " interval " ++ signed_decimal s.interval ++ codes " " ++ values_text s.values

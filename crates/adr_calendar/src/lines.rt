@@ -1,0 +1,113 @@
+//! The lines of answers: a version, a state, a segment, a payload type.
+ghost use Rattle.std.specs.Prelude.{◌≡◌, ◌++◌, OnOk, codes, option_map};
+ghost use Rattle.std.specs.Fmt.{decimal};
+ghost use Rattle.std.specs.List.{list_all};
+ghost use Rattle.adr_value.specs.Answer.{OnlyNoMemory};
+ghost use Rattle.adr_time.specs.Text.{moment_text};
+ghost use Rattle.adr_model.specs.Answer.{state_text};
+ghost use Rattle.adr_model.specs.Queries.{is_bare_byte, segment_text, type_text};
+ghost use Rattle.adr_calendar.specs.Shown.{shown_text, shown_view};
+
+use crate::printing::{put, put_end, put_id, put_quoted, put_values};
+use adr_object::Id;
+use adr_time::{End, Moment, print_moment};
+use adr_value::{Datum, Refusal};
+
+/// What governs shows: the event's id, the interval's id, and the values of its first payload of the type.
+#[derive(Clone, Copy)]
+pub struct Shown<'a> {
+    pub event: &'a Id,
+    pub interval: i64,
+    pub values: &'a [Datum],
+}
+
+/// Appends `version 4`.
+pub fn put_version(out: &mut Vec<u8>, version: u64) -> Result<(), Refusal>
+    ensures ok { OnOk result (out.new.items ≡ out.old.items ++ (codes "version " ++ decimal version)) }
+    ensures memory { OnlyNoMemory result }
+{
+    let text = format!(in *out.allocator(); "version {version}")?;
+    put(out, text.as_bytes())
+}
+
+/// Appends what is shown and until when: `event e1 interval 0 until end values 10`, or `none until end`.
+pub fn put_state(out: &mut Vec<u8>, shown: Option<Shown<'_>>, end: End) -> Result<(), Refusal>
+    ensures ok { OnOk result (out.new.items ≡ out.old.items ++ state_text (option_map shown_view shown.entry) end) }
+    ensures memory { OnlyNoMemory result }
+{
+    let Some(shown) = shown else {
+        put(out, b"none until ")?;
+        return put_end(out, end);
+    };
+    put(out, b"event ")?;
+    put(out, shown.event.text().as_bytes())?;
+    put(out, b" interval ")?;
+    put_id(out, shown.interval)?;
+    put(out, b" until ")?;
+    put_end(out, end)?;
+    put(out, b" ")?;
+    put_values(out, shown.values)
+}
+
+/// Appends two moments, a space between them.
+fn put_moments(out: &mut Vec<u8>, start: Moment, end: Moment) -> Result<(), Refusal>
+    ensures ok { OnOk result (out.new.items ≡ out.old.items ++ (moment_text start ++ codes " " ++ moment_text end)) }
+    ensures memory { OnlyNoMemory result }
+{
+    print_moment(start, out)?;
+    put(out, b" ")?;
+    print_moment(end, out)
+}
+
+/// Appends what is shown behind a space: ` event e1 interval 0 values 10`.
+fn put_shown(out: &mut Vec<u8>, shown: Shown<'_>) -> Result<(), Refusal>
+    ensures ok { OnOk result (out.new.items ≡ out.old.items ++ shown_text (shown_view shown.entry)) }
+    ensures memory { OnlyNoMemory result }
+{
+    put(out, b" event ")?;
+    put(out, shown.event.text().as_bytes())?;
+    put(out, b" interval ")?;
+    put_id(out, shown.interval)?;
+    put(out, b" ")?;
+    put_values(out, shown.values)
+}
+
+/// Appends the line of a segment, its line feed too:
+/// `2024-01-01T00:00:00Z 2024-01-01T01:00:00Z event e1 interval 0 values 10`.
+pub fn put_segment(
+    out: &mut Vec<u8>,
+    start: Moment,
+    end: Moment,
+    shown: Shown<'_>,
+) -> Result<(), Refusal>
+    ensures ok { OnOk result (out.new.items ≡ out.old.items ++ segment_text start end (shown_view shown.entry)) }
+    ensures memory { OnlyNoMemory result }
+{
+    put_moments(out, start, end)?;
+    put_shown(out, shown)?;
+    put(out, b"\n")
+}
+
+fn may_stand_bare(byte: u8) -> bool
+    ensures { result ≡ is_bare_byte byte }
+{
+    (33..=126).contains(&byte) && byte != b'"'
+}
+
+fn is_bare(text: &str) -> bool
+    ensures { result ≡ list_all is_bare_byte text.now }
+{
+    text.as_bytes().iter().all(|byte| may_stand_bare(*byte))
+}
+
+/// Appends the name of a payload type: bare where each of its characters may stand bare, else in quotes.
+pub fn put_type(out: &mut Vec<u8>, name: &str) -> Result<(), Refusal>
+    ensures ok { OnOk result (out.new.items ≡ out.old.items ++ type_text name.now) }
+    ensures memory { OnlyNoMemory result }
+{
+    if is_bare(name) {
+        put(out, name.as_bytes())
+    } else {
+        put_quoted(out, name)
+    }
+}

@@ -1,0 +1,24 @@
+#![tactic(auto)]
+//! Tests of what goes over objects, by what public functions answer: ids, values, objects, layouts, targets, the book and
+//! the touches of an edit.
+
+#[cfg(test)]
+mod book;
+#[cfg(test)]
+mod condensing;
+#[cfg(test)]
+mod edits;
+#[cfg(test)]
+mod ids;
+#[cfg(test)]
+mod layouts;
+#[cfg(test)]
+mod objects;
+#[cfg(test)]
+mod reading;
+#[cfg(test)]
+mod targets;
+#[cfg(test)]
+mod touches;
+#[cfg(test)]
+mod values;

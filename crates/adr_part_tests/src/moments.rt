@@ -1,0 +1,129 @@
+//! Moments, as they are read and as they are printed.
+use crate::rows::row;
+use adr_time::{Moment, print_moment, read_moment, read_start};
+use adr_value::Refusal;
+use std::alloc::Global;
+use std::test::Fail;
+
+pub(crate) const LAST: i128 = 253_402_207_200_999_999_999;
+
+const FIRST: i128 = -377_705_023_201_000_000_000;
+
+pub(crate) fn at(nanoseconds: i128) -> Moment {
+    match Moment::of(nanoseconds) {
+        Some(moment) => moment,
+        None => Moment::MIN,
+    }
+}
+
+fn is_kept(nanoseconds: i128) -> bool {
+    at(nanoseconds).nanoseconds() == nanoseconds
+}
+
+#[test]
+fn moments_are_numbers_in_range(rt: HostRuntime) {
+    assert!(rt; is_kept(-1) && is_kept(LAST) && is_kept(FIRST));
+    assert!(rt; Moment::of(LAST + 1).is_none() && Moment::of(FIRST - 1).is_none());
+    assert_eq!(rt; Moment::first().nanoseconds(), FIRST);
+}
+
+/// The nanoseconds of a moment, or the refusal, and the text of it.
+const MOMENTS: &str = "1000000000 = 1970-01-01T00:00:01Z
+0 = 1970-01-01T01:00:00+01:00
+0 = 1969-12-31T19:00:00-05:00
+1 = 1970-01-01T00:00:00.000000001Z
+500000000 = 1970-01-01 00:00:00,5z
+1000000000 = 19700101T000001Z
+0 = 1970-01-01T00Z
+-1000000000 = 1969-12-31T23:59:60Z
+0 = 1970-01-01T01:00:00+01:00[Europe/Paris]
+0 = 1970-01-01T00:00:00Z[note=any]
+-62167219200000000000 = 0000-01-01T00:00:00Z
+-62198755200000000000 = -000001-01-01T00:00:00Z
+-377705023201000000000 = -009999-01-02T01:59:59Z
+253402207200999999999 = 9999-12-30T22:00:00.999999999Z
+BadMoment = 
+BadMoment = noon
+BadMoment = 0000-00-00
+BadMoment = 1970-01-01
+BadMoment = 1970-01-01T00:00:00
+BadMoment = 1970-01-01T00:00:00Z 
+BadMoment = 1970-01-01T00:00:00Z[!note=any]
+BadMoment = 1970-02-30T00:00:00Z
+BadMoment = -000000-01-01T00:00:00Z
+BadMoment = -009999-01-02T01:59:58Z
+BadMoment = 9999-12-30T22:00:01Z";
+
+/// The same for a start, in an edit at 5 nanoseconds.
+const STARTS: &str = "5 = 0000-00-00
+5 = 0000-00-00T00:00:00
+5 = 0000-00-00T00:00:00Z
+1000000000 = 1970-01-01T00:00:01Z
+BadDateTime = 0000-00-00t00:00:00Z
+BadDateTime = tomorrow";
+
+/// Whether a text was read as is wanted: as a moment with these nanoseconds, or refused by this name.
+fn is_answer(answer: Result<Moment, Refusal>, wanted: &str) -> bool {
+    match answer {
+        Ok(moment) => wanted.parse::<i128>() == Ok(moment.nanoseconds()),
+        Err(refusal) => refusal.name() == wanted,
+    }
+}
+
+#[test]
+fn moments_are_read(rt: HostRuntime) -> Result<(), Fail> {
+    for line in MOMENTS.lines() {
+        let (wanted, text) = row(line)?;
+        assert!(rt; is_answer(read_moment(text), wanted), "{line}");
+    }
+    Ok(())
+}
+
+#[test]
+fn starts_are_read(rt: HostRuntime) -> Result<(), Fail> {
+    for line in STARTS.lines() {
+        let (wanted, text) = row(line)?;
+        assert!(rt; is_answer(read_start(text, at(5)), wanted), "{line}");
+    }
+    Ok(())
+}
+
+/// What is printed of a moment of so many nanoseconds.
+const PRINTED: &str = "1970-01-01T00:00:00.5Z = 500000000
+1969-12-31T23:59:59.999999999Z = -1
+1970-01-01T00:00:00Z = 0
+0000-01-01T00:00:00Z = -62167219200000000000
+-000001-01-01T00:00:00Z = -62198755200000000000
+-009999-01-02T01:59:59Z = -377705023201000000000
+9999-12-30T22:00:00.999999999Z = 253402207200999999999";
+
+pub(crate) fn prints(alloc: Global, moment: Moment, wanted: &str) -> Result<bool, Refusal> {
+    let mut out = Vec::new(alloc);
+    print_moment(moment, &mut out)?;
+    Ok(out.as_slice() == wanted.as_bytes())
+}
+
+#[test]
+fn moments_are_printed(rt: HostRuntime) -> Result<(), Fail> {
+    for line in PRINTED.lines() {
+        let (wanted, nanoseconds) = row(line)?;
+        let moment = at(nanoseconds.parse::<i128>()?);
+        assert!(rt; prints(rt.alloc(), moment, wanted)?, "{line}");
+    }
+    Ok(())
+}
+
+/// Whether a second moment is printed after the first.
+fn appends(alloc: Global) -> Result<bool, Refusal> {
+    let mut out = Vec::new(alloc);
+    print_moment(at(0), &mut out)?;
+    print_moment(at(1), &mut out)?;
+    let wanted = "1970-01-01T00:00:00Z1970-01-01T00:00:00.000000001Z";
+    Ok(out.as_slice() == wanted.as_bytes())
+}
+
+#[test]
+fn printing_appends(rt: HostRuntime) -> Result<(), Fail> {
+    assert!(rt; appends(rt.alloc())?);
+    Ok(())
+}

@@ -1,0 +1,65 @@
+//! Bodies behind the shield.
+use adr_value::{Refusal, shield, shield_laws};
+use std::alloc::Global;
+use std::test::Fail;
+
+/// Bodies, and what they are behind the shield.
+const BODIES: &str = r#"[0.17] => ["\u00000.17"]
+{"a":"1"} => {"a":"1"}
+{"a\"1":-1} => {"a\"1":"\u0000-1"}
+["\\u0000"] => ["\\u0000"]
++1 => +"\u00001"
+"abc => "abc
+"abc\ => "abc\
+ => 
+[1,2e1] => ["\u00001","\u00002e1"]
+{"a":1 , "b":true} => {"a":"\u00001" , "b":true}"#;
+
+fn is_shielded(alloc: Global, line: &str) -> Result<bool, Refusal> {
+    let (body, wanted) = line.split_once(" => ").ok_or(Refusal::BadLine)?;
+    let shielded = shield(alloc, body.as_bytes())?;
+    Ok(shielded.as_slice() == wanted.as_bytes())
+}
+
+#[test]
+fn bodies_are_shielded(rt: HostRuntime) -> Result<(), Fail> {
+    for line in BODIES.lines() {
+        assert!(rt; is_shielded(rt.alloc(), line)?, "{line}");
+    }
+    Ok(())
+}
+
+fn shielded_length(alloc: Global, body: &str) -> Result<usize, Refusal> {
+    Ok(shield(alloc, body.as_bytes())?.len())
+}
+
+#[test]
+fn a_shielded_number_takes_eight_bytes_more(rt: HostRuntime) -> Result<(), Fail> {
+    assert_eq!(rt; shielded_length(rt.alloc(), "[0.17]")?, 14);
+    shield_laws();
+    Ok(())
+}
+
+/// Bodies that are refused, parted by bars.
+const REFUSED: &str = "{1 :2}|[\"\\u0000\"]|{\"a\":1,1.5:2}|{\"a\":1,1.5\t\r\n :2}|\
+{\"programName\":\"P\",\"n\":01}|[1e99]|[1.]|-|[\"\\\\\\u0000\"]|\"a\\u0000";
+
+#[test]
+fn bad_bodies_are_refused(rt: HostRuntime) {
+    for body in REFUSED.split('|') {
+        let refused = shielded_length(rt.alloc(), body);
+        assert!(rt; refused == Err(Refusal::BadNumber), "{body}");
+    }
+}
+
+/// How long the shielded text of a body of four megabytes is.
+fn length_of_four_megabytes(alloc: Global) -> Result<usize, Refusal> {
+    let body = "[1,\"\\\"2\"] ".repeat(alloc, 400_000)?;
+    shielded_length(alloc, body.as_str())
+}
+
+#[test]
+fn a_body_of_four_megabytes_is_shielded(rt: HostRuntime) -> Result<(), Fail> {
+    assert_eq!(rt; length_of_four_megabytes(rt.alloc())?, 7_200_000);
+    Ok(())
+}
