@@ -5,7 +5,6 @@ mod body;
 mod element;
 mod elements;
 mod event;
-mod kinds;
 mod lists;
 mod members;
 mod name;
@@ -14,5 +13,6 @@ mod period;
 mod read;
 mod skip;
 mod text;
+mod values;
 
 pub use read::{limit_laws, read_event, read_program, read_resource, read_ven};

@@ -8,6 +8,7 @@ mod line;
 mod machine;
 mod program;
 mod replies;
+mod resolver;
 
 pub use adr_model::Tie;
 pub use adr_options::{Job, job};
@@ -16,3 +17,4 @@ pub use command::Command;
 pub use laws::{fan_laws, least_matching_interval_governs, limit_laws};
 pub use line::parse_line;
 pub use program::{run, run_logged};
+pub use resolver::Resolver;

@@ -1,7 +1,6 @@
-//! The plain machine, as what answers a script's lines.
+//! A resolver, as what answers a script's lines.
 ghost use Rattle.std.specs.Prelude.{◌≡◌, ◌≢◌, ◌≤◌, [], OnOk, OnErr, vec_capacity};
 ghost use Rattle.adr_value.specs.Answer.{result_map};
-ghost use Rattle.adr_plain.specs.Kept.{kept_start};
 ghost use Rattle.adr_server.specs.declared.command.Command.TheVariants.{Edit as EditCommand, Publish as PublishCommand, Condense as CondenseCommand, At as AtCommand, List as ListCommand, Roll as RollCommand, Types as TypesCommand};
 ghost use Rattle.adr_server.specs.Kept.{kept_command_reply, kept_command_next};
 ghost use Rattle.adr_server.specs.Text.{answer_line};
@@ -9,39 +8,35 @@ ghost use Rattle.adr_server.specs.Text.{answer_line};
 use crate::command::Command;
 use crate::line::parse_line;
 use crate::replies::{put_answer, put_condensed, put_ok, put_published, put_refusal};
-use adr_model::Tie;
+use crate::resolver::Resolver;
 use adr_object::{Edit, Id};
-use adr_plain::Plain;
 use adr_script::{Machine, Unanswered};
 use adr_time::Moment;
 use adr_value::{PayloadType, Refusal};
-use std::alloc::Global;
 use std::marker::Model;
 use std::sync::Wait;
 use std::thread::Threads;
 
-/// Answers a script's lines from the plain machine.
+/// Answers a script's lines from a resolver.
 #[derive(Drop)]
-pub(crate) struct PlainScript {
-    plain: Plain,
+pub(crate) struct ScriptOf<R: Resolver> {
+    resolver: R,
 }
 
-impl Model for PlainScript {
+impl<R: Resolver> Model for ScriptOf<R> {
     ghost use Rattle.adr_plain.specs.Kept.{Kept};
 
     ghost Value = { Kept };
 
-    ghost view = { λ s. s.plain };
+    ghost view = { λ s. R.kept s.resolver };
 }
 
-impl PlainScript {
-    /// No objects, published as number 0.
-    pub(crate) fn new(alloc: Global, tie: Tie) -> PlainScript
-        ensures { result ≡ kept_start tie }
+impl<R: Resolver> ScriptOf<R> {
+    /// A script over the resolver as it is.
+    pub(crate) fn new(resolver: R) -> ScriptOf<R>
+        ensures { result ≡ R.kept resolver }
     {
-        PlainScript {
-            plain: Plain::new(alloc, tie),
-        }
+        ScriptOf { resolver }
     }
 
     /// Makes an edit.
@@ -53,7 +48,7 @@ impl PlainScript {
         ensures err { OnErr result ((self.new ≡ self.old) × (result ≡ Err Unanswered.NoMemory)) }
         ensures room { 64 ≤ vec_capacity reply.new }
     {
-        match self.plain.edit(edit) {
+        match self.resolver.edit(edit) {
             Ok(version) => put_ok(reply, version),
             Err(refusal) => {
                 if refusal == Refusal::NoMemory {
@@ -74,7 +69,7 @@ impl PlainScript {
         ensures err { OnErr result ((self.new ≡ self.old) × (result ≡ Err Unanswered.NoMemory)) }
         ensures room { 64 ≤ vec_capacity reply.new }
     {
-        match self.plain.publish() {
+        match self.resolver.publish() {
             Ok(published) => put_published(reply, published.number, published.version),
             Err(refusal) => {
                 if refusal == Refusal::NoMemory {
@@ -95,7 +90,7 @@ impl PlainScript {
         ensures err { OnErr result ((self.new ≡ self.old) × (result ≡ Err Unanswered.NoMemory)) }
         ensures room { 64 ≤ vec_capacity reply.new }
     {
-        match self.plain.condense() {
+        match self.resolver.condense() {
             Ok(version) => {
                 put_condensed(reply, version);
                 Ok(())
@@ -118,7 +113,7 @@ impl PlainScript {
         ensures err { OnErr result (result ≡ Err Unanswered.NoMemory) }
         ensures room { 64 ≤ vec_capacity reply.new }
     {
-        put_answer_or_refusal(reply, self.plain.at(id, payload_type, moment))
+        put_answer_or_refusal(reply, self.resolver.at(id, payload_type, moment))
     }
 
     /// Answers what governs from a moment to before another.
@@ -136,7 +131,7 @@ impl PlainScript {
         ensures err { OnErr result (result ≡ Err Unanswered.NoMemory) }
         ensures room { 64 ≤ vec_capacity reply.new }
     {
-        put_answer_or_refusal(reply, self.plain.list(id, payload_type, from, to))
+        put_answer_or_refusal(reply, self.resolver.list(id, payload_type, from, to))
     }
 
     /// Answers what governs each resource.
@@ -152,7 +147,7 @@ impl PlainScript {
         ensures err { OnErr result (result ≡ Err Unanswered.NoMemory) }
         ensures room { 64 ≤ vec_capacity reply.new }
     {
-        put_answer_or_refusal(reply, self.plain.roll(payload_type, moment))
+        put_answer_or_refusal(reply, self.resolver.roll(payload_type, moment))
     }
 
     /// Answers which payload types govern a resource.
@@ -163,7 +158,7 @@ impl PlainScript {
         ensures err { OnErr result (result ≡ Err Unanswered.NoMemory) }
         ensures room { 64 ≤ vec_capacity reply.new }
     {
-        put_answer_or_refusal(reply, self.plain.types(id))
+        put_answer_or_refusal(reply, self.resolver.types(id))
     }
 }
 
@@ -191,7 +186,7 @@ fn put_answer_or_refusal(
     Ok(())
 }
 
-impl Machine for PlainScript {
+impl<R: Resolver> Machine for ScriptOf<R> {
     ghost use Rattle.std.specs.Prelude.{List, ℕ};
     ghost use Rattle.adr_script.specs.Text.{AnswersBy};
     ghost use Rattle.adr_server.specs.Kept.{kept_reply, kept_next};

@@ -7,8 +7,9 @@ ghost use Rattle.adr_script.specs.Script.{Moves};
 ghost use Rattle.adr_script.specs.Text.{IsText, IsTextInPart};
 ghost use Rattle.adr_server.specs.Text.{script_reply, script_next, script_start};
 
-use crate::machine::PlainScript;
+use crate::machine::ScriptOf;
 use adr_model::Tie;
+use adr_plain::Plain;
 use adr_script::{Fault, ReadLog, WriteLog, serve};
 use std::io::{Read, Write};
 use std::sync::Wait;
@@ -106,6 +107,6 @@ pub fn run_logged<R: Read, W: Write>(
     ensures write_failed { IsErrOf result Fault.Writing → has_write_failed writes.new ≡ true }
 {
     let _ = workers;
-    let mut machine = PlainScript::new(rt.alloc(), tie);
+    let mut machine = ScriptOf::new(Plain::new(rt.alloc(), tie));
     serve(rt, reader, reads, writer, writes, &mut machine)
 }

@@ -5,7 +5,7 @@ use Rattle.clap.specs.Words.{HasKind, app_of, fault_of, is_simple, is_simple_and
 use Rattle.clap.proofs.OnLiterals.{clap_on_literals}
 use Rattle.adr_options.specs.Grammar.{Places, adr_grammar, tie_in, tie_named, workers_in}
 use Rattle.adr_options.specs.Task.{HasTheWorkers}
-use Rattle.adr_options.specs.declared.kind.Job.TheVariants.{Run}
+use Rattle.adr_options.specs.declared.jobs.Job.TheVariants.{Run}
 use Rattle.adr_options.proofs.words.job.Goals as goal
 
 is_free : (places : Places) → is_simple_and_free (adr_grammar places) ≡ true

@@ -1,4 +1,4 @@
-use Rattle.std.proofs.Common.{◌≡◌, List, ℕ}
+use Rattle.std.proofs.Common.{◌≡◌, ◌∙◌, List, ℕ}
 use Rattle.std.proofs.lemmas.Result.{on_ok_weaker}
 use Rattle.adr_script.specs.Lines.{all_lines, complete_lines}
 use Rattle.adr_script.specs.Script.{Told, IsToldInPart}
@@ -8,13 +8,13 @@ use Rattle.adr_server.proofs.Journals.{told_text, told_text_in_part}
 use Rattle.adr_server.proofs.program.run_logged.Goals as goal
 
 pub returns-clause-ok : goal.returns-clause-ok
-returns-clause-ok g c = on_ok_weaker c.serve.result (moves_weaker _ _ _ _ _ _ (λ bytes out h. told_text _ _ _ _ out c.new-machine.ensures h)) c.serve.ensures.ok
+returns-clause-ok g c = on_ok_weaker c.serve.result (moves_weaker _ _ _ _ _ _ (λ bytes out h. told_text _ _ _ _ out (c.new-machine.ensures ∙ c.new.ensures) h)) c.serve.ensures.ok
 
 pub returns-clause-reading : goal.returns-clause-reading
-returns-clause-reading g c = λ failed. moves_weaker _ _ _ _ _ _ (λ bytes out h. told_text _ _ _ _ out c.new-machine.ensures h) (c.serve.ensures.reading failed)
+returns-clause-reading g c = λ failed. moves_weaker _ _ _ _ _ _ (λ bytes out h. told_text _ _ _ _ out (c.new-machine.ensures ∙ c.new.ensures) h) (c.serve.ensures.reading failed)
 
 pub returns-clause-reads : goal.returns-clause-reads
-returns-clause-reads g c = λ failed. moves_weaker _ _ _ _ _ _ (λ bytes out h. told_text _ _ _ _ out c.new-machine.ensures h) (c.serve.ensures.reads failed)
+returns-clause-reads g c = λ failed. moves_weaker _ _ _ _ _ _ (λ bytes out h. told_text _ _ _ _ out (c.new-machine.ensures ∙ c.new.ensures) h) (c.serve.ensures.reads failed)
 
 pub returns-clause-writing : goal.returns-clause-writing
-returns-clause-writing g c = λ failed. moves_weaker _ _ _ _ _ _ (λ bytes out h. told_text_in_part _ _ _ _ out c.new-machine.ensures h) (c.serve.ensures.writing failed)
+returns-clause-writing g c = λ failed. moves_weaker _ _ _ _ _ _ (λ bytes out h. told_text_in_part _ _ _ _ out (c.new-machine.ensures ∙ c.new.ensures) h) (c.serve.ensures.writing failed)

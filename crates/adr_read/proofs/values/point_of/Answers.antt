@@ -6,7 +6,7 @@ use Rattle.adr_value.specs.declared.datum.Datum.TheVariants.{Point}
 use Rattle.adr_read.specs.Sets.{required}
 use Rattle.adr_read.specs.Values.{number_faults, number_in}
 use Rattle.adr_read.proofs.Parts.{anywhere}
-use Rattle.adr_read.proofs.kinds.point_of.Goals as goal
+use Rattle.adr_read.proofs.values.point_of.Goals as goal
 
 pub returns : goal.returns
 returns c o p h k =

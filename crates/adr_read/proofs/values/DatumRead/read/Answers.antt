@@ -4,7 +4,7 @@ use Rattle.serde_json.specs.Data.{boolean, string}
 use Rattle.adr_read.specs.Coming.{coming}
 use Rattle.adr_read.proofs.ComingLemmas.{coming-boolean, coming-string, coming_begins}
 use Rattle.adr_read.proofs.Telling.{no_datum}
-use Rattle.adr_read.proofs.kinds.DatumRead.read.Goals as goal
+use Rattle.adr_read.proofs.values.DatumRead.read.Goals as goal
 
 pub returns-in-Bool : goal.returns-in-Bool
 returns-in-Bool c =
