@@ -1,8 +1,14 @@
 #![tactic(auto)]
-//! How answers are printed: values, moments, states, segments and types, once for every resolver that answers queries.
+//! The answers to queries, printed from what any published book offers: who governs, until when, and which segments.
 
+mod answers;
+mod calendar;
+mod laws;
 mod lines;
 mod printing;
+mod shown;
 
-pub use lines::{Shown, put_segment, put_state, put_type, put_version};
-pub use printing::put;
+pub use answers::{at, list, roll, types};
+pub use calendar::{Calendar, State};
+pub use laws::list_laws;
+pub use lines::cut;

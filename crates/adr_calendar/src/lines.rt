@@ -5,7 +5,7 @@ ghost use Rattle.std.specs.List.{list_all};
 ghost use Rattle.adr_value.specs.Answer.{OnlyNoMemory};
 ghost use Rattle.adr_time.specs.Text.{moment_text};
 ghost use Rattle.adr_model.specs.Answer.{state_text};
-ghost use Rattle.adr_model.specs.Queries.{is_bare_byte, segment_text, type_text};
+ghost use Rattle.adr_model.specs.Queries.{end_within, is_bare_byte, segment_text, type_text};
 ghost use Rattle.adr_calendar.specs.Shown.{shown_text, shown_view};
 
 use crate::printing::{put, put_end, put_id, put_quoted, put_values};
@@ -70,6 +70,22 @@ fn put_shown(out: &mut Vec<u8>, shown: Shown<'_>) -> Result<(), Refusal>
     put_id(out, shown.interval)?;
     put(out, b" ")?;
     put_values(out, shown.values)
+}
+
+/// Where a segment's line ends: at its end, or at the window's if that is earlier.
+pub fn cut(to: Moment, end: End) -> Moment
+    ensures { result ≡ end_within to end }
+{
+    match end {
+        End::At(moment) => {
+            if moment.nanoseconds() < to.nanoseconds() {
+                moment
+            } else {
+                to
+            }
+        }
+        End::Endless => to,
+    }
 }
 
 /// Appends the line of a segment, its line feed too:

@@ -9,7 +9,7 @@ use Rattle.adr_model.specs.declared.written.Written.{Written}
 use Rattle.adr_model.specs.Book.{Book, resource_by}
 use Rattle.adr_model.specs.Governor.{applies_to, entries_for, entries_of}
 use Rattle.adr_plain.specs.Scan.{entries_if_applied}
-use Rattle.adr_plain.proofs.Walked.{flat_map-filter}
+use Rattle.adr_calendar.proofs.Walked.{flat_map-filter}
 
 -- of a resource that is there, those of all events
 pub all_applied : (book : Book) (id : List ℕ) (kind : PayloadType) (resource : Resource) (n : ℕ)

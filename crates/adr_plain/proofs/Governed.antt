@@ -1,11 +1,11 @@
 -- The types that govern, from the ranked entries; the table by its codes.
-use Rattle.std.proofs.Common.{append_assoc, ◌≡◌, ℕ, zero, suc, ◌+◌, ◌==◌, Bool, true, false, ◌||◌, cond, List, [], ◌∷◌, ◌++◌, take, map, slice_get, refl, sym, ap, ◌∙◌, arith}
-use Rattle.std.specs.Prelude.{⊤, Option, Some, None, find, is_some, codes}
+use Rattle.std.proofs.Common.{append_assoc, ◌≡◌, ℕ, zero, suc, ◌+◌, ◌==◌, Bool, true, false, ◌||◌, cond, List, [], ◌∷◌, ◌++◌, take, map, filter, slice_get, refl, sym, ap, ◌∙◌, arith}
+use Rattle.std.specs.Prelude.{⊤, Option, Some, None, find, is_some}
 use Rattle.std.specs.Cmp.Lexicographic.{slice_cmp}
 use Rattle.std.specs.List.{flat_map, list_any}
 use Rattle.std.specs.Option.{option_map, option_map_or}
 use Rattle.std.specs.Ordering.{nat_cmp}
-use Rattle.adr_value.specs.Payload.{Row, name_of, of_code, table}
+use Rattle.adr_value.specs.Payload.{Row, of_code, table}
 use Rattle.adr_value.specs.declared.payload.PayloadType.{PayloadType}
 use Rattle.adr_value.specs.declared.payload.PayloadType.TheVariants.{Private}
 use Rattle.adr_model.specs.declared.entry.Entry.{Entry}
@@ -14,11 +14,11 @@ use Rattle.adr_model.specs.declared.timeline.Winner.{Winner}
 use Rattle.std.specs.Prelude.{ℤ}
 use Rattle.adr_model.specs.Book.{Book}
 use Rattle.adr_model.specs.Governor.{entries_for, ranked_entries, winner_at}
-use Rattle.adr_model.specs.Queries.{governing_types, in_order, is_governed, private_names, type_text, types_in_order}
+use Rattle.adr_model.specs.Queries.{governing_types, in_order, is_governed, private_names, types_in_order}
 use Rattle.adr_model.specs.Rank.{ranked}
 use Rattle.adr_model.proofs.Ranked.{governs_winners}
-use Rattle.adr_plain.specs.Scan.{type_line}
-use Rattle.adr_plain.proofs.Walked.{flat_map-filter, one_more}
+use Rattle.adr_plain.specs.Scan.{type_if_governed}
+use Rattle.adr_calendar.proofs.Walked.{one_more}
 
 any-ranked : (tie : Tie) (p : ℤ → Bool) (es : List Entry) → list_any (λ e. p e.span.start) (map (ranked tie) es) ≡ list_any (λ e. p e.span.start) es
 any-ranked tie p [] = refl
@@ -56,59 +56,69 @@ row_of_code n =
     let same : n ≡ 0 + n = omega (arith) in
     ap (λ m. find (λ (r : Row). m == r.code) table) same ∙ row_by_code table 0 n table_is_numbered
 
-type_by_code : (f : PayloadType → List ℕ) (o : Option Row) → option_map_or f (option_map (λ (r : Row). r.case) o) [] ≡ option_map_or (λ (r : Row). f r.case) o []
+type_by_code : {X : Type 0} (f : PayloadType → List X) (o : Option Row) → option_map_or f (option_map (λ (r : Row). r.case) o) [] ≡ option_map_or (λ (r : Row). f r.case) o []
 type_by_code f (Some r) = refl
 type_by_code f None = refl
 
 -- one code more of the table
-pub one_more_of_table : (f : PayloadType → List ℕ) (n : ℕ)
+pub one_more_of_table : {X : Type 0} (f : PayloadType → List X) (n : ℕ)
     → flat_map (λ (r : Row). f r.case) (take (n + 1) table)
     ≡ flat_map (λ (r : Row). f r.case) (take n table) ++ option_map_or f (of_code n) []
 one_more_of_table f n =
     one_more (λ (r : Row). f r.case) table n
-    ∙ ap (λ bytes. flat_map (λ (r : Row). f r.case) (take n table) ++ bytes)
+    ∙ ap (λ found. flat_map (λ (r : Row). f r.case) (take n table) ++ found)
     (sym (type_by_code f (slice_get table n)) ∙ ap (λ (o : Option Row). option_map_or f (option_map (λ (r : Row). r.case) o) []) (sym (row_of_code n)))
 
-pub table_walked_on : (f : PayloadType → List ℕ) (start before later : List ℕ) (n : ℕ)
+pub table_walked_on : {X : Type 0} (f : PayloadType → List X) (start before later : List X) (n : ℕ)
     → before ≡ start ++ flat_map (λ (r : Row). f r.case) (take n table) → later ≡ before ++ option_map_or f (of_code n) []
     → later ≡ start ++ flat_map (λ (r : Row). f r.case) (take (n + 1) table)
 table_walked_on f start before later n so_far grown =
     grown
-    ∙ ap (λ bytes. bytes ++ option_map_or f (of_code n) []) so_far
+    ∙ ap (λ found. found ++ option_map_or f (of_code n) []) so_far
     ∙ append_assoc start (flat_map (λ (r : Row). f r.case) (take n table)) (option_map_or f (of_code n) [])
-    ∙ ap (λ bytes. start ++ bytes) (sym (one_more_of_table f n))
+    ∙ ap (λ found. start ++ found) (sym (one_more_of_table f n))
 
-lines_of_cases : (f : PayloadType → List ℕ) (rows : List Row) (rest : List PayloadType)
+types_of_cases : {X : Type 0} (f : PayloadType → List X) (rows : List Row) (rest : List PayloadType)
     → flat_map f (map (λ (r : Row). r.case) rows ++ rest) ≡ flat_map (λ (r : Row). f r.case) rows ++ flat_map f rest
-lines_of_cases f [] rest = refl
-lines_of_cases f (r ∷ rows) rest =
-    ap (λ bytes. f r.case ++ bytes) (lines_of_cases f rows rest)
+types_of_cases f [] rest = refl
+types_of_cases f (r ∷ rows) rest =
+    ap (λ found. f r.case ++ found) (types_of_cases f rows rest)
     ∙ sym (append_assoc (f r.case) (flat_map (λ (s : Row). f s.case) rows) (flat_map f rest))
 
-lines_of_names : (f : PayloadType → List ℕ) (names : List (List ℕ)) → flat_map f (map Private names) ≡ flat_map (λ name. f (Private name)) names
-lines_of_names f [] = refl
-lines_of_names f (name ∷ names) = ap (λ bytes. f (Private name) ++ bytes) (lines_of_names f names)
+types_of_names : {X : Type 0} (f : PayloadType → List X) (names : List (List ℕ)) → flat_map f (map Private names) ≡ flat_map (λ name. f (Private name)) names
+types_of_names f [] = refl
+types_of_names f (name ∷ names) = ap (λ found. f (Private name) ++ found) (types_of_names f names)
 
--- the lines of the table's types and then of the private ones are those of all types that govern
+-- what passes a test, one by one
+filter_by_one : {X : Type 0} (p : X → Bool) (xs : List X) → flat_map (λ x. cond (p x) (x ∷ []) []) xs ≡ filter p xs
+filter_by_one p [] = refl
+filter_by_one p (x ∷ xs) = by (p x) (filter_by_one p xs)
+  where
+    by : (b : Bool) → flat_map (λ y. cond (p y) (y ∷ []) []) xs ≡ filter p xs
+        → cond b (x ∷ []) [] ++ flat_map (λ y. cond (p y) (y ∷ []) []) xs ≡ cond b (x ∷ filter p xs) (filter p xs)
+    by true rest = ap (λ ys. x ∷ ys) rest
+    by false rest = rest
+
+-- the table's types and then the private ones are all types that govern
 all_types : (tie : Tie) (book : Book) (id : List ℕ)
-    → flat_map (λ (r : Row). type_line tie book id r.case) table
-    ++ flat_map (λ name. type_line tie book id (Private name)) (in_order (slice_cmp nat_cmp) (private_names book))
-    ≡ flat_map (λ kind. type_text (name_of kind) ++ codes "\n") (governing_types tie book id)
+    → flat_map (λ (r : Row). type_if_governed tie book id r.case) table
+    ++ flat_map (λ name. type_if_governed tie book id (Private name)) (in_order (slice_cmp nat_cmp) (private_names book))
+    ≡ governing_types tie book id
 unfolding governing_types
 all_types tie book id =
     let names = in_order (slice_cmp nat_cmp) (private_names book) in
-    ap (λ bytes. flat_map (λ (r : Row). type_line tie book id r.case) table ++ bytes) (sym (lines_of_names (type_line tie book id) names))
-    ∙ sym (lines_of_cases (type_line tie book id) table (map Private names))
-    ∙ sym (flat_map-filter (λ kind. type_text (name_of kind) ++ codes "\n") (is_governed tie book id) (types_in_order book))
+    ap (λ found. flat_map (λ (r : Row). type_if_governed tie book id r.case) table ++ found) (sym (types_of_names (type_if_governed tie book id) names))
+    ∙ sym (types_of_cases (type_if_governed tie book id) table (map Private names))
+    ∙ filter_by_one (is_governed tie book id) (types_in_order book)
 
-pub types_written : (tie : Tie) (book : Book) (id : List ℕ) (names : List (List ℕ)) (start middle end : List ℕ)
+pub types_added : (tie : Tie) (book : Book) (id : List ℕ) (names : List (List ℕ)) (start middle end : List PayloadType)
     → names ≡ in_order (slice_cmp nat_cmp) (private_names book)
-    → middle ≡ start ++ flat_map (λ (r : Row). type_line tie book id r.case) table
-    → end ≡ middle ++ flat_map (λ name. type_line tie book id (Private name)) names
-    → end ≡ start ++ flat_map (λ kind. type_text (name_of kind) ++ codes "\n") (governing_types tie book id)
-types_written tie book id names start middle end ordered first then =
+    → middle ≡ start ++ flat_map (λ (r : Row). type_if_governed tie book id r.case) table
+    → end ≡ middle ++ flat_map (λ name. type_if_governed tie book id (Private name)) names
+    → end ≡ start ++ governing_types tie book id
+types_added tie book id names start middle end ordered first then =
     then
-    ∙ ap (λ (ns : List (List ℕ)). middle ++ flat_map (λ name. type_line tie book id (Private name)) ns) ordered
-    ∙ ap (λ bytes. bytes ++ flat_map (λ name. type_line tie book id (Private name)) (in_order (slice_cmp nat_cmp) (private_names book))) first
-    ∙ append_assoc start (flat_map (λ (r : Row). type_line tie book id r.case) table) (flat_map (λ name. type_line tie book id (Private name)) (in_order (slice_cmp nat_cmp) (private_names book)))
-    ∙ ap (λ bytes. start ++ bytes) (all_types tie book id)
+    ∙ ap (λ (ns : List (List ℕ)). middle ++ flat_map (λ name. type_if_governed tie book id (Private name)) ns) ordered
+    ∙ ap (λ found. found ++ flat_map (λ name. type_if_governed tie book id (Private name)) (in_order (slice_cmp nat_cmp) (private_names book))) first
+    ∙ append_assoc start (flat_map (λ (r : Row). type_if_governed tie book id r.case) table) (flat_map (λ name. type_if_governed tie book id (Private name)) (in_order (slice_cmp nat_cmp) (private_names book)))
+    ∙ ap (λ found. start ++ found) (all_types tie book id)

@@ -1,9 +1,7 @@
 mod Applied
 mod Governed
 mod InOrder
-mod Numbered
 mod Placing
 mod Scanning
-mod Segments
-mod States
-mod Walked
+mod Moments
+mod Windows

@@ -1,12 +1,10 @@
 -- What a scan of a list has found when it has passed one more.
 use Rattle.std.proofs.Common.{◌≡◌, ℤ, Bool, true, false, List, [], ◌∷◌, ◌++◌, append-nil, Option, Some, None, filter, refl, sym, ap, ◌∙◌, cond, arith}
-use Rattle.std.specs.Prelude.{int_lt}
 use Rattle.std.proofs.lemmas.Int.{ints}
 use Rattle.std.proofs.lemmas.List.Elements.{filter-append}
 use Rattle.adr_time.specs.declared.span.End.{End}
 use Rattle.adr_time.specs.declared.span.End.TheVariants.{At, Endless}
 use Rattle.adr_model.specs.declared.entry.Entry.{Entry}
-use Rattle.adr_model.specs.declared.entry.Rank.{Rank}
 use Rattle.adr_model.specs.Answer.{earliest, earlier_of}
 use Rattle.adr_model.specs.Governor.{first_of}
 use Rattle.adr_model.specs.Rank.{goes_before}

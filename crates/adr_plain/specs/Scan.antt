@@ -1,22 +1,23 @@
 -- Steps of a scan.
-use Rattle.std.specs.Prelude.{ℕ, ℤ, pos, ◌-ℤ◌, int_le, int_lt, Bool, not, ◌&&◌, ◌||◌, List, [], ◌++◌, Option, is_some, if◌then◌else◌, codes}
+use Rattle.std.specs.Prelude.{ℕ, ℤ, pos, ◌-ℤ◌, int_le, int_lt, Bool, not, ◌&&◌, ◌||◌, List, [], ◌∷◌, Option, is_some, option_to_list, if◌then◌else◌}
 use Rattle.std.specs.Bool.{then_some}
 use Rattle.std.specs.List.{zip, filter_map, slice_get}
-use Rattle.std.specs.Option.{option_and_then, option_map_or}
+use Rattle.std.specs.Option.{option_map, option_map_or}
 use Rattle.adr_object.specs.declared.event.Event.{Event}
 use Rattle.adr_object.specs.declared.event.Interval.{Interval}
 use Rattle.adr_object.specs.declared.party.Resource.{Resource}
 use Rattle.adr_value.specs.declared.payload.PayloadType.{PayloadType}
 use Rattle.std.specs.Ordering.{int_eq}
-use Rattle.adr_value.specs.Payload.{name_of}
-use Rattle.adr_model.specs.Answer.{changes, earliest, same_winner, shown_of, state_text}
+use Rattle.adr_model.specs.Answer.{changes, earliest, same_winner}
 use Rattle.adr_model.specs.Book.{Book}
 use Rattle.adr_model.specs.Governor.{applies_to, entries_of, entry_at, winner_at}
-use Rattle.adr_model.specs.Queries.{end_within, is_governed, roll_line, segment_text, type_text}
+use Rattle.adr_model.specs.Queries.{end_within, is_governed}
 use Rattle.adr_model.specs.Rank.{goes_before, carries}
 use Rattle.adr_model.specs.declared.entry.Tie.{Tie}
 use Rattle.adr_model.specs.declared.entry.Entry.{Entry}
 use Rattle.adr_model.specs.declared.entry.Placed.{Placed}
+use Rattle.adr_model.specs.declared.timeline.Segment.{Segment}
+use Rattle.adr_time.specs.declared.span.End.TheVariants.{At}
 use Rattle.adr_model.specs.declared.written.Written.{Written}
 
 -- the event that the edit of that number wrote
@@ -39,30 +40,19 @@ entries_at book resource payload_type place = option_map_or (entries_if_applied 
 abbrev pub first_with : Entry → Option Entry → Entry
 first_with e found = option_map_or (λ f. if goes_before e.rank f.rank then e else f) found e
 
--- the state of a type at an instant, from its entries as they compete
-abbrev pub state_of : Book → PayloadType → List Entry → ℤ → List ℕ
-state_of book payload_type entries t = state_text (option_and_then (shown_of book payload_type) (winner_at entries t)) (earliest (changes entries t))
-
 -- something wins at the instant, and it is the window's first or another wins at the instant before
 abbrev pub begins_in : List Entry → ℤ → ℤ → Bool
 begins_in entries from u =
     is_some (winner_at entries u)
     && (int_eq u from || not (same_winner (winner_at entries (u -ℤ pos 1)) (winner_at entries u)))
 
--- the line of the segment that begins at an instant of the window
-abbrev pub segment_of : Book → PayloadType → List Entry → ℤ → ℤ → List ℕ
-segment_of book payload_type entries to u =
-    option_map_or (segment_text u (end_within to (earliest (changes entries u)))) (option_and_then (shown_of book payload_type) (winner_at entries u)) []
+-- the segment that begins at an instant of the window, if one does
+abbrev pub segment_of : List Entry → ℤ → ℤ → List Segment
+segment_of entries to u = option_to_list (option_map (λ w. record { start = u; end = At (end_within to (earliest (changes entries u))); winner = w }) (winner_at entries u))
 
--- if one does
-abbrev pub segment_at : Book → PayloadType → List Entry → ℤ → ℤ → ℤ → List ℕ
-segment_at book payload_type entries from to u =
-    if int_le from u && (int_lt u to && begins_in entries from u) then segment_of book payload_type entries to u else []
+abbrev pub segment_at : List Entry → ℤ → ℤ → ℤ → List Segment
+segment_at entries from to u = if int_le from u && (int_lt u to && begins_in entries from u) then segment_of entries to u else []
 
--- the line of the resource at a place, if there is one
-abbrev pub roll_line_at : Tie → Book → PayloadType → ℤ → ℕ → List ℕ
-roll_line_at tie book payload_type t place = option_map_or (λ r. roll_line tie book payload_type t r.id) (slice_get book.resources place) []
-
--- the line of a type that governs at some instant
-abbrev pub type_line : Tie → Book → List ℕ → PayloadType → List ℕ
-type_line tie book id payload_type = if is_governed tie book id payload_type then type_text (name_of payload_type) ++ codes "\n" else []
+-- the type, if it governs at some instant
+abbrev pub type_if_governed : Tie → Book → List ℕ → PayloadType → List PayloadType
+type_if_governed tie book id payload_type = if is_governed tie book id payload_type then payload_type ∷ [] else []

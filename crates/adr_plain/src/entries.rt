@@ -161,7 +161,7 @@ fn add_event(
 }
 
 /// The entries of the type in the events that apply to the resource.
-#[tactic(auto, using(crate::proofs::Walked::one_more))]
+#[tactic(auto, using(adr_calendar::proofs::Walked::one_more))]
 fn entries_for(
     alloc: Global,
     book: &Book,

@@ -4,23 +4,13 @@ ghost use Rattle.adr_value.specs.Answer.{OnlyNoMemory};
 ghost use Rattle.adr_time.specs.Spans.{covers as is_covered};
 ghost use Rattle.adr_model.specs.Answer.{bounds as bounds_of, changes, earlier_of, earliest, is_change, same_winner as is_same_winner};
 ghost use Rattle.adr_model.specs.Governor.{first_of, winner_at as winner_of_all_at};
-ghost use Rattle.adr_model.specs.Rank.{goes_before as goes_first};
 ghost use Rattle.adr_plain.specs.Scan.{first_with};
 
-use adr_model::{Entry, Rank, Winner};
+use adr_model::{Entry, Winner};
+use adr_rule::{Meter, before};
 use adr_time::{End, Moment, covers};
 use adr_value::Refusal;
 use std::alloc::Global;
-
-fn goes_before(a: &Rank, b: &Rank) -> bool
-    ensures { result ≡ goes_first a.now b.now }
-{
-    a.priority < b.priority
-        || (a.priority == b.priority
-            && (a.late < b.late
-                || (a.late == b.late
-                    && (b.written < a.written || (a.written == b.written && a.place < b.place)))))
-}
 
 /// The entry, or the one that was found unless the entry goes before it.
 fn better_of(entry: Entry, found: Option<Entry>) -> Entry
@@ -29,7 +19,7 @@ fn better_of(entry: Entry, found: Option<Entry>) -> Entry
     let Some(found) = found else {
         return entry;
     };
-    if goes_before(&entry.rank, &found.rank) {
+    if before(&entry.rank, &found.rank, &mut Meter::new()) {
         return entry;
     }
     found

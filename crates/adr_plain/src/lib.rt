@@ -3,11 +3,9 @@
 
 mod entries;
 mod governing;
-mod listing;
 mod order;
 mod plain;
-mod roll;
-mod shown;
+mod segments;
 mod state;
 mod types;
 

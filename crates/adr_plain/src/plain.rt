@@ -4,16 +4,15 @@ ghost use Rattle.adr_value.specs.Answer.{Answers, OnlyNoMemory, result_map};
 ghost use Rattle.adr_value.specs.declared.refusal.Refusal.TheVariants.{NoMemory, Full};
 ghost use Rattle.adr_plain.specs.Kept.{kept_start};
 ghost use Rattle.adr_model.specs.Edits.{full_at, step_to};
-ghost use Rattle.adr_model.specs.Answer.{at, at_text};
+ghost use Rattle.adr_model.specs.Answer.{at};
 ghost use Rattle.adr_model.specs.Queries.{list, roll, types};
 
-use crate::listing::text_of_list;
-use crate::roll::text_of_roll;
-use crate::state::put_state_of;
-use crate::types::text_of_types;
+use crate::segments::segments_of;
+use crate::state::state_of;
+use crate::types::types_of;
 use adr_book::{Book, judge};
-use adr_calendar::{put, put_version};
-use adr_model::Tie;
+use adr_calendar::{Calendar, State};
+use adr_model::{Segment, Tie};
 use adr_object::{Edit, Id};
 use adr_time::Moment;
 use adr_value::limits::{MOST_PUBLICATIONS, MOST_VERSION};
@@ -135,7 +134,6 @@ impl Plain {
     /// The reply to `at`: what governs the resource for the type at the moment, in the last publication, and until
     /// when. `UnknownResource` where the publication has no such resource; `NoMemory`. Cost: all events and intervals
     /// are scanned, and those that apply once more for each end and start of an interval.
-    #[tactic(auto, unfolding(adr_model::specs::Answer::at))]
     pub fn at(
         &self,
         id: &Id,
@@ -144,17 +142,12 @@ impl Plain {
     ) -> Result<Vec<u8>, Refusal>
         ensures { Answers (result_map (λ v. v.items) result) (at self.now.tie self.now.published id.now payload_type.now moment) }
     {
-        if self.published.resource(id).is_none() {
-            return Err(Refusal::UnknownResource);
-        }
-        let book = &self.published;
-        text_of_state(self.alloc, book, self.tie, id, payload_type, moment)
+        adr_calendar::at(self.alloc, self, id, payload_type, moment)
     }
 
     /// The reply to `list`: the segments of the window, each with what governs there. `BadWindow` where the window
     /// doesn't begin before it ends, then `UnknownResource`; `NoMemory`. Cost: the entries of the type for the
     /// resource, times their starts and ends.
-    #[tactic(auto, unfolding(adr_model::specs::Queries::list))]
     pub fn list(
         &self,
         id: &Id,
@@ -164,54 +157,66 @@ impl Plain {
     ) -> Result<Vec<u8>, Refusal>
         ensures { Answers (result_map (λ v. v.items) result) (list self.now.tie self.now.published id.now payload_type.now from to) }
     {
-        if to.nanoseconds() <= from.nanoseconds() {
-            return Err(Refusal::BadWindow);
-        }
-        if self.published.resource(id).is_none() {
-            return Err(Refusal::UnknownResource);
-        }
-        let book = &self.published;
-        text_of_list(self.alloc, book, self.tie, id, payload_type, from, to)
+        adr_calendar::list(self.alloc, self, id, payload_type, from, to)
     }
 
     /// The reply to `roll`: the state of each resource, in order of creation. `NoMemory`. Cost: that of `at` for each
     /// resource.
-    #[tactic(auto, unfolding(adr_model::specs::Queries::roll))]
     pub fn roll(&self, payload_type: &PayloadType, moment: Moment) -> Result<Vec<u8>, Refusal>
         ensures { Answers (result_map (λ v. v.items) result) (roll self.now.tie self.now.published payload_type.now moment) }
     {
-        text_of_roll(self.alloc, &self.published, self.tie, payload_type, moment)
+        adr_calendar::roll(self.alloc, self, payload_type, moment)
     }
 
     /// The reply to `types`: the payload types that govern the resource at some moment. `UnknownResource`; `NoMemory`.
     /// Cost: all events for each of the 34 types and each private one.
-    #[tactic(auto, unfolding(adr_model::specs::Queries::types))]
     pub fn types(&self, id: &Id) -> Result<Vec<u8>, Refusal>
         ensures { Answers (result_map (λ v. v.items) result) (types self.now.tie self.now.published id.now) }
     {
-        if self.published.resource(id).is_none() {
-            return Err(Refusal::UnknownResource);
-        }
-        text_of_types(self.alloc, &self.published, self.tie, id)
+        adr_calendar::types(self.alloc, self, id)
     }
 }
 
-/// The bytes of the reply to `at`.
-fn text_of_state(
-    alloc: Global,
-    book: &Book,
-    tie: Tie,
-    id: &Id,
-    payload_type: &PayloadType,
-    moment: Moment,
-) -> Result<Vec<u8>, Refusal>
-    ensures ok { IfOk result (λ v. v.items ≡ at_text tie book.now.objects id.now payload_type.now moment) }
-    ensures memory { OnlyNoMemory result }
-{
-    let mut out = Vec::new(alloc);
-    put_version(&mut out, book.version())?;
-    put(&mut out, b" ")?;
-    put_state_of(&mut out, book, tie, id, payload_type, moment)?;
-    put(&mut out, b"\n")?;
-    Ok(out)
+impl Calendar for Plain {
+    ghost tie = { λ plain. plain.tie };
+
+    ghost objects = { λ plain. plain.published };
+
+    fn book(&self) -> &Book {
+        &self.published
+    }
+
+    fn state(&self, id: &Id, payload_type: &PayloadType, moment: Moment) -> Result<State, Refusal> {
+        state_of(
+            self.alloc,
+            &self.published,
+            self.tie,
+            id,
+            payload_type,
+            moment,
+        )
+    }
+
+    #[tactic(auto, using(crate::proofs::Windows::segments_are_calendar))]
+    fn segments(
+        &self,
+        id: &Id,
+        payload_type: &PayloadType,
+        from: Moment,
+        to: Moment,
+    ) -> Result<Vec<Segment>, Refusal> {
+        segments_of(
+            self.alloc,
+            &self.published,
+            self.tie,
+            id,
+            payload_type,
+            from,
+            to,
+        )
+    }
+
+    fn types(&self, id: &Id) -> Result<Vec<PayloadType>, Refusal> {
+        types_of(self.alloc, &self.published, self.tie, id)
+    }
 }

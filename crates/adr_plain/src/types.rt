@@ -1,21 +1,20 @@
 //! The payload types that govern a resource at some moment.
-ghost use Rattle.std.specs.Prelude.{◌≡◌, ◌++◌, [], OnOk, IfOk, codes, flat_map, is_some};
+ghost use Rattle.std.specs.Prelude.{◌≡◌, ◌++◌, [], OnOk, IfOk, flat_map, is_some};
 ghost use Rattle.std.specs.Option.{option_map_or};
 ghost use Rattle.std.specs.List.{list_any, slice_get};
 ghost use Rattle.adr_value.specs.Answer.{OnlyNoMemory};
-ghost use Rattle.adr_value.specs.Payload.{name_of, of_code, table};
+ghost use Rattle.adr_value.specs.Payload.{of_code, table};
 ghost use Rattle.adr_value.specs.declared.payload.PayloadType.TheVariants.{Private};
 ghost use Rattle.adr_model.specs.Governor.{winner_at as winner_of_all_at};
 ghost use Rattle.std.specs.Cmp.Lexicographic.{slice_cmp};
 ghost use Rattle.std.specs.Ordering.{nat_cmp};
-ghost use Rattle.adr_model.specs.Queries.{governing_types, in_order, is_governed, private_name, private_names, type_text, types_text};
-ghost use Rattle.adr_plain.specs.Scan.{type_line};
+ghost use Rattle.adr_model.specs.Queries.{governing_types, in_order, is_governed, private_name, private_names};
+ghost use Rattle.adr_plain.specs.Scan.{type_if_governed};
 
 use crate::entries::ranked_entries;
 use crate::governing::winner_at;
 use crate::order::names_in_order;
 use adr_book::Book;
-use adr_calendar::{put, put_type, put_version};
 use adr_model::{Entry, Tie};
 use adr_object::{Event, Id, Interval, Kind, Payload};
 use adr_value::{PayloadType, PrivateName, Refusal};
@@ -46,79 +45,84 @@ fn governs(
     Ok(is_won(entries.as_slice()))
 }
 
-/// Appends the line of the type, if it governs at some moment.
-fn put_type_line(
-    out: &mut Vec<u8>,
+/// Adds the type, if it governs at some moment.
+fn add_type(
+    types: &mut Vec<PayloadType>,
     book: &Book,
     tie: Tie,
     id: &Id,
-    payload_type: &PayloadType,
+    payload_type: PayloadType,
 ) -> Result<(), Refusal>
-    ensures ok { OnOk result (out.new.items ≡ out.old.items ++ type_line tie book.now.objects id.now payload_type.now) }
+    ensures ok { OnOk result (types.new.items ≡ types.old.items ++ type_if_governed tie book.now.objects id.now payload_type) }
     ensures memory { OnlyNoMemory result }
 {
-    if !governs(*out.allocator(), book, tie, id, payload_type)? {
-        return Ok(());
+    if governs(*types.allocator(), book, tie, id, &payload_type)? {
+        types.push(payload_type)?;
     }
-    put_type(out, payload_type.name())?;
-    put(out, b"\n")
+    Ok(())
 }
 
-/// Appends the line of the type at a place of the table.
-fn put_table_line(
-    out: &mut Vec<u8>,
+/// Adds the type at a place of the table, if it governs at some moment.
+fn add_table_type(
+    types: &mut Vec<PayloadType>,
     book: &Book,
     tie: Tie,
     id: &Id,
     code: u8,
 ) -> Result<(), Refusal>
-    ensures ok { OnOk result (out.new.items ≡ out.old.items ++ option_map_or (type_line tie book.now.objects id.now) (of_code code) []) }
+    ensures ok { OnOk result (types.new.items ≡ types.old.items ++ option_map_or (type_if_governed tie book.now.objects id.now) (of_code code) []) }
     ensures memory { OnlyNoMemory result }
 {
     match PayloadType::of_code(code) {
-        Some(payload_type) => put_type_line(out, book, tie, id, &payload_type),
+        Some(payload_type) => add_type(types, book, tie, id, payload_type),
         None => Ok(()),
     }
 }
 
-/// Appends the lines of the table's types, in its order.
-#[tactic(auto, using(crate::proofs::Walked::whole_walk))]
-fn put_table_lines(out: &mut Vec<u8>, book: &Book, tie: Tie, id: &Id) -> Result<(), Refusal>
-    ensures ok { OnOk result (out.new.items ≡ out.old.items ++ flat_map (λ r. type_line tie book.now.objects id.now r.case) table) }
+/// Adds the table's types that govern, in its order.
+#[tactic(auto, using(adr_calendar::proofs::Walked::whole_walk))]
+fn add_table_types(
+    types: &mut Vec<PayloadType>,
+    book: &Book,
+    tie: Tie,
+    id: &Id,
+) -> Result<(), Refusal>
+    ensures ok { OnOk result (types.new.items ≡ types.old.items ++ flat_map (λ r. type_if_governed tie book.now.objects id.now r.case) table) }
     ensures memory { OnlyNoMemory result }
 {
     for code in 0..34 {
-        put_table_line(out, book, tie, id, code)?;
+        add_table_type(types, book, tie, id, code)?;
     }
     Ok(())
 }
 
-fn put_private_line(
-    out: &mut Vec<u8>,
+/// Adds the private type of the name, if it governs at some moment.
+fn add_private_type(
+    types: &mut Vec<PayloadType>,
     book: &Book,
     tie: Tie,
     id: &Id,
     name: &PrivateName,
 ) -> Result<(), Refusal>
-    ensures ok { OnOk result (out.new.items ≡ out.old.items ++ type_line tie book.now.objects id.now (Private name.now)) }
+    ensures ok { OnOk result (types.new.items ≡ types.old.items ++ type_if_governed tie book.now.objects id.now (Private name.now)) }
     ensures memory { OnlyNoMemory result }
 {
-    put_type_line(out, book, tie, id, &PayloadType::Private(name.copy()?))
+    add_type(types, book, tie, id, PayloadType::Private(name.copy()?))
 }
 
-/// Appends the lines of the private types of these names.
-fn put_private_lines(
-    out: &mut Vec<u8>,
+/// Adds the private types of these names that govern.
+fn add_private_types(
+    types: &mut Vec<PayloadType>,
     book: &Book,
     tie: Tie,
     id: &Id,
     names: &[PrivateName],
 ) -> Result<(), Refusal>
-    ensures ok { OnOk result (out.new.items ≡ out.old.items ++ flat_map (λ name. type_line tie book.now.objects id.now (Private name)) names.now) }
+    ensures ok { OnOk result (types.new.items ≡ types.old.items ++ flat_map (λ name. type_if_governed tie book.now.objects id.now (Private name)) names.now) }
     ensures memory { OnlyNoMemory result }
 {
     for name in names {
-        put_private_line(out, book, tie, id, name)?;
+        add_private_type(types, book, tie, id, name)?;
     }
     Ok(())
 }
@@ -164,7 +168,7 @@ fn add_event_at(names: &mut Vec<PrivateName>, book: &Book, place: usize) -> Resu
 }
 
 /// The names of the private types that events carry.
-#[tactic(auto, using(crate::proofs::Walked::one_more, crate::proofs::Walked::whole_walk))]
+#[tactic(auto, using(adr_calendar::proofs::Walked::one_more, adr_calendar::proofs::Walked::whole_walk))]
 fn names_of(alloc: Global, book: &Book) -> Result<Vec<PrivateName>, Refusal>
     ensures ok { IfOk result (λ v. v.items ≡ private_names book.now.objects) }
     ensures memory { OnlyNoMemory result }
@@ -185,45 +189,34 @@ fn private_types(alloc: Global, book: &Book) -> Result<Vec<PrivateName>, Refusal
     names_in_order(alloc, names.as_slice())
 }
 
-/// Appends the lines of the types that govern: the table's, then the private ones of these names.
-fn put_types(
-    out: &mut Vec<u8>,
+/// Adds the types that govern: the table's, then the private ones of these names.
+fn add_types(
+    types: &mut Vec<PayloadType>,
     book: &Book,
     tie: Tie,
     id: &Id,
     names: &[PrivateName],
 ) -> Result<(), Refusal>
     requires { names.now ≡ in_order (slice_cmp nat_cmp) (private_names book.now.objects) }
-    ensures ok { OnOk result (out.new.items ≡ out.old.items ++ flat_map (λ kind. type_text (name_of kind) ++ codes "\n") (governing_types tie book.now.objects id.now)) }
+    ensures ok { OnOk result (types.new.items ≡ types.old.items ++ governing_types tie book.now.objects id.now) }
     ensures memory { OnlyNoMemory result }
 {
-    put_table_lines(out, book, tie, id)?;
-    put_private_lines(out, book, tie, id, names)
+    add_table_types(types, book, tie, id)?;
+    add_private_types(types, book, tie, id, names)
 }
 
-/// Appends the lines of the types that govern.
-fn put_type_lines(out: &mut Vec<u8>, book: &Book, tie: Tie, id: &Id) -> Result<(), Refusal>
-    ensures ok { OnOk result (out.new.items ≡ out.old.items ++ flat_map (λ kind. type_text (name_of kind) ++ codes "\n") (governing_types tie book.now.objects id.now)) }
-    ensures memory { OnlyNoMemory result }
-{
-    let names = private_types(*out.allocator(), book)?;
-    put_types(out, book, tie, id, names.as_slice())
-}
-
-/// The bytes of the reply to `types`.
-pub(crate) fn text_of_types(
+/// The types that govern the resource, in the order in which they are listed.
+pub(crate) fn types_of(
     alloc: Global,
     book: &Book,
     tie: Tie,
     id: &Id,
-) -> Result<Vec<u8>, Refusal>
-    ensures ok { IfOk result (λ v. v.items ≡ types_text tie book.now.objects id.now) }
+) -> Result<Vec<PayloadType>, Refusal>
+    ensures ok { IfOk result (λ v. v.items ≡ governing_types tie book.now.objects id.now) }
     ensures memory { OnlyNoMemory result }
 {
-    let mut out = Vec::new(alloc);
-    put_version(&mut out, book.version())?;
-    put(&mut out, b"\n")?;
-    put_type_lines(&mut out, book, tie, id)?;
-    put(&mut out, b".\n")?;
-    Ok(out)
+    let names = private_types(alloc, book)?;
+    let mut types = Vec::new(alloc);
+    add_types(&mut types, book, tie, id, names.as_slice())?;
+    Ok(types)
 }

@@ -1,5 +1,6 @@
 mod Digits
 mod Fans
+mod Headline
 mod Journals
 mod Larger
 mod Parts

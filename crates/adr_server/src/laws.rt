@@ -1,12 +1,16 @@
 //! The laws of the script's text.
 ghost use Rattle.adr_server.specs.Fan.{FanRunsTheScript, ReadersMayAnswerAtTheEnd};
 ghost use Rattle.adr_server.specs.Larger.{LargerLimitsTellTheSame, LimitsGrew};
-ghost use Rattle.adr_server.specs.Laws.{GovernsTheLeastMatching, RefusalsChangeNothing, RefusedEditsChangeNothing, AcceptedEditsAreKept, QueriesChangeNothing};
+ghost use Rattle.adr_server.specs.Laws.{GovernsTheLeastMatching, PublishedStatesTellTheLeastMatching, PublishedTimelinesGiveTheLeastMatching, RefusalsChangeNothing, RefusedEditsChangeNothing, AcceptedEditsAreKept, QueriesChangeNothing};
 
-/// What the text that `run` writes promises. After any lines, at each published version, resource, payload type and
-/// instant, what governs is the least matching interval of the objects that the accepted edits left, and none where
-/// none matches; a refused edit changes nothing.
+/// What the text that `run` writes promises. After any lines, a published timeline gives, at every resource, payload
+/// type and instant, the least matching interval of the objects that the accepted edits up to its version left, and
+/// none where none matches; a refused edit changes nothing. The timeline is what `list` tells, segment by segment, and
+/// `at` tells of one instant what it shows there and until when.
+#[tactic(auto, using(crate::proofs::Headline::published_timelines_give_the_least_matching, crate::proofs::Headline::published_states_tell_the_least_matching))]
 pub fn least_matching_interval_governs()
+    ensures timelines { PublishedTimelinesGiveTheLeastMatching }
+    ensures states { PublishedStatesTellTheLeastMatching }
     ensures governs { GovernsTheLeastMatching }
     ensures refused_lines { RefusalsChangeNothing }
     ensures refused_edits { RefusedEditsChangeNothing }

@@ -1,4 +1,4 @@
-use Rattle.std.proofs.Common.{◌∙◌, rules}
+use Rattle.std.proofs.Common.{◌∙◌}
 use Rattle.std.proofs.lemmas.Result.{on_ok_weaker}
 use Rattle.adr_plain.specs.Scan.{written_event}
 use Rattle.adr_plain.proofs.Placing.{added_entries}

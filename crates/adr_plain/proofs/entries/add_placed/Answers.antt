@@ -1,4 +1,4 @@
-use Rattle.std.proofs.Common.{◌≡◌, ◌∙◌, sym, ap, ◌++◌, append-nil, List}
+use Rattle.std.proofs.Common.{◌∙◌, sym, ap, ◌++◌, append-nil, List}
 use Rattle.adr_model.specs.declared.entry.Entry.{Entry}
 use Rattle.adr_plain.specs.Scan.{written_event}
 use Rattle.adr_plain.proofs.Placing.{no_place}

@@ -1,4 +1,4 @@
-use Rattle.std.proofs.Common.{◌≡◌, ◌∙◌, ◌++◌, ◌∷◌, [], ℤ, sym, ap, List, Bool, cond, filter, take}
+use Rattle.std.proofs.Common.{◌∙◌, ◌++◌, ◌∷◌, [], ℤ, sym, ap, List, Bool, cond, filter, take}
 use Rattle.std.proofs.lemmas.Grind.{take_at_read}
 use Rattle.adr_time.specs.declared.span.End.{End}
 use Rattle.adr_model.specs.Answer.{earlier_of, earliest, is_change}

@@ -1,4 +1,4 @@
-use Rattle.std.proofs.Common.{◌≡◌, ◌∙◌, sym, ap, Some, Bool, cond}
+use Rattle.std.proofs.Common.{◌∙◌, sym, ap, Some, Bool, cond}
 use Rattle.adr_model.specs.declared.entry.Entry.{Entry}
 use Rattle.adr_plain.specs.Scan.{first_with}
 use Rattle.adr_plain.proofs.governing.found_with.Goals as goal

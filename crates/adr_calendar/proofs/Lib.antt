@@ -1,0 +1,4 @@
+pub mod Numbered
+pub mod Segments
+pub mod States
+pub mod Walked

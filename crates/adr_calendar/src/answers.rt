@@ -1,0 +1,309 @@
+//! The answers to the four queries, printed from any calendar.
+ghost use Rattle.std.specs.Prelude.{◌≡◌, ◌++◌, [], OnOk, IfOk, codes, flat_map, option_map};
+ghost use Rattle.std.specs.Option.{option_and_then, option_map_or};
+ghost use Rattle.std.specs.List.{slice_get};
+ghost use Rattle.adr_value.specs.Answer.{Answers, OnlyNoMemory, result_map};
+ghost use Rattle.adr_value.specs.Payload.{name_of};
+ghost use Rattle.adr_calendar.specs.Segments.{line_of_segment};
+ghost use Rattle.adr_calendar.specs.Shown.{shown_view};
+ghost use Rattle.adr_model.specs.Answer.{at, at_text, shown, shown_of as shown_by, state_text, until};
+ghost use Rattle.adr_model.specs.Queries.{beginnings, in_lines, list, list_text, roll, roll_line, segment_line, type_text, types, types_text};
+
+use crate::calendar::Calendar;
+use crate::lines::{Shown, cut, put_segment, put_state, put_type, put_version};
+use crate::printing::put;
+use crate::shown::shown_of;
+use adr_book::Book;
+use adr_model::{Segment, Winner};
+use adr_object::{Id, Kind};
+use adr_time::Moment;
+use adr_timeline::timeline_laws;
+use adr_value::{PayloadType, Refusal};
+use std::alloc::Global;
+
+/// What the winner shows, where there is one.
+fn shown_by_winner<'a>(
+    book: &'a Book,
+    payload_type: &PayloadType,
+    winner: Option<Winner>,
+) -> Option<Shown<'a>>
+    ensures { option_map shown_view result ≡ option_and_then (shown_by book.now.objects payload_type.now) winner }
+{
+    shown_of(book, payload_type, winner?)
+}
+
+/// Appends the state of the type for the resource at the moment.
+#[tactic(auto, using(crate::proofs::States::state_told))]
+fn put_state_of<C: Calendar>(
+    out: &mut Vec<u8>,
+    calendar: &C,
+    id: &Id,
+    payload_type: &PayloadType,
+    moment: Moment,
+) -> Result<(), Refusal>
+    ensures ok { OnOk result (out.new.items ≡ out.old.items ++ state_text (shown (C.tie calendar.now) (C.objects calendar.now) id.now payload_type.now moment) (until (C.tie calendar.now) (C.objects calendar.now) id.now payload_type.now moment)) }
+    ensures memory { OnlyNoMemory result }
+{
+    let state = calendar.state(id, payload_type, moment)?;
+    let shown = shown_by_winner(calendar.book(), payload_type, state.governor);
+    put_state(out, shown, state.until)
+}
+
+/// The bytes of the answer to `at`.
+fn text_of_state<C: Calendar>(
+    alloc: Global,
+    calendar: &C,
+    id: &Id,
+    payload_type: &PayloadType,
+    moment: Moment,
+) -> Result<Vec<u8>, Refusal>
+    ensures ok { IfOk result (λ v. v.items ≡ at_text (C.tie calendar.now) (C.objects calendar.now) id.now payload_type.now moment) }
+    ensures memory { OnlyNoMemory result }
+{
+    let mut out = Vec::new(alloc);
+    put_version(&mut out, calendar.book().version())?;
+    put(&mut out, b" ")?;
+    put_state_of(&mut out, calendar, id, payload_type, moment)?;
+    put(&mut out, b"\n")?;
+    Ok(out)
+}
+
+/// The answer to `at`: what governs the resource for the type at the moment, and until when. `UnknownResource` where
+/// the book has no such resource; `NoMemory`. Cost: that of the calendar's state.
+#[tactic(auto, unfolding(adr_model::specs::Answer::at))]
+pub fn at<C: Calendar>(
+    alloc: Global,
+    calendar: &C,
+    id: &Id,
+    payload_type: &PayloadType,
+    moment: Moment,
+) -> Result<Vec<u8>, Refusal>
+    ensures { Answers (result_map (λ v. v.items) result) (at (C.tie calendar.now) (C.objects calendar.now) id.now payload_type.now moment) }
+{
+    if calendar.book().resource(id).is_none() {
+        return Err(Refusal::UnknownResource);
+    }
+    text_of_state(alloc, calendar, id, payload_type, moment)
+}
+
+/// Appends the line of the segment.
+fn put_line(
+    out: &mut Vec<u8>,
+    book: &Book,
+    payload_type: &PayloadType,
+    to: Moment,
+    segment: &Segment,
+) -> Result<(), Refusal>
+    ensures ok { OnOk result (out.new.items ≡ out.old.items ++ line_of_segment book.now.objects payload_type.now to segment.now) }
+    ensures memory { OnlyNoMemory result }
+{
+    let Some(shown) = shown_of(book, payload_type, segment.winner) else {
+        return Ok(());
+    };
+    put_segment(out, segment.start, cut(to, segment.end), shown)
+}
+
+/// Appends the lines of the segments.
+fn put_lines(
+    out: &mut Vec<u8>,
+    book: &Book,
+    payload_type: &PayloadType,
+    to: Moment,
+    segments: &[Segment],
+) -> Result<(), Refusal>
+    ensures ok { OnOk result (out.new.items ≡ out.old.items ++ flat_map (line_of_segment book.now.objects payload_type.now to) segments.now) }
+    ensures memory { OnlyNoMemory result }
+{
+    for segment in segments {
+        put_line(out, book, payload_type, to, segment)?;
+    }
+    Ok(())
+}
+
+/// Appends the lines of the window's segments.
+fn put_segments<C: Calendar>(
+    out: &mut Vec<u8>,
+    calendar: &C,
+    id: &Id,
+    payload_type: &PayloadType,
+    from: Moment,
+    to: Moment,
+) -> Result<(), Refusal>
+    ensures ok { OnOk result (out.new.items ≡ out.old.items ++ flat_map (segment_line (C.tie calendar.now) (C.objects calendar.now) id.now payload_type.now to) (beginnings (C.tie calendar.now) (C.objects calendar.now) id.now payload_type.now from to)) }
+    ensures memory { OnlyNoMemory result }
+{
+    timeline_laws();
+    let segments = calendar.segments(id, payload_type, from, to)?;
+    put_lines(out, calendar.book(), payload_type, to, segments.as_slice())
+}
+
+/// The bytes of the answer to `list`.
+fn text_of_list<C: Calendar>(
+    alloc: Global,
+    calendar: &C,
+    id: &Id,
+    payload_type: &PayloadType,
+    from: Moment,
+    to: Moment,
+) -> Result<Vec<u8>, Refusal>
+    ensures ok { IfOk result (λ v. v.items ≡ list_text (C.tie calendar.now) (C.objects calendar.now) id.now payload_type.now from to) }
+    ensures memory { OnlyNoMemory result }
+{
+    let mut out = Vec::new(alloc);
+    put_version(&mut out, calendar.book().version())?;
+    put(&mut out, b"\n")?;
+    put_segments(&mut out, calendar, id, payload_type, from, to)?;
+    put(&mut out, b".\n")?;
+    Ok(out)
+}
+
+/// The answer to `list`: the segments of the window, each with what governs there. `BadWindow` where the window doesn't
+/// begin before it ends, then `UnknownResource`; `NoMemory`. Cost: that of the calendar's segments, and their bytes.
+#[tactic(auto, unfolding(adr_model::specs::Queries::list))]
+pub fn list<C: Calendar>(
+    alloc: Global,
+    calendar: &C,
+    id: &Id,
+    payload_type: &PayloadType,
+    from: Moment,
+    to: Moment,
+) -> Result<Vec<u8>, Refusal>
+    ensures { Answers (result_map (λ v. v.items) result) (list (C.tie calendar.now) (C.objects calendar.now) id.now payload_type.now from to) }
+{
+    if to.nanoseconds() <= from.nanoseconds() {
+        return Err(Refusal::BadWindow);
+    }
+    if calendar.book().resource(id).is_none() {
+        return Err(Refusal::UnknownResource);
+    }
+    text_of_list(alloc, calendar, id, payload_type, from, to)
+}
+
+/// Appends a resource's id and state.
+fn put_roll_line<C: Calendar>(
+    out: &mut Vec<u8>,
+    calendar: &C,
+    id: &Id,
+    payload_type: &PayloadType,
+    moment: Moment,
+) -> Result<(), Refusal>
+    ensures ok { OnOk result (out.new.items ≡ out.old.items ++ roll_line (C.tie calendar.now) (C.objects calendar.now) payload_type.now moment id.now) }
+    ensures memory { OnlyNoMemory result }
+{
+    put(out, id.text().as_bytes())?;
+    put(out, b" ")?;
+    put_state_of(out, calendar, id, payload_type, moment)?;
+    put(out, b"\n")
+}
+
+/// Appends the line of the resource at the place, if there is one.
+fn put_roll_line_at<C: Calendar>(
+    out: &mut Vec<u8>,
+    calendar: &C,
+    place: usize,
+    payload_type: &PayloadType,
+    moment: Moment,
+) -> Result<(), Refusal>
+    ensures ok { OnOk result (out.new.items ≡ out.old.items ++ option_map_or (λ r. roll_line (C.tie calendar.now) (C.objects calendar.now) payload_type.now moment r.id) (slice_get (C.objects calendar.now).resources place) []) }
+    ensures memory { OnlyNoMemory result }
+{
+    match calendar.book().resource_at(place) {
+        Some(resource) => put_roll_line(out, calendar, &resource.id, payload_type, moment),
+        None => Ok(()),
+    }
+}
+
+/// Appends the lines of all resources, in order of creation.
+#[tactic(auto, using(crate::proofs::Walked::whole_walk))]
+fn put_roll_lines<C: Calendar>(
+    out: &mut Vec<u8>,
+    calendar: &C,
+    payload_type: &PayloadType,
+    moment: Moment,
+) -> Result<(), Refusal>
+    ensures ok { OnOk result (out.new.items ≡ out.old.items ++ flat_map (λ r. roll_line (C.tie calendar.now) (C.objects calendar.now) payload_type.now moment r.id) (C.objects calendar.now).resources) }
+    ensures memory { OnlyNoMemory result }
+{
+    for place in 0..calendar.book().count(Kind::Resource) {
+        put_roll_line_at(out, calendar, place, payload_type, moment)?;
+    }
+    Ok(())
+}
+
+/// The bytes of the answer to `roll`.
+fn text_of_roll<C: Calendar>(
+    alloc: Global,
+    calendar: &C,
+    payload_type: &PayloadType,
+    moment: Moment,
+) -> Result<Vec<u8>, Refusal>
+    ensures ok { IfOk result (λ v. v.items ≡ in_lines (C.objects calendar.now) (flat_map (λ r. roll_line (C.tie calendar.now) (C.objects calendar.now) payload_type.now moment r.id) (C.objects calendar.now).resources)) }
+    ensures memory { OnlyNoMemory result }
+{
+    let mut out = Vec::new(alloc);
+    put_version(&mut out, calendar.book().version())?;
+    put(&mut out, b"\n")?;
+    put_roll_lines(&mut out, calendar, payload_type, moment)?;
+    put(&mut out, b".\n")?;
+    Ok(out)
+}
+
+/// The answer to `roll`: the state of each resource, in order of creation. `NoMemory`. Cost: that of `at` for each
+/// resource.
+#[tactic(auto, unfolding(adr_model::specs::Queries::roll))]
+pub fn roll<C: Calendar>(
+    alloc: Global,
+    calendar: &C,
+    payload_type: &PayloadType,
+    moment: Moment,
+) -> Result<Vec<u8>, Refusal>
+    ensures { Answers (result_map (λ v. v.items) result) (roll (C.tie calendar.now) (C.objects calendar.now) payload_type.now moment) }
+{
+    text_of_roll(alloc, calendar, payload_type, moment)
+}
+
+/// Appends the line of a type.
+fn put_type_line(out: &mut Vec<u8>, payload_type: &PayloadType) -> Result<(), Refusal>
+    ensures ok { OnOk result (out.new.items ≡ out.old.items ++ (type_text (name_of payload_type.now) ++ codes "\n")) }
+    ensures memory { OnlyNoMemory result }
+{
+    put_type(out, payload_type.name())?;
+    put(out, b"\n")
+}
+
+/// Appends the lines of the types.
+fn put_type_lines(out: &mut Vec<u8>, types: &[PayloadType]) -> Result<(), Refusal>
+    ensures ok { OnOk result (out.new.items ≡ out.old.items ++ flat_map (λ kind. type_text (name_of kind) ++ codes "\n") types.now) }
+    ensures memory { OnlyNoMemory result }
+{
+    for payload_type in types {
+        put_type_line(out, payload_type)?;
+    }
+    Ok(())
+}
+
+/// The bytes of the answer to `types`.
+fn text_of_types<C: Calendar>(alloc: Global, calendar: &C, id: &Id) -> Result<Vec<u8>, Refusal>
+    ensures ok { IfOk result (λ v. v.items ≡ types_text (C.tie calendar.now) (C.objects calendar.now) id.now) }
+    ensures memory { OnlyNoMemory result }
+{
+    let types = calendar.types(id)?;
+    let mut out = Vec::new(alloc);
+    put_version(&mut out, calendar.book().version())?;
+    put(&mut out, b"\n")?;
+    put_type_lines(&mut out, types.as_slice())?;
+    put(&mut out, b".\n")?;
+    Ok(out)
+}
+
+/// The answer to `types`: the payload types that govern the resource at some moment. `UnknownResource`; `NoMemory`.
+/// Cost: that of the calendar's types, and their bytes.
+#[tactic(auto, unfolding(adr_model::specs::Queries::types))]
+pub fn types<C: Calendar>(alloc: Global, calendar: &C, id: &Id) -> Result<Vec<u8>, Refusal>
+    ensures { Answers (result_map (λ v. v.items) result) (types (C.tie calendar.now) (C.objects calendar.now) id.now) }
+{
+    if calendar.book().resource(id).is_none() {
+        return Err(Refusal::UnknownResource);
+    }
+    text_of_types(alloc, calendar, id)
+}
