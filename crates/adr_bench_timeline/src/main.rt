@@ -5,9 +5,11 @@
 ghost use Rattle.std.specs.Prelude.{◌<◌, ◌≤◌};
 
 mod measure;
+mod repair;
 mod shape;
 
 use crate::measure::{fastest_build, fastest_pass, measured};
+use crate::repair::Repair;
 use crate::shape::{Shape, entries};
 use std::rt::{Clock, Env};
 use std::{env, io};
@@ -62,9 +64,44 @@ fn print_table<R: AllocGlobal + Print + Clock>(rt: &R, is_timed: bool) -> io::Re
     Ok(())
 }
 
+/// A row of the table of repairs: the segments of the line, those of the repaired one, and where it is timed the
+/// microseconds of a repair.
+fn print_repair<R: AllocGlobal + Print + Clock>(
+    rt: &R,
+    count: u32,
+    is_timed: bool,
+) -> io::Result<()>
+    requires { (64 ≤ count) × (count ≤ 65536) }
+{
+    let repair = Repair::of(rt.alloc(), count)?;
+    let segments = repair.segments()?;
+    print!(rt; "| {count} | {segments} |")?;
+    if is_timed {
+        let time = repair.fastest(rt)?;
+        print_microseconds(rt, time)?;
+    }
+    println!(rt)
+}
+
+fn print_repairs<R: AllocGlobal + Print + Clock>(rt: &R, is_timed: bool) -> io::Result<()> {
+    if is_timed {
+        println!(rt; "| Segments | Repaired | µs a repair |")?;
+        println!(rt; "|---|---|---|")?;
+    } else {
+        println!(rt; "| Segments | Repaired |")?;
+        println!(rt; "|---|---|")?;
+    }
+    for count in [256, 4096, 65_536] {
+        print_repair(rt, count, is_timed)?;
+    }
+    Ok(())
+}
+
 fn main(rt: HostRuntime) -> io::Result<()> {
     let mut words = env::args(&rt)?;
     let _name = words.next();
     let is_timed = matches!(words.next(), Some(word) if word.as_str() == "time");
-    print_table(&rt, is_timed)
+    print_table(&rt, is_timed)?;
+    println!(rt)?;
+    print_repairs(&rt, is_timed)
 }

@@ -15,11 +15,20 @@ const ROUNDS: u32 = 31;
 /// How many entries each time is taken over, at least: a few entries are gone through several times.
 const MOST: usize = 65_536;
 
-fn all_time() -> Span {
+pub(crate) fn all_time() -> Span {
     Span {
         start: Moment::MIN,
         end: End::Endless,
     }
+}
+
+/// How many segments the timeline has.
+pub(crate) fn segments_in(timeline: &Timeline) -> usize {
+    let mut count: usize = 0;
+    for chunk in timeline.segments() {
+        count = count.saturating_add(chunk.segments().len());
+    }
+    count
 }
 
 /// The segments of a build, and its comparisons.
@@ -28,7 +37,7 @@ pub(crate) fn measured(alloc: Global, entries: &[Entry]) -> io::Result<(usize, u
 {
     let mut meter = Meter::new();
     match Timeline::build(alloc, entries, all_time(), &mut meter) {
-        Ok(timeline) => Ok((timeline.segments().len(), meter.count())),
+        Ok(timeline) => Ok((segments_in(&timeline), meter.count())),
         Err(_) => Err(io::ErrorKind::OutOfMemory.into()),
     }
 }

@@ -76,3 +76,25 @@ pub(crate) fn entries(alloc: Global, shape: Shape, count: u32) -> Result<Vec<Ent
         .map(|place| entry_of(shape, place, count))
         .collect(alloc)
 }
+
+/// So many entries, each over four segments of a disjoint line, of which so many lie from one to the next.
+pub(crate) fn spread(alloc: Global, count: u32, step: u32) -> Result<Vec<Entry>, AllocError>
+    ensures { IfOk result (λ entries. length entries.items ≡ count) }
+{
+    (0..count)
+        .map(|place| Entry {
+            rank: Rank {
+                priority: 0,
+                late: 0,
+                written: 2,
+                place,
+            },
+            span: spread_span(place, step),
+        })
+        .collect(alloc)
+}
+
+fn spread_span(place: u32, step: u32) -> Span {
+    let start = 2 * i128::from(place) * i128::from(step);
+    span(start, start + 8)
+}

@@ -5,8 +5,8 @@ use crate::moments::at;
 use crate::spans::{endless, entry, span, tell_span};
 use adr_model::Entry;
 use adr_rule::Meter;
-use adr_time::{End, Moment, Span};
-use adr_timeline::{Timeline, timeline_laws};
+use adr_time::{End, Moment, Span, covers};
+use adr_timeline::{Segment, Timeline, are_apart, timeline_laws};
 use adr_value::Refusal;
 use std::alloc::Global;
 use std::test::Fail;
@@ -43,14 +43,22 @@ fn one(alloc: Global, start: i128, end: i128, written: u64) -> Result<Timeline, 
     built(alloc, &entries, span(start, end), &mut meter)
 }
 
-/// The segments, each as `[START END WRITTEN PLACE]`.
-fn told(alloc: Global, timeline: &Timeline) -> Result<String, Refusal> {
-    let mut text = String::new(alloc);
-    for segment in timeline.segments() {
+/// Writes segments, each as `[START END WRITTEN PLACE]`.
+fn tell_segments(text: &mut String, segments: &[Segment]) -> Result<(), Refusal> {
+    for segment in segments {
         text.push('[')?;
-        tell_span(&mut text, segment.start, segment.end)?;
+        tell_span(text, segment.start, segment.end)?;
         let winner = segment.winner;
         write!(text, " {} {}]", winner.written, winner.place)?;
+    }
+    Ok(())
+}
+
+/// The segments, as [`tell_segments`] writes them.
+fn told(alloc: Global, timeline: &Timeline) -> Result<String, Refusal> {
+    let mut text = String::new(alloc);
+    for chunk in timeline.segments() {
+        tell_segments(&mut text, chunk.segments())?;
     }
     Ok(text)
 }
@@ -268,5 +276,91 @@ fn timelines_that_show_the_same_are_equal(rt: HostRuntime) -> Result<(), Fail> {
     let is_whole = is_whole_again(rt.alloc(), &timeline);
     drop(timeline);
     assert!(rt; is_whole?);
+    Ok(())
+}
+
+/// The next of a row of numbers in no order.
+fn next(number: u64) -> u64 {
+    number
+        .wrapping_mul(6_364_136_223_846_793_005)
+        .wrapping_add(1_442_695_040_888_963_407)
+}
+
+/// Two windows, and an entry over parts of both and what is between them.
+fn edit_at(place: u8) -> ([Span; 2], Span) {
+    let start = i128::from(place);
+    let windows = [span(start, start + 3), span(start + 9, start + 14)];
+    (windows, span(start + 1, start + 12))
+}
+
+/// Writes into the list what the entry shows in the windows: at each moment from 0 on who governs, or 0.
+fn write_shown(shown: &mut [u64], windows: &[Span], entry: &Span, written: u64) {
+    let mut time: u8 = 0;
+    for cell in shown.iter_mut() {
+        let moment = at(i128::from(time));
+        if windows.iter().any(|window| covers(window, moment)) {
+            *cell = if covers(entry, moment) { written } else { 0 };
+        }
+        time = time.wrapping_add(1);
+    }
+}
+
+/// Whether the timeline shows what the list does.
+fn shows_the_same(timeline: &Timeline, shown: &[u64]) -> bool {
+    let mut time: u8 = 0;
+    for cell in shown {
+        let written = match timeline.governor(at(i128::from(time))) {
+            Some(winner) => winner.written,
+            None => 0,
+        };
+        if written != *cell {
+            return false;
+        }
+        time = time.wrapping_add(1);
+    }
+    true
+}
+
+/// The timeline with the entry in the windows.
+fn repaired(
+    alloc: Global,
+    timeline: &Timeline,
+    windows: &[Span],
+    entry: &Span,
+    written: u64,
+) -> Result<Timeline, Refusal> {
+    let mut meter = Meter::new();
+    let entries = [crate::spans::entry(5, written, *entry)];
+    let inner = built(alloc, &entries, *entry, &mut meter)?;
+    let repaired = if are_apart(windows) {
+        timeline.splice_all(windows, &inner)
+    } else {
+        inner.copy()
+    };
+    drop(inner);
+    repaired
+}
+
+/// Whether a timeline in chunks of two segments shows after each of many repairs what a plain list does.
+fn are_repaired(alloc: Global, shown: &mut [u64]) -> Result<bool, Refusal> {
+    let mut timeline = Timeline::in_chunks_of(alloc, 2);
+    let mut number = 1;
+    for written in 1..60 {
+        number = next(number);
+        let (windows, entry) = edit_at((number >> 59) as u8);
+        let later = repaired(alloc, &timeline, &windows, &entry, written / 4)?;
+        timeline = later;
+        write_shown(shown, &windows, &entry, written / 4);
+        if !shows_the_same(&timeline, shown) {
+            return Ok(false);
+        }
+    }
+    Ok(true)
+}
+
+#[test]
+fn repairs_show_what_a_plain_list_shows(rt: HostRuntime) -> Result<(), Fail> {
+    let mut shown = [0; 48];
+    assert!(rt; are_repaired(rt.alloc(), &mut shown)?);
     Ok(())
 }

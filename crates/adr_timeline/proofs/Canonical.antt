@@ -14,7 +14,7 @@ use Rattle.adr_model.specs.declared.timeline.Winner.{Winner}
 use Rattle.adr_time.specs.Spans.{covers, is_before}
 use Rattle.adr_model.specs.Timeline.{span_of}
 use Rattle.adr_timeline.proofs.Segments.{winner_in, EndsBy, IsApart, IsLinked}
-use Rattle.adr_timeline.specs.Open.{change_at, winner_at_open}
+use Rattle.adr_timeline.specs.Open.{change_at, open_in, winner_at_open}
 use Rattle.adr_model.specs.Answer.{IsUntil}
 use Rattle.adr_model.specs.Timeline.{shows, CanonicalIsUnique}
 use Rattle.adr_timeline.proofs.Words.{shows_is, canonical_linked}
@@ -252,23 +252,29 @@ rest_open s ss t i o = record {
   lasting = λ k d le lt. o.lasting (suc k) d (omega arith) (omega arith);
 }
 
-pub open_winner : (ss : List Segment) (t : ℤ) (i : ℕ) → IsLinked ss → IsOpenAt ss t i → winner_in ss t ≡ winner_at_open (slice_get ss i) t
-open_winner [] t i c o = refl
-open_winner (s ∷ ss) t zero c o =
-    rw (open_covered s.start s.end t (o.lasting 0 s (omega arith) (omega arith))) (rest_none s ss t (int_le s.start t) refl c)
-open_winner (s ∷ ss) t (suc i) c o =
-    rw (ended_covered s.start s.end t (o.ended 0 s (omega arith))) (open_winner ss t i c.2 (rest_open s ss t i o))
+pub open_found : (ss : List Segment) (t : ℤ) (i : ℕ) → IsOpenAt ss t i → slice_get ss i ≡ open_in ss t
+open_found [] t i o = refl
+open_found (s ∷ ss) t zero o = rw (o.lasting 0 s (omega arith) (omega arith)) refl
+open_found (s ∷ ss) t (suc i) o = rw (o.ended 0 s (omega arith)) (open_found ss t i (rest_open s ss t i o))
 
-pub open_change : (ss : List Segment) (t : ℤ) (i : ℕ) → IsLinked ss → IsOpenAt ss t i → change_after ss t ≡ change_at (slice_get ss i) t
-open_change [] t i c o = refl
-open_change (s ∷ ss) t zero c o =
-    rw (open_covered s.start s.end t (o.lasting 0 s (omega arith) (omega arith))) (open_starts s.start t (int_le s.start t) s.end (change_after ss t) refl)
-open_change (s ∷ ss) t (suc i) c o =
-    let ended = o.ended 0 s (omega arith) in
-    rw (ended_covered s.start s.end t ended, ended_starts s.start s.end t c.0 ended) (open_change ss t i c.2 (rest_open s ss t i o))
+winner_either : (s : Segment) (ss : List Segment) (t : ℤ) (x : Bool) → is_before t s.end ≡ x → IsLinked (s ∷ ss) → winner_in ss t ≡ winner_at_open (open_in ss t) t → winner_in (s ∷ ss) t ≡ winner_at_open (if x then Some s else open_in ss t) t
+winner_either s ss t true h c rest = rw (open_covered s.start s.end t h) (rest_none s ss t (int_le s.start t) refl c)
+winner_either s ss t false h c rest = rw (ended_covered s.start s.end t h) rest
+
+pub winner_open : (ss : List Segment) (t : ℤ) → IsLinked ss → winner_in ss t ≡ winner_at_open (open_in ss t) t
+winner_open [] t c = refl
+winner_open (s ∷ ss) t c = winner_either s ss t (is_before t s.end) refl c (winner_open ss t c.2)
+
+change_either : (s : Segment) (ss : List Segment) (t : ℤ) (x : Bool) → is_before t s.end ≡ x → IsLinked (s ∷ ss) → change_after ss t ≡ change_at (open_in ss t) t → change_after (s ∷ ss) t ≡ change_at (if x then Some s else open_in ss t) t
+change_either s ss t true h c rest = rw (open_covered s.start s.end t h) (open_starts s.start t (int_le s.start t) s.end (change_after ss t) refl)
+change_either s ss t false h c rest = rw (ended_covered s.start s.end t h, ended_starts s.start s.end t c.0 h) rest
+
+change_open : (ss : List Segment) (t : ℤ) → IsLinked ss → change_after ss t ≡ change_at (open_in ss t) t
+change_open [] t c = refl
+change_open (s ∷ ss) t c = change_either s ss t (is_before t s.end) refl c (change_open ss t c.2)
 
 -- a segment that comes later ends later
-ends_rise : (e : End) (a : ℤ) (f : End) (t : ℤ) → EndsBy e a → is_before a f ≡ true → is_before t e ≡ true → is_before t f ≡ true
+pub ends_rise : (e : End) (a : ℤ) (f : End) (t : ℤ) → EndsBy e a → is_before a f ≡ true → is_before t e ≡ true → is_before t f ≡ true
 ends_rise (At u) a (At v) t h k l = grind (arith, ints)
 ends_rise e a Endless t h k l = refl
 ends_rise Endless a f t h k l = absurd h
@@ -297,6 +303,19 @@ until_is ss t Endless n = λ v le. shows_is ss v ∙ (n.same v le refl ∙ sym (
 pub canonical_is_unique : CanonicalIsUnique
 canonical_is_unique a b c d h = canonical_unique a b (canonical_linked a c) (canonical_linked b d) (λ t. sym (shows_is a t) ∙ (h t ∙ shows_is b t))
 
+pub not_flip : (x y : Bool) → (x ≡ true → y ≡ true) → not y ≡ true → not x ≡ true
+not_flip false y h k = refl
+not_flip true true h k = k
+not_flip true false h k = absurd (false≢true (h refl))
+
+pub not_true : (x : Bool) → not x ≡ true → x ≡ false
+not_true false h = refl
+not_true true h = sym h
+
+pub not_false : (x : Bool) → not x ≡ false → x ≡ true
+not_false true h = refl
+not_false false h = sym h
+
 -- the same, from a binary search
 pub open_at : (ss : List Segment) (t : ℤ) (i : ℕ) → IsLinked ss → (IsPartitionedBy (λ (s : Segment). not (is_before t s.end)) ss → IsPartitionPoint (λ (s : Segment). not (is_before t s.end) ≡ true) (λ (s : Segment). not (is_before t s.end) ≡ false) ss i) → IsOpenAt ss t i
 open_at ss t i c found =
@@ -305,22 +324,9 @@ open_at ss t i c found =
       ended = λ k d lt. not_true _ (point.0 k d (omega arith) lt);
       lasting = λ k d le lt. not_false _ (point.1 k d le lt);
     }
-  where
-    not_flip : (x y : Bool) → (x ≡ true → y ≡ true) → not y ≡ true → not x ≡ true
-    not_flip false y h k = refl
-    not_flip true true h k = k
-    not_flip true false h k = absurd (false≢true (h refl))
 
-    not_true : (x : Bool) → not x ≡ true → x ≡ false
-    not_true false h = refl
-    not_true true h = sym h
-
-    not_false : (x : Bool) → not x ≡ false → x ≡ true
-    not_false true h = refl
-    not_false false h = sym h
-
-pub open_until : (ss : List Segment) (t : ℤ) (i : ℕ) → IsLinked ss → IsOpenAt ss t i → IsUntil (shows ss) t (change_at (slice_get ss i) t)
-open_until ss t i c o = subst (λ (e : End). IsUntil (shows ss) t e) (open_change ss t i c o) (until_is ss t (change_after ss t) (change_after_is ss t c))
+pub until_open : (ss : List Segment) (t : ℤ) → IsLinked ss → IsUntil (shows ss) t (change_at (open_in ss t) t)
+until_open ss t c = subst (λ (e : End). IsUntil (shows ss) t e) (change_open ss t c) (until_is ss t (change_after ss t) (change_after_is ss t c))
 
 -- what a look-up lends is the element, copied
 pub item_copied : (ss : List Segment) (i : ℕ) (r : Option (Bor Segment)) → IsItemAt ss i r → option_copied r ≡ slice_get ss i

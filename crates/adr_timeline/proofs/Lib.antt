@@ -1,10 +1,14 @@
 pub mod Canonical
+pub mod Chunks
 pub mod Compared
 pub mod Joined
 pub mod Merged
 pub mod Pieces
 pub mod Ranks
+pub mod Runs
+pub mod Searched
 pub mod Segments
 pub mod Shown
 pub mod Stepped
+pub mod Spliced
 pub mod Words

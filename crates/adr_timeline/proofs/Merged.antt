@@ -5,7 +5,7 @@ use Rattle.std.proofs.lemmas.Bool.{cases_Bool}
 use Rattle.std.proofs.lemmas.List.{append_assoc, append-nil, drop_more, drop_all, length-append, length-drop, take_all}
 use Rattle.adr_model.specs.declared.entry.Rank.{Rank}
 use Rattle.adr_timeline.specs.declared.step.Step.{Step}
-use Rattle.adr_timeline.specs.Steps.{lesser, rank_from, IsFrom, IsInOrder, goes_left}
+use Rattle.adr_timeline.specs.Steps.{lesser, rank_from, IsFrom, IsInOrder, IsMergeOf, goes_left}
 
 -- the steps are those of both lists, from the ranks before them on
 pub record IsMerge (a b : Option Rank) (left right steps : List Step) : Type 0 where
@@ -123,7 +123,7 @@ module _ (left right done new : List Step) (a b r : Option Rank) (i j now later 
     compared = omega (arith, so_far.compared);
   }
 
-order_of : (left right steps : List Step) → ((v : ℤ) → IsFrom v left → IsFrom v right → IsFrom v steps) → IsInOrder left → IsInOrder right → IsInOrder steps
+pub order_of : (left right steps : List Step) → ((v : ℤ) → IsFrom v left → IsFrom v right → IsFrom v steps) → IsInOrder left → IsInOrder right → IsInOrder steps
 order_of [] [] [] h l r = tt
 order_of [] [] (s ∷ ss) h l r = (h s.from tt tt).1
 order_of [] (y ∷ ys) [] h l r = tt
@@ -139,18 +139,14 @@ order_of (x ∷ xs) (y ∷ ys) (s ∷ ss) h l r = by_lt_z x.from y.from
     below u v h = omega (arith, ints)
 
 -- all is done
-pub record IsMerged (left right steps : List Step) : Type 0 where
-  pub order : IsInOrder left → IsInOrder right → IsInOrder steps
-  pub ranks : (t : ℤ) → rank_from None steps t ≡ lesser (rank_from None left t) (rank_from None right t)
-
-pub merge_done : (left right done : List Step) (a b : Option Rank) (i j now start : ℕ) → IsBegun left right done a b i j now start → length left ≤ i → length right ≤ j → IsMerged left right done
-merge_done left right done a b i j now start so_far l r =
+pub merge_done : (left right done : List Step) (a b : Option Rank) (i j now start : ℕ) → IsBegun left right done a b i j now start → length left ≤ i → length right ≤ j → IsInOrder left → IsInOrder right → IsMergeOf left right done
+merge_done left right done a b i j now start so_far l r in_left in_right =
     let none : IsMerge a b (drop i left) (drop j right) [] = rw (drop_all i left l, drop_all j right r) (merge_none a b) in
     let whole : IsMerge None None left right done = rw (append-nil done) at (so_far.completes [] none) in
-    record {
-      order = order_of left right done whole.order;
-      ranks = λ t. whole.ranks t;
-    }
+    (order_of left right done whole.order in_left in_right, whole.count, λ t. whole.ranks t)
+
+pub added_more : (old out new done : List Step) (s : Step) → out ≡ old ++ done → new ≡ out ++ s ∷ [] → new ≡ old ++ (done ++ s ∷ [])
+added_more old out new done s h n = rw (n, h) (append_assoc old done (s ∷ []))
 
 -- a slice from a place on is what is left there
 rest_is : (xs : List Step) (i : ℕ) → take (length xs - i) (drop i xs) ≡ drop i xs

@@ -70,7 +70,7 @@ ends_through (At u) a (At v) b h k l = omega (arith, ints)
 ends_through e a Endless b h k l = absurd l
 ends_through Endless a f b h k l = h
 
-behind_le : (ss : List Segment) (a b : ℤ) → IsBehind ss (At a) → a ≤ℤ b → IsBehind ss (At b)
+pub behind_le : (ss : List Segment) (a b : ℤ) → IsBehind ss (At a) → a ≤ℤ b → IsBehind ss (At b)
 behind_le [] a b h k = tt
 behind_le (s ∷ ss) a b h k = (ends_le s.end a b h.0 k, behind_le ss a b h.1 k)
 
@@ -214,7 +214,7 @@ ready_nil (p ∷ ps) = tt
 
 -- ---- clip and splice
 
-or_none : (o : Option Winner) → or_else o None ≡ o
+pub or_none : (o : Option Winner) → or_else o None ≡ o
 or_none None = refl
 or_none (Some w) = refl
 
@@ -340,3 +340,16 @@ joined_put out p ps = either (is_before p.start p.end)
 
 pub clip_shown : (ss : List Segment) (w : Span) (t : ℤ) → (if covers w t then winner_in ss t else None) ≡ (if covers w t then shows ss t else None)
 clip_shown ss w t = rw (shows_is ss t)
+
+-- a clip, as the code makes it
+pub record IsClippedAs (ss : List Segment) (w : Span) (new : List Segment) : Type 0 where
+  pub canonical : IsCanonical new
+  pub shown : (t : ℤ) → shows new t ≡ (if covers w t then shows ss t else None)
+
+pub clipped_as : (ss out new : List Segment) (w : Span) → out ≡ [] → IsCanonical ss → new ≡ joined_all out (part (Some w.start) w.end ss) → IsClippedAs ss w new
+clipped_as ss out new w o c n =
+    let made = clip_made ss new w (linked_spread ss (canonical_linked ss c)) (n ∙ ap (λ (xs : List Segment). joined_all xs (part (Some w.start) w.end ss)) o) in
+    record {
+      canonical = made.canonical;
+      shown = λ t. made.shown t ∙ clip_shown ss w t;
+    }

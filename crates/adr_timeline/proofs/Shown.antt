@@ -44,7 +44,7 @@ same_winner_is a b h =
     winner_ext a.written b.written a.place b.place (eqb-true a.written b.written parts.0) (eqb-true a.place b.place parts.1)
 
 -- what leading to a piece says
-leads_same : (s p : Segment) → leads_to s p ≡ true → (s.end ≡ At p.start) × (s.winner ≡ p.winner)
+pub leads_same : (s p : Segment) → leads_to s p ≡ true → (s.end ≡ At p.start) × (s.winner ≡ p.winner)
 leads_same s p h =
     let parts = and_parts (ends_at s.end p.start) (same_winner s.winner p.winner) h in
     (ends_at_is s.end p.start parts.0, same_winner_is s.winner p.winner parts.1)

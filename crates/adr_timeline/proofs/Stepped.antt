@@ -14,7 +14,7 @@ use Rattle.adr_model.specs.declared.timeline.Winner.{Winner}
 use Rattle.adr_model.specs.declared.timeline.Segment.{Segment}
 use Rattle.adr_timeline.proofs.Segments.{winner_in}
 use Rattle.adr_timeline.specs.declared.step.Step.{Step}
-use Rattle.adr_timeline.specs.Steps.{lesser, rank_at, rank_from, IsFrom, IsInOrder, down_at, steps_of, first_from, winner_of_rank, piece, pieces}
+use Rattle.adr_timeline.specs.Steps.{Adds, AreRanked, IsMergeOf, lesser, rank_at, rank_from, IsFrom, IsInOrder, down_at, steps_of, first_from, winner_of_rank, piece, pieces}
 use Rattle.adr_time.specs.Spans.{meets}
 use Rattle.adr_time.specs.declared.span.Span.{Span}
 use Rattle.adr_model.specs.Entries.{meeting}
@@ -229,3 +229,37 @@ build_shows es found steps new w f o r n t =
     let made = clip_made (pieces steps) new w (pieces_spread steps o) n in
     let wins : winner_in (pieces steps) t ≡ winner_at (meeting es w) t = pieces_show steps t o ∙ (ap (option_map winner_of_rank) (r t) ∙ (winner_rank found t ∙ ap (λ (xs : List Entry). winner_at xs t) f)) in
     made.shown t ∙ (rw wins (winner_meeting es w t))
+
+-- ---- the steps of both halves, one after the other
+
+pub left_part : (before after all o l r front left : List Step) (start middle : ℕ) → after ≡ before ++ l → all ≡ after ++ r → start ≡ length before → middle ≡ length after → o ≡ all → front ≡ take middle o → left ≡ drop start front → left ≡ l
+left_part before after all o l r front left start middle h k s m is f d =
+    let front_is : front ≡ after = f ∙ (rw (m, is, k) (take-length after r)) in
+    d ∙ (rw (s, front_is, h) (drop-length before l))
+  where
+    take-length : (xs ys : List Step) → take (length xs) (xs ++ ys) ≡ xs
+    take-length [] ys = refl
+    take-length (x ∷ xs) ys = ap (λ (zs : List Step). x ∷ zs) (take-length xs ys)
+
+    drop-length : (xs ys : List Step) → drop (length xs) (xs ++ ys) ≡ ys
+    drop-length [] ys = refl
+    drop-length (x ∷ xs) ys = drop-length xs ys
+
+pub right_part : (after all o r right : List Step) (middle : ℕ) → all ≡ after ++ r → middle ≡ length after → o ≡ all → right ≡ drop middle o → right ≡ r
+right_part after all o r right middle k m is d = d ∙ (rw (m, is, k) (drop-length after r))
+  where
+    drop-length : (xs ys : List Step) → drop (length xs) (xs ++ ys) ≡ ys
+    drop-length [] ys = refl
+    drop-length (x ∷ xs) ys = drop-length xs ys
+
+-- what both halves give is ranked by all entries
+pub whole_ranked : (front back all : List Entry) (l r steps : List Step) → IsHalved front back all → AreRanked front l → AreRanked back r → IsMergeOf l r steps → AreRanked all steps
+whole_ranked front back all l r steps h first second merged = (
+  merged.0,
+  omega (arith, merged.1, first.1, second.1, h.whole),
+  λ t. halves_rank front back all t (rank_from None l t) (rank_from None r t) (rank_from None steps t) h.parts (first.2 t) (second.2 t) (merged.2 t),
+)
+
+-- the steps put at the end of none
+pub from_none : (entries : List Entry) (none new : List Step) → none ≡ [] → Adds (AreRanked entries) none new → AreRanked entries new
+from_none entries none new n made = rw (made.1 ∙ ap (λ (xs : List Step). xs ++ made.0) n) made.2

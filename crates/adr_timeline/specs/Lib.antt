@@ -1,4 +1,6 @@
 pub mod Build
+pub mod Chunks
 pub mod Open
 pub mod Parts
 pub mod Steps
+pub mod Windows

@@ -69,3 +69,15 @@ after_end start Endless ss = []
 -- the part after a window
 abbrev pub after : Span → List Segment → List Segment
 after w ss = after_end w.start w.end ss
+
+-- the part after an end, where one is given, and before another end
+abbrev pub part_after : Option End → End → List Segment → List Segment
+part_after None until ss = part None until ss
+part_after (Some (At u)) until ss = part (Some u) until ss
+part_after (Some Endless) until ss = []
+
+-- the list, then the outer segments after an end with the inner ones in each window
+abbrev pub spliced_all : Option End → List Segment → List Segment → List Segment → List Span → List Segment
+spliced_all from out outer inner [] = joined_all out (part_after from Endless outer)
+spliced_all from out outer inner (w ∷ ws) =
+    spliced_all (Some w.end) (joined_all (joined_all out (part_after from (At w.start) outer)) (part (Some w.start) w.end inner)) outer inner ws

@@ -1,5 +1,5 @@
 -- The least rank from instant to instant.
-use Rattle.std.specs.Prelude.{ℤ, ◌≤ℤ◌, int_le, int_lt, ⊤, Bool, true, false, List, [], ◌∷◌, Option, Some, None, if◌then◌else◌, filter}
+use Rattle.std.specs.Prelude.{◌+◌, ◌*◌, ◌≤◌, ◌≡◌, ◌++◌, length, ℤ, ◌≤ℤ◌, int_le, int_lt, ⊤, Bool, true, false, List, [], ◌∷◌, Option, Some, None, if◌then◌else◌, filter, not, ◌&&◌}
 use Rattle.std.specs.Option.{option_map}
 use Rattle.adr_time.specs.Spans.{covers, is_before}
 use Rattle.adr_time.specs.declared.span.End.{End}
@@ -37,6 +37,21 @@ abbrev pub IsInOrder : List Step → Type 0
 IsInOrder [] = ⊤
 IsInOrder (s ∷ ss) = IsFrom s.from ss
 
+-- such steps were put at the end of others
+abbrev pub Adds : (List Step → Type 0) → List Step → List Step → Type 0
+Adds Is old new = (added : List Step) × (new ≡ old ++ added) × Is added
+
+-- the steps have the lesser rank of both lists at each instant
+abbrev pub IsMergeOf : List Step → List Step → List Step → Type 0
+IsMergeOf left right steps =
+    IsInOrder steps × (length steps ≡ length left + length right)
+    × ((t : ℤ) → rank_from None steps t ≡ lesser (rank_from None left t) (rank_from None right t))
+
+-- the steps have the least rank of the entries at each instant
+abbrev pub AreRanked : List Entry → List Step → Type 0
+AreRanked entries steps =
+    IsInOrder steps × (length steps ≤ 2 * length entries) × ((t : ℤ) → rank_from None steps t ≡ rank_at entries t)
+
 -- the next step of two lists is the left one's
 abbrev pub goes_left : List Step → List Step → Bool
 goes_left left [] = true
@@ -72,3 +87,18 @@ piece from until (Some rank) rest = record { start = from; end = until; winner =
 abbrev pub pieces : List Step → List Segment
 pieces [] = []
 pieces (s ∷ ss) = piece s.from (first_from ss) s.rank (pieces ss)
+
+-- the first of the entries does not start before the end
+abbrev pub starts_from : End → List Entry → Bool
+starts_from end [] = true
+starts_from end (e ∷ es) = not (is_before e.span.start end)
+
+-- the entries last, and each ends before the next one starts, or where it starts
+abbrev pub is_run : List Entry → Bool
+is_run [] = true
+is_run (e ∷ es) = is_before e.span.start e.span.end && starts_from e.span.end es && is_run es
+
+-- the steps of each entry in turn
+abbrev pub steps_in_turn : List Entry → List Step
+steps_in_turn [] = []
+steps_in_turn (e ∷ es) = steps_of e ++ steps_in_turn es

@@ -2,11 +2,16 @@
 //! Timelines: which interval governs at each instant, as a list of segments that is canonical at all times.
 
 mod bound;
+mod chunk;
+mod line;
 mod part;
 mod search;
 mod segment;
 mod step;
 mod timeline;
+mod windows;
 
 pub use adr_model::{Entry, Segment, Winner};
+pub use chunk::Chunk;
 pub use timeline::{Timeline, timeline_laws};
+pub use windows::are_apart;

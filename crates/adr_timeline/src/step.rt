@@ -1,10 +1,10 @@
 //! Steps: the least rank from moment to moment, by halves that are merged.
-ghost use Rattle.std.specs.Prelude.{◌≡◌, ◌+◌, ◌*◌, ◌<◌, ◌≤◌, ◌^◌, ℤ, [], IfOk, OnOk, None, length};
+ghost use Rattle.std.specs.Prelude.{◌≡◌, ◌+◌, ◌*◌, ◌<◌, ◌≤◌, ◌^◌, ℤ, [], ◌++◌, IfOk, OnOk, None, length};
 ghost use Rattle.adr_timeline.specs.Parts.{joined_all, part};
-ghost use Rattle.adr_timeline.specs.Steps.{IsInOrder, first_from, goes_left as is_left_next, lesser, piece, pieces, rank_at, rank_from, steps_of};
+ghost use Rattle.adr_timeline.specs.Steps.{Adds, AreRanked, IsInOrder, IsMergeOf, first_from, goes_left as is_left_next, is_run as are_in_turn, starts_from as starts_from_end, steps_in_turn, lesser, piece, pieces, rank_at, rank_from, steps_of};
 
+use crate::line::Line;
 use crate::part::trimmed;
-use crate::segment::join_some;
 use adr_model::{Entry, Rank, Segment, Winner};
 use adr_rule::{Meter, before};
 use adr_time::{End, Moment, Span};
@@ -47,22 +47,20 @@ fn goes_left(left: &[Step], right: &[Step]) -> bool
     }
 }
 
-/// Two lists of steps merged into one that has the lesser of both at each moment. At most one comparison a step.
-fn merged(
-    alloc: Global,
+/// Puts two lists of steps at the end of others, merged into one that has the lesser of both at each moment. At most
+/// one comparison a step.
+fn merge(
+    steps: &mut Vec<Step>,
     left: &[Step],
     right: &[Step],
     meter: &mut Meter,
-) -> Result<Vec<Step>, AllocError>
+) -> Result<(), AllocError>
     requires room { meter.old + (length left.now + length right.now) < 2 ^ 128 }
     requires left { IsInOrder left.now }
     requires right { IsInOrder right.now }
-    ensures order { IfOk result (λ steps. IsInOrder steps.items) }
-    ensures length { IfOk result (λ steps. length steps.items ≡ length left.now + length right.now) }
-    ensures ranks { IfOk result (λ steps. (t : ℤ) → rank_from None steps.items t ≡ lesser (rank_from None left.now t) (rank_from None right.now t)) }
+    ensures merged { OnOk result (Adds (IsMergeOf left.now right.now) steps.old.items steps.new.items) }
     ensures compared { meter.new ≤ meter.old + (length left.now + length right.now) }
 {
-    let mut steps = Vec::with_capacity(alloc, left.len() + right.len())?;
     let mut passed_left = 0;
     let mut passed_right = 0;
     let mut left_rank = None;
@@ -83,16 +81,16 @@ fn merged(
         let rank = lesser(left_rank, right_rank, meter);
         steps.push(Step { from, rank })?;
     }
-    Ok(steps)
+    Ok(())
 }
 
-/// The steps of one entry: up at its start and down at its end, or none where it covers no moment.
-fn steps_of(alloc: Global, entry: &Entry) -> Result<Vec<Step>, AllocError>
-    ensures { IfOk result (λ steps. steps.items ≡ steps_of entry.now) }
+/// Puts the steps of one entry at the end of others: up at its start and down at its end, or none where it covers no
+/// moment.
+fn add_steps_of(steps: &mut Vec<Step>, entry: &Entry) -> Result<(), AllocError>
+    ensures { OnOk result (steps.new.items ≡ steps.old.items ++ steps_of entry.now) }
 {
-    let mut steps = Vec::new(alloc);
     if !entry.span.start.is_before(entry.span.end) {
-        return Ok(steps);
+        return Ok(());
     }
     steps.push(Step {
         from: entry.span.start,
@@ -104,10 +102,79 @@ fn steps_of(alloc: Global, entry: &Entry) -> Result<Vec<Step>, AllocError>
             rank: None,
         })?;
     }
-    Ok(steps)
+    Ok(())
 }
 
-/// The steps of the least rank among the entries. They are halved and merged: for k entries about k log k steps.
+/// Whether the first of the entries does not start before the end.
+fn starts_from(end: End, entries: &[Entry]) -> bool
+    ensures { result ≡ starts_from_end end entries.now }
+{
+    match entries.split_first() {
+        Some((entry, _)) => !entry.span.start.is_before(end),
+        None => true,
+    }
+}
+
+/// Whether the entries last, and each ends before the next one starts, or where it starts.
+fn is_run(entries: &[Entry]) -> bool
+    ensures { result ≡ are_in_turn entries.now }
+{
+    let mut entries = entries;
+    while let Some((entry, later)) = entries.split_first() {
+        if !entry.span.start.is_before(entry.span.end) || !starts_from(entry.span.end, later) {
+            return false;
+        }
+        entries = later;
+    }
+    true
+}
+
+/// Puts the steps of each entry in turn at the end of others.
+fn add_run(steps: &mut Vec<Step>, entries: &[Entry]) -> Result<(), AllocError>
+    ensures { OnOk result (steps.new.items ≡ steps.old.items ++ steps_in_turn entries.now) }
+{
+    for entry in entries {
+        add_steps_of(steps, entry)?;
+    }
+    Ok(())
+}
+
+/// Puts the steps of the least rank among the entries at the end of others. They are halved, and the steps of the
+/// halves are merged from the end of the other list: for k entries about k log k steps.
+fn rank(
+    steps: &mut Vec<Step>,
+    other: &mut Vec<Step>,
+    entries: &[Entry],
+    meter: &mut Meter,
+) -> Result<(), AllocError>
+    requires { meter.old + length entries.now * (2 * length entries.now + 1) < 2 ^ 128 }
+    ensures ranked { OnOk result (Adds (AreRanked entries.now) steps.old.items steps.new.items) }
+    ensures kept { OnOk result (other.new.items ≡ other.old.items) }
+    ensures compared { meter.new ≤ meter.old + length entries.now * (2 * length entries.now + 1) }
+{
+    if is_run(entries) {
+        return add_run(steps, entries);
+    }
+    match entries.len() {
+        0 => Ok(()),
+        1 => add_steps_of(steps, &entries[0]),
+        count => {
+            let (front, back) = entries.split_at(count / 2);
+            let start = other.len();
+            rank(other, steps, front, meter)?;
+            let middle = other.len();
+            rank(other, steps, back, meter)?;
+            let (before, right) = other.split_at(middle);
+            let (_, left) = before.split_at(start);
+            merge(steps, left, right, meter)?;
+            other.truncate(start);
+            Ok(())
+        }
+    }
+}
+
+/// The steps of the least rank among the entries, in two lists that are taken once.
+#[tactic(auto, using(crate::proofs::Stepped::from_none))]
 pub(crate) fn ranked(
     alloc: Global,
     entries: &[Entry],
@@ -115,30 +182,20 @@ pub(crate) fn ranked(
 ) -> Result<Vec<Step>, AllocError>
     requires { meter.old + length entries.now * (2 * length entries.now + 1) < 2 ^ 128 }
     ensures order { IfOk result (λ steps. IsInOrder steps.items) }
-    ensures length { IfOk result (λ steps. length steps.items ≤ 2 * length entries.now) }
     ensures ranks { IfOk result (λ steps. (t : ℤ) → rank_from None steps.items t ≡ rank_at entries.now t) }
     ensures compared { meter.new ≤ meter.old + length entries.now * (2 * length entries.now + 1) }
 {
-    match entries.len() {
-        0 => Ok(Vec::new(alloc)),
-        1 => steps_of(alloc, &entries[0]),
-        count => {
-            let (front, back) = entries.split_at(count / 2);
-            let left = ranked(alloc, front, meter)?;
-            let right = ranked(alloc, back, meter)?;
-            merged(alloc, &left, &right, meter)
-        }
-    }
+    let room = entries.len().saturating_mul(2);
+    let mut steps = Vec::with_capacity(alloc, room)?;
+    let mut other = Vec::with_capacity(alloc, room)?;
+    rank(&mut steps, &mut other, entries, meter)?;
+    drop(other);
+    Ok(steps)
 }
 
 /// Puts the segment from a step up to the next at the end of others, as far as it is inside the window.
-fn join_step(
-    segments: &mut Vec<Segment>,
-    step: &Step,
-    until: End,
-    window: &Span,
-) -> Result<(), AllocError>
-    ensures { OnOk result (segments.new.items ≡ joined_all segments.old.items (part (Some window.now.start) window.now.end (piece step.now.from until step.now.rank []))) }
+fn join_step(line: &mut Line, step: &Step, until: End, window: &Span) -> Result<(), AllocError>
+    ensures { OnOk result (line.new ≡ joined_all line.old (part (Some window.now.start) window.now.end (piece step.now.from until step.now.rank []))) }
 {
     let Some(rank) = step.rank else {
         return Ok(());
@@ -153,7 +210,7 @@ fn join_step(
         winner,
     };
     let inside = trimmed(&Some(window.start), &window.end, &whole);
-    join_some(segments, inside)
+    line.join_some(&inside)
 }
 
 /// Where the first of the steps begins.
@@ -166,18 +223,14 @@ fn first_from(steps: &[Step]) -> End
     }
 }
 
-/// The segments of the winners inside the window.
-pub(crate) fn segments_of(
-    alloc: Global,
-    steps: &[Step],
-    window: Span,
-) -> Result<Vec<Segment>, AllocError>
-    ensures { IfOk result (λ segments. segments.items ≡ joined_all [] (part (Some window.start) window.end (pieces steps.now))) }
+/// Puts the segments of the winners inside the window at the end of an empty line.
+pub(crate) fn join_steps(line: &mut Line, steps: &[Step], window: Span) -> Result<(), AllocError>
+    requires { line.old ≡ [] }
+    ensures { OnOk result (line.new ≡ joined_all [] (part (Some window.start) window.end (pieces steps.now))) }
 {
-    let mut segments = Vec::new(alloc);
     for (place, step) in steps.iter().enumerate() {
         let until = first_from(&steps[place + 1..]);
-        join_step(&mut segments, step, until, &window)?;
+        join_step(line, step, until, &window)?;
     }
-    Ok(segments)
+    Ok(())
 }

@@ -1,5 +1,5 @@
 //! Timelines.
-ghost use Rattle.std.specs.Prelude.{◌≡◌, ◌+◌, ◌<◌, ◌≤◌, ◌^◌, ℤ, [], if◌then◌else◌, None, IfOk};
+ghost use Rattle.std.specs.Prelude.{◌≡◌, ◌&&◌, IsTrue, true, drop, ◌+◌, ◌<◌, ◌≤◌, ◌^◌, ℤ, [], if◌then◌else◌, None, IfOk};
 ghost use Rattle.adr_value.specs.Answer.{OnlyNoMemory};
 ghost use Rattle.adr_value.specs.Copy.{IsCopyOf};
 ghost use Rattle.adr_time.specs.Spans.{covers};
@@ -8,10 +8,13 @@ ghost use Rattle.adr_model.specs.Entries.{meeting};
 ghost use Rattle.adr_model.specs.Governor.{winner_at};
 ghost use Rattle.adr_model.specs.Timeline.{shows, CanonicalIsUnique, IsCanonical};
 ghost use Rattle.adr_timeline.specs.Build.{most_compared};
+ghost use Rattle.adr_timeline.specs.Chunks.{listed};
+ghost use Rattle.adr_timeline.specs.Windows.{any_covers, are_apart};
 
-use crate::part::{clipped, spliced};
-use crate::search;
-use crate::step::{ranked, segments_of};
+use crate::chunk::Chunk;
+use crate::line::Line;
+use crate::step::{join_steps, ranked};
+use crate::{part, search};
 use adr_model::{Entry, Segment, Winner};
 use adr_rule::Meter;
 use adr_time::{End, Moment, Span, meets};
@@ -19,23 +22,31 @@ use adr_value::Refusal;
 use std::alloc::{AllocError, Global};
 use std::marker::Model;
 
+/// How many segments a chunk has at most.
+const MOST_IN_CHUNK: usize = 128;
+
 /// Which interval governs at each instant. Contracts see its segments, which are canonical: nonempty, in order and
 /// apart, and two that touch have different winners.
+///
+/// The segments lie in chunks, which timelines share: a repair copies the table of the chunks, and the segments of those
+/// alone that its windows reach into.
 #[derive(Drop)]
 pub struct Timeline {
-    segments: Vec<Segment>,
+    most: usize,
+    chunks: Vec<Chunk>,
 }
 
 impl Model for Timeline {
     ghost use Rattle.std.specs.Prelude.{List};
     ghost use Rattle.adr_model.specs.declared.timeline.Segment.{Segment};
     ghost use Rattle.adr_model.specs.Timeline.{IsCanonical};
+    ghost use Rattle.adr_timeline.specs.Chunks.{listed, AreFilled};
 
     ghost Value = { List Segment };
 
-    ghost view = { λ timeline. timeline.segments.items };
+    ghost view = { λ timeline. listed timeline.chunks.items };
 
-    ghost invariant = { λ timeline. IsCanonical timeline.segments.items };
+    ghost invariant = { λ timeline. IsCanonical (listed timeline.chunks.items) × AreFilled timeline.chunks.items };
 }
 
 /// The entries that meet the window.
@@ -49,20 +60,51 @@ fn meeting(alloc: Global, entries: &[Entry], window: &Span) -> Result<Vec<Entry>
         .collect(alloc)
 }
 
+/// The timeline of a canonical line.
+fn timeline_of(most: usize, line: Line) -> Result<Timeline, Refusal>
+    requires { IsCanonical line }
+    ensures same { IfOk result (λ timeline. timeline ≡ line) }
+    ensures refused { OnlyNoMemory result }
+{
+    let chunks = line.into_chunks()?;
+    Ok(Timeline { most, chunks })
+}
+
+/// The same chunks, in memory that is shared.
+fn shared(alloc: Global, chunks: &[Chunk]) -> Result<Vec<Chunk>, AllocError>
+    ensures { IfOk result (λ copies. copies.items ≡ chunks.now) }
+{
+    let mut copies = Vec::with_capacity(alloc, chunks.len())?;
+    for chunk in chunks {
+        copies.push(chunk.share()?)?;
+    }
+    Ok(copies)
+}
+
 impl Timeline {
     /// A timeline that shows nothing. It takes no memory before it is built on.
     pub fn new(alloc: Global) -> Timeline
         ensures { result ≡ [] }
     {
+        Timeline::in_chunks_of(alloc, MOST_IN_CHUNK)
+    }
+
+    /// A timeline that shows nothing, and keeps what it is built into in chunks of at most so many segments: for small
+    /// devices and tests. Parts of it have such chunks too.
+    pub fn in_chunks_of(alloc: Global, most: usize) -> Timeline
+        ensures { result ≡ [] }
+    {
         Timeline {
-            segments: Vec::new(alloc),
+            most,
+            chunks: Vec::new(alloc),
         }
     }
 
     /// The timeline of the least of the entries at each instant inside the window, and of nothing outside.
     ///
     /// Ranks are compared by `before` alone, which counts each comparison. `NoMemory` where there is no room. Cost:
-    /// for k entries that meet the window about k log k steps, in room for as many, whatever lies over what.
+    /// for k entries that meet the window at most about k log k steps, in two lists that are taken once, and about k
+    /// where each entry ends before the next one starts.
     pub fn build(
         alloc: Global,
         entries: &[Entry],
@@ -77,32 +119,37 @@ impl Timeline {
     {
         let found = meeting(alloc, entries, &window)?;
         let steps = ranked(alloc, &found, meter)?;
-        let segments = segments_of(alloc, &steps, window)?;
-        Ok(Timeline { segments })
+        let mut line = Line::new(alloc, MOST_IN_CHUNK);
+        join_steps(&mut line, &steps, window)?;
+        timeline_of(MOST_IN_CHUNK, line)
     }
 
-    /// An equal timeline. `NoMemory` where there is no room: it takes one growth.
+    /// An equal timeline, which shares the memory of the segments. `NoMemory` where there is no room. Cost: that of a
+    /// table of the chunks.
     pub fn copy(&self) -> Result<Timeline, Refusal>
         ensures same { IsCopyOf result self.now }
         ensures canonical { IsCanonical self.now }
     {
-        let segments = Vec::from_slice(*self.segments.allocator(), &self.segments)?;
-        Ok(Timeline { segments })
+        let chunks = shared(*self.chunks.allocator(), &self.chunks)?;
+        Ok(Timeline {
+            most: self.most,
+            chunks,
+        })
     }
 
-    /// The segments, in order.
-    pub fn segments(&self) -> &[Segment]
-        ensures segments { result.now ≡ self.now }
+    /// The segments, in order, by chunks.
+    pub fn segments(&self) -> &[Chunk]
+        ensures segments { listed result.now ≡ self.now }
         ensures canonical { IsCanonical self.now }
     {
-        &self.segments
+        &self.chunks
     }
 
     /// The interval that governs at the moment, by a binary search.
     pub fn governor(&self, at: Moment) -> Option<Winner>
         ensures { result ≡ shows self.now at }
     {
-        search::governor(&self.segments, at)
+        search::governor(&self.chunks, at)
     }
 
     /// The least later moment where another interval governs, or none does, by a binary search; `Endless` where it
@@ -110,7 +157,7 @@ impl Timeline {
     pub fn next_change(&self, at: Moment) -> End
         ensures { IsUntil (shows self.now) at result }
     {
-        search::next_change(&self.segments, at)
+        search::next_change(&self.chunks, at)
     }
 
     /// What is shown inside the window, and nothing outside. `NoMemory` where there is no room.
@@ -119,23 +166,35 @@ impl Timeline {
         ensures shows { IfOk result (λ timeline. (t : ℤ) → shows timeline t ≡ (if covers window t then shows self.now t else None)) }
         ensures refused { OnlyNoMemory result }
     {
-        let segments = clipped(*self.segments.allocator(), &self.segments, window)?;
-        Ok(Timeline { segments })
+        let mut line = Line::new(*self.chunks.allocator(), self.most);
+        part::clip(&mut line, &self.chunks, window)?;
+        timeline_of(self.most, line)
     }
 
-    /// What the inner timeline shows inside the window, and this one outside. `NoMemory` where there is no room.
+    /// What the inner timeline shows inside the window, and this one outside. `NoMemory` where there is no room. Cost:
+    /// as for [`Timeline::splice_all`] with one window.
     pub fn splice(&self, window: Span, inner: &Timeline) -> Result<Timeline, Refusal>
         ensures canonical { IfOk result (λ timeline. IsCanonical timeline) }
         ensures shows { IfOk result (λ timeline. (t : ℤ) → shows timeline t ≡ (if covers window t then shows inner.now t else shows self.now t)) }
         ensures refused { OnlyNoMemory result }
     {
-        let segments = spliced(
-            *self.segments.allocator(),
-            &self.segments,
-            window,
-            &inner.segments,
-        )?;
-        Ok(Timeline { segments })
+        let mut line = Line::new(*self.chunks.allocator(), self.most);
+        part::splice(&mut line, &self.chunks, window, &inner.chunks)?;
+        timeline_of(self.most, line)
+    }
+
+    /// What the inner timeline shows inside the windows, and this one outside: one repair for all windows of an edit.
+    /// [`are_apart`](crate::are_apart) tests windows. `NoMemory` where there is no room. Cost: that of a table of the
+    /// chunks, and of the segments of those chunks that the windows reach into; the other chunks are shared.
+    pub fn splice_all(&self, windows: &[Span], inner: &Timeline) -> Result<Timeline, Refusal>
+        requires { IsTrue (are_apart windows.now) }
+        ensures canonical { IfOk result (λ timeline. IsCanonical timeline) }
+        ensures shows { IfOk result (λ timeline. (t : ℤ) → shows timeline t ≡ (if any_covers windows.now t then shows inner.now t else shows self.now t)) }
+        ensures refused { OnlyNoMemory result }
+    {
+        let mut line = Line::new(*self.chunks.allocator(), self.most);
+        part::splice_all(&mut line, &self.chunks, windows, &inner.chunks)?;
+        timeline_of(self.most, line)
     }
 }
 

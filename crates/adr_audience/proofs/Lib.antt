@@ -1,0 +1,9 @@
+pub mod Gathered
+pub mod Queried
+pub mod Matched
+pub mod Applied
+pub mod Shared
+pub mod Listed
+pub mod Placed
+pub mod Edited
+pub mod AskedEdits

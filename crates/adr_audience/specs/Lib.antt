@@ -1,0 +1,5 @@
+pub mod Offers
+pub mod Query
+pub mod Rows
+pub mod Asks
+pub mod Laws

@@ -1,0 +1,5 @@
+pub mod Key
+pub mod Places
+pub mod Blocks
+pub mod Rows
+pub mod Sets

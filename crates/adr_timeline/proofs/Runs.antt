@@ -1,0 +1,79 @@
+-- The steps of entries that come one after the other.
+use Rattle.std.proofs.Common.{◌≡◌, true, not, ◌&&◌, List, [], ◌∷◌, ◌++◌, Option, Some, None, refl, sym, ◌∙◌, arith, ℤ, int_le, int_lt}
+use Rattle.std.proofs.lemmas.Int.{ints}
+use Rattle.std.proofs.lemmas.Bool.{false≢true, and_parts}
+use Rattle.adr_time.specs.Spans.{is_before}
+use Rattle.adr_time.specs.declared.span.End.{End}
+use Rattle.adr_time.specs.declared.span.End.TheVariants.{At, Endless}
+use Rattle.adr_model.specs.declared.entry.Entry.{Entry}
+use Rattle.adr_model.specs.declared.entry.Rank.{Rank}
+use Rattle.adr_timeline.specs.declared.step.Step.{Step}
+use Rattle.adr_timeline.specs.Steps.{Adds, AreRanked, goes_left, down_at, steps_of, starts_from, is_run, steps_in_turn}
+use Rattle.adr_timeline.proofs.Merged.{IsMerge, merge_none, merge_left, merge_right, order_of}
+use Rattle.adr_timeline.proofs.Ranks.{rank_append}
+use Rattle.adr_timeline.proofs.Stepped.{steps_rank, steps_order, steps_few}
+
+-- the steps start at the end or later
+abbrev StartFrom : End → List Step → Type 0
+StartFrom e [] = Unit {0}
+StartFrom e (s ∷ ss) = not (is_before s.from e) ≡ true
+
+-- nothing comes before the rest
+merge_rest : (b : Option Rank) (rest : List Step) → IsMerge None b [] rest rest
+merge_rest b [] = merge_none None b
+merge_rest b (s ∷ ss) = merge_right None b s.rank s [] ss ss refl refl (merge_rest s.rank ss)
+
+abbrev up : ℤ → Rank → Step
+up a r = record { from = a; rank = Some r }
+
+abbrev down : ℤ → Step
+down u = record { from = u; rank = None }
+
+le_of_not : (u t : ℤ) → not (int_lt t u) ≡ true → int_le u t ≡ true
+le_of_not u t h = grind (arith, ints)
+
+le_through : (a u t : ℤ) → int_lt a u ≡ true → not (int_lt t u) ≡ true → int_le a t ≡ true
+le_through a u t h k = grind (arith, ints)
+
+down_first : (u : ℤ) (rest : List Step) → StartFrom (At u) rest → goes_left (down u ∷ []) rest ≡ true
+down_first u [] h = refl
+down_first u (s ∷ ss) h = le_of_not u s.from h
+
+up_first : (a u : ℤ) (r : Rank) (rest : List Step) → int_lt a u ≡ true → StartFrom (At u) rest → goes_left (up a r ∷ (down u ∷ [])) rest ≡ true
+up_first a u r [] n h = refl
+up_first a u r (s ∷ ss) n h = le_through a u s.from n h
+
+-- the steps of one entry, and those that start where it ends or later
+merge_entry : (a : ℤ) (e : End) (r : Rank) (rest : List Step) → is_before a e ≡ true → StartFrom e rest → IsMerge None None (up a r ∷ down_at e) rest ((up a r ∷ down_at e) ++ rest)
+merge_entry a (At u) r rest n h =
+    merge_left None None (Some r) (up a r) (down u ∷ []) rest (down u ∷ rest) (up_first a u r rest n h) refl
+    (merge_left (Some r) None None (down u) [] rest rest (down_first u rest h) refl (merge_rest None rest))
+merge_entry a Endless r [] n h = merge_left None None (Some r) (up a r) [] [] [] refl refl (merge_none (Some r) None)
+merge_entry a Endless r (s ∷ ss) n h = absurd (false≢true h)
+
+steps_if : (e : Entry) → is_before e.span.start e.span.end ≡ true → steps_of e ≡ up e.span.start e.rank ∷ down_at e.span.end
+steps_if e h = rw h refl
+
+run_parts : (e : Entry) (es : List Entry) → is_run (e ∷ es) ≡ true → (is_before e.span.start e.span.end ≡ true) × (starts_from e.span.end es ≡ true) × (is_run es ≡ true)
+run_parts e es h =
+    let rest = and_parts (is_before e.span.start e.span.end && starts_from e.span.end es) (is_run es) h in
+    let first = and_parts (is_before e.span.start e.span.end) (starts_from e.span.end es) rest.0 in
+    (first.0, first.1, rest.1)
+
+turn_starts : (end : End) (es : List Entry) → starts_from end es ≡ true → is_run es ≡ true → StartFrom end (steps_in_turn es)
+turn_starts end [] h k = tt
+turn_starts end (e ∷ es) h k = rw (steps_if e (run_parts e es k).0) h
+
+pub run_ranked : (es : List Entry) → is_run es ≡ true → AreRanked es (steps_in_turn es)
+run_ranked [] h = (tt, omega arith, λ t. refl)
+run_ranked (e ∷ es) h =
+    let parts = run_parts e es h in
+    let rest = run_ranked es parts.2 in
+    let merged : IsMerge None None (steps_of e) (steps_in_turn es) (steps_of e ++ steps_in_turn es) = rw (steps_if e parts.0) (merge_entry e.span.start e.span.end e.rank (steps_in_turn es) parts.0 (turn_starts e.span.end es parts.1 parts.2)) in (
+      order_of (steps_of e) (steps_in_turn es) (steps_of e ++ steps_in_turn es) merged.order (steps_order e) rest.0,
+      omega (arith, merged.count, steps_few e, rest.1),
+      λ t. merged.ranks t ∙ (rw (steps_rank e t, rest.2 t) (sym (rank_append (e ∷ []) es t))),
+    )
+
+pub run_added : (es : List Entry) (old new : List Step) → is_run es ≡ true → new ≡ old ++ steps_in_turn es → Adds (AreRanked es) old new
+run_added es old new h n = (steps_in_turn es, n, run_ranked es h)

@@ -1,0 +1,38 @@
+use Rattle.std.proofs.Common.{rules, ◌++◌, [], ◌∷◌, List, refl, sym, arith}
+use Rattle.adr_timeline.specs.declared.step.Step.{Step}
+use Rattle.adr_timeline.proofs.Merged.{turn_left, turn_right, merge_done, goes_rest, begun_at, added_more}
+use Rattle.adr_timeline.proofs.step.merge.Goals as goal
+use Rattle.adr_timeline.proofs.step.merge.Goals.{then-goes_left, else-goes_left}
+
+pub loop-passed_left-preserved : goal.loop-passed_left-preserved
+loop-passed_left-preserved c = elim c.if-goes_left.branch [
+  | then-goes_left w ↦
+      let done = c.loop-passed_left.invariant.0 in
+      let more : List Step = done ++ record { from = w.index-left-passed_left.result.from; rank = c.lesser-rank.result } ∷ [] in (
+        more,
+        added_more _ _ _ done _ c.loop-passed_left.invariant.1 (rw w.from-is at c.in_ok-push.ensures.items),
+        begun_at c.args.left.now c.args.right.now more c.if-goes_left.left_rank _ c.if-goes_left.right_rank _ c.if-goes_left.passed_left _ c.if-goes_left.passed_right _ c.lesser-rank.new.meter c.args.meter.now w.left_rank-is w.right_rank-is w.passed_left-is w.passed_right-is
+            (turn_left c.args.left.now c.args.right.now done more c.loop-passed_left.left_rank c.loop-passed_left.right_rank c.lesser-rank.result c.loop-passed_left.passed_left c.loop-passed_left.passed_right c.loop-passed_left.meter c.lesser-rank.new.meter c.args.meter.now w.index-left-passed_left.result c.loop-passed_left.invariant.2 c.lesser-rank.ensures.compared
+            refl
+            (search rules) w.index-left-passed_left.is
+            (sym (goes_rest c.args.left.now c.args.right.now c.loop-passed_left.passed_left c.loop-passed_left.passed_right _ w.if-goes_left.ensures))
+            (rw (w.left_rank-is, w.right_rank-is) at c.lesser-rank.ensures.lesser)),
+      )
+  | else-goes_left w ↦
+      let done = c.loop-passed_left.invariant.0 in
+      let more : List Step = done ++ record { from = w.index-right-passed_right.result.from; rank = c.lesser-rank.result } ∷ [] in (
+        more,
+        added_more _ _ _ done _ c.loop-passed_left.invariant.1 (rw w.from-is at c.in_ok-push.ensures.items),
+        begun_at c.args.left.now c.args.right.now more c.if-goes_left.left_rank _ c.if-goes_left.right_rank _ c.if-goes_left.passed_left _ c.if-goes_left.passed_right _ c.lesser-rank.new.meter c.args.meter.now w.left_rank-is w.right_rank-is w.passed_left-is w.passed_right-is
+            (turn_right c.args.left.now c.args.right.now done more c.loop-passed_left.left_rank c.loop-passed_left.right_rank c.lesser-rank.result c.loop-passed_left.passed_left c.loop-passed_left.passed_right c.loop-passed_left.meter c.lesser-rank.new.meter c.args.meter.now w.index-right-passed_right.result c.loop-passed_left.invariant.2 c.lesser-rank.ensures.compared
+            refl
+            (search rules) w.index-right-passed_right.is
+            (sym (goes_rest c.args.left.now c.args.right.now c.loop-passed_left.passed_left c.loop-passed_left.passed_right _ w.if-goes_left.ensures))
+            (rw (w.left_rank-is, w.right_rank-is) at c.lesser-rank.ensures.lesser)),
+      )
+]
+
+pub returns-clause-merged : goal.returns-clause-merged
+returns-clause-merged c =
+    let begun = c.loop-passed_left.invariant in
+    (begun.0, begun.1, merge_done c.args.left.now c.args.right.now begun.0 c.loop-passed_left.left_rank c.loop-passed_left.right_rank c.loop-passed_left.passed_left c.loop-passed_left.passed_right c.loop-passed_left.meter c.args.meter.now begun.2 (omega arith) (omega arith) c.requires.left c.requires.right)
