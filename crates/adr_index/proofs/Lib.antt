@@ -1,5 +1,9 @@
+pub mod Asked
+pub mod Depth
+pub mod Found
 pub mod Fresh
 pub mod Grown
-pub mod Listed
-pub mod Looks
-pub mod Search
+pub mod Ordered
+pub mod Placed
+pub mod Scanned
+pub mod Searched

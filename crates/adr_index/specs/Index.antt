@@ -1,11 +1,9 @@
 -- An index as a list.
-use Rattle.std.specs.Prelude.{◌≡◌, ℕ, ◌+◌, ◌-◌, ◌*◌, ⊤, Bool, true, not, ◌&&◌, ◌==◌, List, [], ◌∷◌, ◌++◌, length, filter, Option}
-use Rattle.std.specs.List.{AllByRecursion}
+use Rattle.std.specs.Prelude.{◌≡◌, ℕ, ◌+◌, ◌-◌, ◌*◌, ⊤, Bool, true, false, not, ◌&&◌, ◌||◌, ◌==◌, List, [], ◌∷◌, ◌++◌, length, filter}
+use Rattle.std.specs.List.{AllByRecursion, list_any}
 use Rattle.std.specs.Int.{leading_zeros, w64}
-use Rattle.adr_time.specs.declared.span.End.{End}
 use Rattle.adr_model.specs.declared.entry.Entry.{Entry}
 use Rattle.adr_model.specs.Entries.{is_listed_before}
-use Rattle.adr_index.specs.Tree.{IsTree}
 
 -- what an index is seen as: its entries in order, and how many more are sure of their room
 pub record Indexed : Type 0 where
@@ -37,8 +35,21 @@ abbrev pub IsOrdered : List Entry → Type 0
 IsOrdered [] = ⊤
 IsOrdered (e ∷ es) = AllByRecursion (λ f. is_listed_before e f ≡ true) es × IsOrdered es
 
--- in order, with the tree of their ends
-pub record IsIndex (es : List Entry) (gs : List (Option End)) : Type 0 where
-  pub order : IsOrdered es
-  pub lengths : length gs ≡ length es
-  pub tree : IsTree (digits (length es)) es gs
+-- the entries that come before it or after it
+abbrev pub others : Entry → List Entry → List Entry
+others e entries = filter (λ x. is_listed_before x e || is_listed_before e x) entries
+
+-- the entries but for those that stand in the place of one of the old
+abbrev pub others_all : List Entry → List Entry → List Entry
+others_all [] entries = entries
+others_all (e ∷ es) entries = others_all es (others e entries)
+
+-- the entries, and each of the new ones in its place
+abbrev pub inserted_all : List Entry → List Entry → List Entry
+inserted_all [] entries = entries
+inserted_all (e ∷ es) entries = inserted_all es (inserted e entries)
+
+-- none has the written number and place of an entry, or of a new one before it
+abbrev pub AreNew : List Entry → List Entry → Type 0
+AreNew [] entries = ⊤
+AreNew (e ∷ es) entries = (list_any (is_entry e.rank.written e.rank.place) entries ≡ false) × AreNew es (inserted e entries)

@@ -1,3 +1,5 @@
+pub mod Chunks
 pub mod Index
 pub mod Query
+pub mod Tables
 pub mod Tree

@@ -1,5 +1,6 @@
 -- Entries that are asked for.
-use Rattle.std.specs.Prelude.{ℤ, int_le, Bool, ◌&&◌, List, [], ◌∷◌, filter, if◌then◌else◌}
+use Rattle.std.specs.Prelude.{ℤ, int_le, ℕ, ◌+◌, ◌*◌, Bool, not, ◌&&◌, List, [], ◌∷◌, filter, length, if◌then◌else◌}
+use Rattle.std.specs.List.{list_any}
 use Rattle.adr_time.specs.Spans.{is_before}
 use Rattle.adr_model.specs.declared.entry.Entry.{Entry}
 use Rattle.adr_index.specs.declared.query.Query.{Query}
@@ -19,6 +20,10 @@ lasts e t = is_before e.span.start e.span.end && is_before t e.span.end
 abbrev pub is_hit : Query → Entry → Bool
 is_hit q e = lasts e q.from && begins q.latest e.span.start
 
+-- the entry lasts and starts too late
+abbrev pub is_late : Query → Entry → Bool
+is_late q e = lasts e q.from && not (begins q.latest e.span.start)
+
 -- the entries that are asked for
 abbrev pub hits : List Entry → Query → List Entry
 hits es q = filter (is_hit q) es
@@ -26,3 +31,15 @@ hits es q = filter (is_hit q) es
 -- the entry, where it is asked for
 abbrev pub if_hit : Entry → Query → List Entry
 if_hit e q = if is_hit q e then e ∷ [] else []
+
+-- one of them lasts and starts too late
+abbrev pub any_late : List Entry → Query → Bool
+any_late es q = list_any (is_late q) es
+
+-- how many a search comes to: those that are asked for, and the first that starts too late
+abbrev pub reached : List Entry → Query → ℕ
+reached es q = length (hits es q) + (if any_late es q then 1 else 0)
+
+-- how many looks a search takes at most: two a level for each entry that it comes to, and one
+abbrev pub looks : ℕ → List Entry → Query → ℕ
+looks h es q = 1 + 2 * h * reached es q

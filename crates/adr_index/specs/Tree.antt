@@ -1,13 +1,12 @@
--- A tree of greatest ends over a list of entries in order of their starts.
-use Rattle.std.specs.Prelude.{◌≡◌, ℕ, zero, suc, ◌+◌, ◌<◌, ◌/◌, ◌==◌, ⊤, Bool, false, ◌||◌, List, [], ◌∷◌, length, take, drop, Option, Some, None, if◌then◌else◌, ℤ, ◌≤ℤ◌, pos, slice_index_or}
-use Rattle.std.specs.List.{AllByRecursion}
+-- A tree of greatest ends over parts of a list of entries in order of their starts.
+use Rattle.std.specs.Prelude.{◌≡◌, ℕ, zero, suc, ◌-◌, ◌<◌, ◌/◌, ⊤, Bool, false, ◌||◌, List, [], ◌∷◌, length, take, drop, Option, Some, None, if◌then◌else◌, ℤ, ◌≤ℤ◌, slice_index_or}
+use Rattle.std.specs.List.{AllByRecursion, flat_map}
 use Rattle.std.specs.Int.{int_max}
 use Rattle.adr_time.specs.Spans.{is_before}
 use Rattle.adr_time.specs.declared.span.End.{End}
 use Rattle.adr_time.specs.declared.span.End.TheVariants.{At, Endless}
 use Rattle.adr_model.specs.declared.entry.Entry.{Entry}
-use Rattle.adr_index.specs.declared.query.Query.{Query}
-use Rattle.adr_index.specs.Query.{begins, lasts}
+use Rattle.adr_index.specs.Query.{lasts}
 
 -- in order of their starts
 abbrev pub IsByStart : List Entry → Type 0
@@ -28,28 +27,18 @@ comes_after (Some e) t = is_before t e
 abbrev pub IsGreatest : Option End → List Entry → Type 0
 IsGreatest g es = (t : ℤ) → comes_after g t ≡ any_lasts es t
 
--- at the middle of a list is its greatest end, and so in both halves
-abbrev pub IsTree : ℕ → List Entry → List (Option End) → Type 0
-IsTree zero es gs = ⊤
-IsTree (suc h) es gs =
-    (0 < length es → IsGreatest (slice_index_or gs (length es / 2) None) es)
-    × IsTree h (take (length es / 2) es) (take (length es / 2) gs)
-    × IsTree h (drop (length es / 2 + 1) es) (drop (length es / 2 + 1) gs)
+-- the entry alone
+abbrev pub only : Entry → List Entry
+only e = e ∷ []
 
--- the start of the entry at a place
-abbrev pub start_at : List Entry → ℕ → ℤ
-start_at es i = (slice_index_or es i (record { rank = record { priority = 0; late = pos 0; written = 0; place = 0 }; span = record { start = pos 0; end = At (pos 0) } })).span.start
-
--- how many looks a search takes
-abbrev pub probes : ℕ → List Entry → Query → ℕ
-probes zero es q = 0
-probes (suc h) es q =
-    if length es == 0 then 0 else
-    (1 +
-    (if any_lasts es q.from
-    then (probes h (take (length es / 2) es) q + 1) +
-    (if begins q.latest (start_at es (length es / 2)) then probes h (drop (length es / 2 + 1) es) q else 0)
-    else 0))
+-- two parts or more have their greatest end between the ends of their halves, and the halves of more than four are
+-- trees again
+abbrev pub IsTree : {A : Type 0} → (A → List Entry) → ℕ → List A → List (Option End) → Type 0
+IsTree f zero xs gs = ⊤
+IsTree f (suc h) xs gs =
+    1 < length xs →
+    IsGreatest (slice_index_or gs (length xs / 2 - 1) None) (flat_map f xs)
+    × (4 < length xs → IsTree f h (take (length xs / 2) xs) (take (length xs / 2 - 1) gs) × IsTree f h (drop (length xs / 2) xs) (drop (length xs / 2) gs))
 
 -- the later of two ends
 abbrev pub end_max : End → End → End

@@ -1,13 +1,18 @@
-//! Entries in order, under a tree of greatest ends.
+//! Entries in order, found by the moments and windows that they cover.
 ghost use Rattle.std.specs.Prelude.{◌≡◌, ◌+◌, ◌*◌, ◌<◌, ◌≤◌, ◌^◌, [], false, length, IfOk, IsOk, OnOk, OnErr};
-ghost use Rattle.std.specs.List.{insert, list_any};
+ghost use Rattle.std.specs.List.{list_any};
 ghost use Rattle.adr_value.specs.Answer.{OnlyNoMemory};
-ghost use Rattle.adr_model.specs.Entries.{covering, is_listed_before, meeting, IsListed};
-ghost use Rattle.adr_index.specs.Index.{digits as digits_of, inserted, IsOrdered, is_entry, most_probes, without};
+ghost use Rattle.adr_model.specs.Entries.{covering, meeting, IsListed};
+ghost use Rattle.adr_index.specs.Chunks.{listed, AreChunks};
+ghost use Rattle.adr_index.specs.Index.{inserted, inserted_all, is_entry, most_probes, others_all, without, AreNew};
 ghost use Rattle.adr_index.specs.Query.{hits};
+ghost use Rattle.adr_index.specs.Tables.{HasTops};
 
+use crate::chunk::Chunk;
 use crate::query::{Latest, Query};
-use crate::tree::{rebuild, search};
+use crate::table::Table;
+use crate::tops::{rebuild_chunks, search_chunks};
+use crate::tree::digits;
 use adr_model::Entry;
 use adr_rule::Meter;
 use adr_time::{End, Moment, Span};
@@ -19,54 +24,53 @@ use std::marker::Model;
 /// for.
 ///
 /// No two entries have one written number and place. An entry whose span covers no moment is kept, and never found.
+///
+/// They lie in chunks of at most 128. An edit goes to one chunk, found by halving, and writes the tree of greatest ends
+/// over the chunks anew: with n entries a step for each of some n/64 chunks.
 #[derive(Drop)]
 pub struct Index {
-    entries: Vec<Entry>,
-    greatest: Vec<Option<End>>,
+    table: Table,
+    tops: Vec<Option<End>>,
 }
 
 impl Model for Index {
-    ghost use Rattle.std.specs.Prelude.{◌-◌, min, vec_len, vec_capacity};
-    ghost use Rattle.adr_index.specs.Index.{Indexed, IsIndex};
+    ghost use Rattle.std.specs.Prelude.{◌-◌, length, min};
+    ghost use Rattle.adr_index.specs.Chunks.{all_listed};
+    ghost use Rattle.adr_index.specs.Index.{Indexed};
+    ghost use Rattle.adr_index.specs.Tables.{free, IsIndex};
 
     ghost Value = { Indexed };
 
-    ghost view = { λ index. record { entries = index.entries.items; spare = min (vec_capacity index.entries - vec_len index.entries) (vec_capacity index.greatest - vec_len index.greatest) } };
+    ghost view = { λ index. record { entries = all_listed index.table.chunks.items; spare = min (free index.table) (length index.tops.items - length index.table.chunks.items) } };
 
-    ghost invariant = { λ index. IsIndex index.entries.items index.greatest.items };
+    ghost invariant = { λ index. IsIndex index.table index.tops.items };
 }
 
-/// How many binary digits the number has.
-fn digits(number: usize) -> u32
-    ensures digits { result ≡ digits_of number }
-    ensures below { number < 2 ^ result }
+/// Writes the tree over the chunks anew.
+fn refresh(chunks: &[Chunk], tops: &mut [Option<End>])
+    requires chunks { AreChunks chunks.now }
+    requires lengths { length chunks.now ≤ length tops.old + 1 }
+    ensures { HasTops chunks.now tops.new }
 {
-    usize::BITS - number.leading_zeros()
+    let levels = digits(chunks.len());
+    let _ = rebuild_chunks(levels, chunks, tops);
 }
 
-/// Whether the first entry comes before the second in an index.
-fn comes_before(first: &Entry, second: &Entry) -> bool
-    ensures { result ≡ is_listed_before first.now second.now }
+/// Makes room for the ends of that many chunks.
+fn widen(chunks: &[Chunk], tops: &mut Vec<Option<End>>, wanted: usize) -> Result<(), AllocError>
+    requires chunks { AreChunks chunks.now }
+    requires lengths { length chunks.now ≤ length tops.old.items }
+    requires tops { HasTops chunks.now tops.old.items }
+    ensures tops { HasTops chunks.now tops.new.items }
+    ensures ok { OnOk result (wanted ≤ length tops.new.items) }
+    ensures kept { length tops.old.items ≤ length tops.new.items }
 {
-    first.span.start < second.span.start
-        || first.span.start == second.span.start
-            && (first.rank.written < second.rank.written
-                || first.rank.written == second.rank.written
-                    && first.rank.place < second.rank.place)
-}
-
-/// Whether it is the entry of that written number and place.
-fn is_entry(entry: &Entry, written: u64, place: u32) -> bool
-    ensures { result ≡ is_entry written place entry.now }
-{
-    entry.rank.written == written && entry.rank.place == place
-}
-
-/// Whether one of the entries has that written number and place.
-fn has_entry(entries: &[Entry], written: u64, place: u32) -> bool
-    ensures { result ≡ list_any (is_entry written place) entries.now }
-{
-    entries.iter().any(|entry| is_entry(entry, written, place))
+    if wanted <= tops.len() {
+        return Ok(());
+    }
+    tops.resize(wanted, None)?;
+    refresh(chunks, tops);
+    Ok(())
 }
 
 impl Index {
@@ -75,8 +79,8 @@ impl Index {
         ensures { result.entries ≡ [] }
     {
         Index {
-            entries: Vec::new(alloc),
-            greatest: Vec::new(alloc),
+            table: Table::new(alloc),
+            tops: Vec::new(alloc),
         }
     }
 
@@ -85,10 +89,10 @@ impl Index {
         ensures entries { IfOk result (λ index. index.entries ≡ self.now.entries) }
         ensures refused { OnlyNoMemory result }
     {
-        let alloc = *self.entries.allocator();
-        let entries = Vec::from_slice(alloc, &self.entries)?;
-        let greatest = Vec::from_slice(alloc, &self.greatest)?;
-        Ok(Index { entries, greatest })
+        let mut tops = Vec::from_slice(*self.tops.allocator(), &self.tops)?;
+        let table = self.table.copy()?;
+        refresh(&table.chunks, &mut tops);
+        Ok(Index { table, tops })
     }
 
     /// How many entries there are.
@@ -96,32 +100,48 @@ impl Index {
         ensures value { result ≡ length self.now.entries }
         ensures listed { IsListed self.now.entries }
     {
-        self.entries.len()
+        self.table.count
     }
 
     /// How many entries can be inserted with no want of memory, at least.
     pub fn spare(&self) -> usize
         ensures { result ≡ self.now.spare }
     {
-        let entries = self.entries.capacity() - self.entries.len();
-        let greatest = self.greatest.capacity() - self.greatest.len();
-        entries.min(greatest)
+        let tops = self.tops.len() - self.table.chunks.len();
+        self.table.free().min(tops)
     }
 
-    /// Makes room for that many more entries. `NoMemory` where it isn't there; then nothing is changed.
+    /// Makes room for that many more entries. `NoMemory` where it isn't there; then nothing is changed. As each new
+    /// entry may part a full chunk, it keeps an empty chunk ready for each, of some 16 KiB; those that were not used
+    /// serve the next call.
     pub fn reserve(&mut self, more: usize) -> Result<(), Refusal>
         ensures entries { self.new.entries ≡ self.old.entries }
         ensures spare { OnOk result (more ≤ self.new.spare) }
         ensures kept { self.old.spare ≤ self.new.spare }
         ensures refused { OnlyNoMemory result }
     {
-        self.entries.reserve(more)?;
-        self.greatest.reserve(more)?;
+        self.table.reserve(more)?;
+        let wanted = self.table.chunks.len() + more;
+        widen(&self.table.chunks, &mut self.tops, wanted)?;
         Ok(())
     }
 
+    /// Makes room for one more entry, where there is none.
+    fn make_room(&mut self) -> Result<(), Refusal>
+        ensures entries { self.new.entries ≡ self.old.entries }
+        ensures spare { OnOk result (0 < self.new.spare) }
+        ensures kept { self.old.spare ≤ self.new.spare }
+        ensures room { 0 < self.old.spare → IsOk result }
+        ensures refused { OnlyNoMemory result }
+    {
+        if self.spare() > 0 {
+            return Ok(());
+        }
+        self.reserve(1)
+    }
+
     /// Adds an entry in its place. `NoMemory` where there is no room; then the list is as it was. With room to spare
-    /// it is never refused. Cost: about one step for each entry.
+    /// it is never refused. Cost: some 128 steps in its chunk, and a step for each chunk.
     pub fn insert(&mut self, entry: Entry) -> Result<(), Refusal>
         requires { list_any (is_entry entry.rank.written entry.rank.place) self.old.entries ≡ false }
         ensures ok { OnOk result (self.new.entries ≡ inserted entry self.old.entries) }
@@ -130,29 +150,36 @@ impl Index {
         ensures taken { self.old.spare ≤ self.new.spare + 1 }
         ensures refused { OnlyNoMemory result }
     {
-        self.greatest.reserve(1)?;
-        let place = place_of(&self.entries, &entry);
-        self.entries.insert(place, entry)?;
-        self.greatest.push(None)?;
-        let levels = digits(self.entries.len());
-        let _ = rebuild(levels, &self.entries, &mut self.greatest);
+        self.make_room()?;
+        self.table.put(entry);
+        refresh(&self.table.chunks, &mut self.tops);
         Ok(())
     }
 
+    /// Takes out what stands in the place of an old entry, with its start, written number and place, and adds the new
+    /// ones, as when an event is written again. It takes no memory. Cost: for each entry of both some 128 steps in its
+    /// chunk, and once a step for each chunk.
+    pub fn replace(&mut self, old: &[Entry], new: &[Entry])
+        requires room { length new.now ≤ self.old.spare }
+        requires fresh { AreNew new.now (others_all old.now self.old.entries) }
+        ensures entries { self.new.entries ≡ inserted_all new.now (others_all old.now self.old.entries) }
+        ensures spare { self.old.spare ≤ self.new.spare + length new.now }
+    {
+        self.table.take_all(old);
+        self.table.put_all(new);
+        refresh(&self.table.chunks, &mut self.tops);
+    }
+
     /// Takes out the entry of that written number and place, and answers whether it was there. It takes no memory.
-    /// Cost: about one step for each entry.
+    /// Cost: a step for each entry; `replace` takes out entries that are known whole at less.
     pub fn remove(&mut self, written: u64, place: u32) -> bool
         ensures answer { result ≡ list_any (is_entry written place) self.old.entries }
         ensures entries { self.new.entries ≡ without written place self.old.entries }
         ensures spare { self.old.spare ≤ self.new.spare }
     {
-        let found = has_entry(&self.entries, written, place);
-        self.entries
-            .retain(|entry| !is_entry(entry, written, place));
-        self.greatest.truncate(self.entries.len());
-        let levels = digits(self.entries.len());
-        let _ = rebuild(levels, &self.entries, &mut self.greatest);
-        found
+        let is_found = self.table.take_numbered(written, place);
+        refresh(&self.table.chunks, &mut self.tops);
+        is_found
     }
 
     /// The entries that are asked for, with a tick for each look.
@@ -161,12 +188,13 @@ impl Index {
         ensures found { IfOk result (λ found. found.items ≡ hits self.now.entries query.now) }
         ensures probes { meter.new ≤ meter.old + most_probes self.now.entries (length (hits self.now.entries query.now)) }
     {
-        let mut found = Vec::new(*self.entries.allocator());
-        let levels = digits(self.entries.len());
-        search(
-            levels,
-            &self.entries,
-            &self.greatest,
+        let mut found = Vec::new(*self.tops.allocator());
+        let depth = digits(self.table.count);
+        search_chunks(
+            depth,
+            depth,
+            &self.table.chunks,
+            &self.tops,
             query,
             &mut found,
             meter,
@@ -178,13 +206,14 @@ impl Index {
     fn find(&self, query: &Query) -> Result<Vec<Entry>, AllocError>
         ensures { IfOk result (λ found. found.items ≡ hits self.now.entries query.now) }
     {
-        let mut found = Vec::new(*self.entries.allocator());
+        let mut found = Vec::new(*self.tops.allocator());
         let mut meter = Meter::new();
-        let levels = digits(self.entries.len());
-        search(
-            levels,
-            &self.entries,
-            &self.greatest,
+        let depth = digits(self.table.count);
+        search_chunks(
+            depth,
+            depth,
+            &self.table.chunks,
+            &self.tops,
             query,
             &mut found,
             &mut meter,
@@ -210,7 +239,7 @@ impl Index {
         ensures refused { OnlyNoMemory result }
     {
         if !window.start.is_before(window.end) {
-            return Ok(Vec::new(*self.entries.allocator()));
+            return Ok(Vec::new(*self.tops.allocator()));
         }
         let query = query_of(&window);
         let found = self.find(&query)?;
@@ -242,7 +271,7 @@ impl Index {
         ensures refused { OnlyNoMemory result }
     {
         if !window.start.is_before(window.end) {
-            return Ok(Vec::new(*self.entries.allocator()));
+            return Ok(Vec::new(*self.tops.allocator()));
         }
         let query = query_of(&window);
         let found = self.find_counted(&query, meter)?;
@@ -268,17 +297,4 @@ fn query_of(window: &Span) -> Query
         from: window.start,
         latest: Latest::Before(window.end),
     }
-}
-
-/// How many of the entries come before the new one.
-fn place_of(entries: &[Entry], entry: &Entry) -> usize
-    requires { IsOrdered entries.now }
-    ensures within { result ≤ length entries.now }
-    ensures place { insert entries.now result entry.now ≡ inserted entry.now entries.now }
-{
-    entries.partition_point(
-        |other: &Entry| -> bool
-            ensures { result ≡ is_listed_before other.now entry.entry.now }
-        { comes_before(other, entry) },
-    )
 }

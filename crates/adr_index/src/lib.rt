@@ -1,8 +1,12 @@
 #![tactic(auto)]
 //! The entries of a payload type in order, found by the moments and windows that they cover.
 
+mod chunk;
 mod index;
+mod order;
 mod query;
+mod table;
+mod tops;
 mod tree;
 
 pub use adr_model::Entry;

@@ -1,17 +1,29 @@
-//! A tree of greatest ends over entries in order of their starts. It is implicit: the root of a slice is its middle,
-//! and the children are the slices beside it.
-ghost use Rattle.std.specs.Prelude.{◌≡◌, ◌+◌, ◌<◌, ◌≤◌, ◌^◌, ◌++◌, OnOk, length};
-ghost use Rattle.adr_index.specs.Query.{hits, if_hit};
-ghost use Rattle.adr_index.specs.Tree.{comes_after, end_max, later_end, own_end as end_of, IsByStart, IsGreatest, IsTree, probes};
+//! A tree of greatest ends over entries in order of their starts. It is implicit: a slice of two or more is parted in
+//! its middle, and the greatest end of all of it stands before the ends of the second part.
+ghost use Rattle.std.specs.Prelude.{◌≡◌, ◌+◌, ◌*◌, ◌<◌, ◌≤◌, ◌^◌, ◌++◌, IfOk, OnOk, length};
+ghost use Rattle.adr_index.specs.Index.{digits as digits_of};
+ghost use Rattle.adr_index.specs.Query.{any_late, hits, if_hit, looks};
+ghost use Rattle.adr_index.specs.Tree.{comes_after, end_max, later_end, only, own_end as end_of, IsByStart, IsGreatest, IsTree};
 
-use crate::query::{Query, is_hit, starts_in_time};
+use crate::query::{Query, is_hit, is_late};
 use adr_model::Entry;
 use adr_rule::Meter;
 use adr_time::{End, Span};
 use std::alloc::AllocError;
 
+/// How many entries are gone through one by one.
+const FEW: usize = 4;
+
+/// How many binary digits the number has.
+pub(crate) fn digits(number: usize) -> u32
+    ensures digits { result ≡ digits_of number }
+    ensures below { number < 2 ^ result }
+{
+    usize::BITS - number.leading_zeros()
+}
+
 /// Whether an end lies after what is asked for begins.
-fn reaches(greatest: &Option<End>, query: &Query) -> bool
+pub(crate) fn reaches(greatest: &Option<End>, query: &Query) -> bool
     ensures { result ≡ comes_after greatest.now query.now.from }
 {
     match greatest {
@@ -39,7 +51,32 @@ fn keep_hit(entry: &Entry, query: &Query, found: &mut Vec<Entry>) -> Result<(), 
     Ok(())
 }
 
-/// Adds the entries that are asked for, in order. Each look at an entry or at an end is a tick.
+/// Adds the few entries that are asked for, in order, up to one that lasts and starts too late, and answers whether it
+/// came to such a one. Each look at an entry is a tick.
+fn scan(
+    entries: &[Entry],
+    query: &Query,
+    found: &mut Vec<Entry>,
+    meter: &mut Meter,
+) -> Result<bool, AllocError>
+    requires order { IsByStart entries.now }
+    requires room { meter.old + length entries.now < 2 ^ 128 }
+    ensures found { OnOk result (found.new.items ≡ found.old.items ++ hits entries.now query.now) }
+    ensures late { IfOk result (λ is_late. is_late ≡ any_late entries.now query.now) }
+    ensures looks { meter.new ≤ meter.old + length entries.now }
+{
+    for entry in entries {
+        meter.tick();
+        if is_late(entry, query) {
+            return Ok(true);
+        }
+        keep_hit(entry, query, found)?;
+    }
+    Ok(false)
+}
+
+/// Adds the entries that are asked for, in order, and answers whether it came to one that lasts and starts too late.
+/// Each look at an entry or at an end is a tick.
 pub(crate) fn search(
     levels: u32,
     entries: &[Entry],
@@ -47,40 +84,35 @@ pub(crate) fn search(
     query: &Query,
     found: &mut Vec<Entry>,
     meter: &mut Meter,
-) -> Result<(), AllocError>
-    requires levels { length entries.now < 2 ^ levels }
-    requires lengths { length greatest.now ≡ length entries.now }
-    requires tree { IsTree levels entries.now greatest.now }
+) -> Result<bool, AllocError>
+    requires levels { length entries.now ≤ 2 ^ levels }
+    requires lengths { length entries.now ≤ length greatest.now + 1 }
+    requires tree { IsTree only levels entries.now greatest.now }
     requires order { IsByStart entries.now }
-    requires room { meter.old + probes levels entries.now query.now < 2 ^ 128 }
+    requires room { meter.old + looks levels entries.now query.now < 2 ^ 128 }
     ensures found { OnOk result (found.new.items ≡ found.old.items ++ hits entries.now query.now) }
-    ensures probes { meter.new ≤ meter.old + probes levels entries.now query.now }
+    ensures late { IfOk result (λ is_late. is_late ≡ any_late entries.now query.now) }
+    ensures looks { meter.new ≤ meter.old + looks levels entries.now query.now }
 {
-    if levels == 0 || entries.is_empty() {
-        return Ok(());
+    let count = entries.len();
+    if count < 2 {
+        return scan(entries, query, found, meter);
     }
-    let middle = entries.len() / 2;
+    let middle = count / 2;
     meter.tick();
-    if !reaches(&greatest[middle], query) {
-        return Ok(());
+    if !reaches(&greatest[middle - 1], query) {
+        return Ok(false);
     }
-    search(
-        levels - 1,
-        &entries[..middle],
-        &greatest[..middle],
-        query,
-        found,
-        meter,
-    )?;
-    meter.tick();
-    let entry = entries[middle];
-    if !starts_in_time(&entry, query) {
-        return Ok(());
+    if count <= FEW {
+        return scan(entries, query, found, meter);
     }
-    keep_hit(&entry, query, found)?;
-    let (_, right) = entries.split_at(middle + 1);
-    let (_, right_greatest) = greatest.split_at(middle + 1);
-    search(levels - 1, right, right_greatest, query, found, meter)
+    let (left, right) = entries.split_at(middle);
+    let (front, _) = greatest.split_at(middle - 1);
+    let (_, back) = greatest.split_at(middle);
+    if search(levels - 1, left, front, query, found, meter)? {
+        return Ok(true);
+    }
+    search(levels - 1, right, back, query, found, meter)
 }
 
 /// The later of two ends.
@@ -97,7 +129,7 @@ fn later_of(first: End, second: End) -> End
 }
 
 /// The later of two ends, where there is one.
-fn later(first: Option<End>, second: Option<End>) -> Option<End>
+pub(crate) fn later(first: Option<End>, second: Option<End>) -> Option<End>
     ensures { result ≡ later_end first second }
 {
     match (first, second) {
@@ -118,23 +150,38 @@ fn own_end(entry: &Entry) -> Option<End>
     }
 }
 
+/// The greatest end of the few entries.
+fn greatest_of(entries: &[Entry]) -> Option<End>
+    ensures { IsGreatest result entries.now }
+{
+    let mut greatest = None;
+    for entry in entries {
+        greatest = later(greatest, own_end(entry));
+    }
+    greatest
+}
+
 /// Writes the tree of greatest ends anew, in place, and answers the greatest of all.
 pub(crate) fn rebuild(levels: u32, entries: &[Entry], greatest: &mut [Option<End>]) -> Option<End>
-    requires levels { length entries.now < 2 ^ levels }
-    requires lengths { length greatest.old ≡ length entries.now }
-    ensures tree { IsTree levels entries.now greatest.new }
+    requires levels { length entries.now ≤ 2 ^ levels }
+    requires lengths { length entries.now ≤ length greatest.old + 1 }
+    ensures tree { IsTree only levels entries.now greatest.new }
     ensures greatest { IsGreatest result entries.now }
 {
-    if levels == 0 || entries.is_empty() {
-        return None;
+    let count = entries.len();
+    if count < 2 {
+        return greatest_of(entries);
     }
-    let middle = entries.len() / 2;
-    let (_, right) = entries.split_at(middle + 1);
-    let (front, back) = greatest.split_at_mut(middle);
+    let middle = count / 2;
+    if count <= FEW {
+        greatest[middle - 1] = greatest_of(entries);
+        return greatest[middle - 1];
+    }
+    let (left, right) = entries.split_at(middle);
+    let (front, back) = greatest.split_at_mut(middle - 1);
     let (here, back) = back.split_at_mut(1);
-    let left_greatest = rebuild(levels - 1, &entries[..middle], front);
+    let left_greatest = rebuild(levels - 1, left, front);
     let right_greatest = rebuild(levels - 1, right, back);
-    let left_and_own = later(left_greatest, own_end(&entries[middle]));
-    here[0] = later(left_and_own, right_greatest);
+    here[0] = later(left_greatest, right_greatest);
     here[0]
 }

@@ -5,7 +5,7 @@ use crate::moments::at;
 use crate::spans::{endless, entry, span, tell_span};
 use adr_index::{Entry, Index};
 use adr_rule::Meter;
-use adr_time::{Moment, Span};
+use adr_time::{Moment, Span, covers as covers_moment, meets};
 use adr_value::Refusal;
 use std::alloc::Global;
 use std::test::Fail;
@@ -206,5 +206,97 @@ fn few_of_many_entries_are_looked_at(rt: HostRuntime) -> Result<(), Fail> {
     let looks = looks_among_many(rt.alloc(), &mut index);
     drop(index);
     assert!(rt; looks?);
+    Ok(())
+}
+
+/// The next of some numbers that look random.
+fn next(seed: &mut u64) -> u64 {
+    *seed = seed
+        .wrapping_mul(6_364_136_223_846_793_005)
+        .wrapping_add(1_442_695_040_888_963_407);
+    *seed >> 33
+}
+
+fn comes_before(first: &Entry, second: &Entry) -> bool {
+    first.span.start < second.span.start
+        || first.span.start == second.span.start && first.rank.written < second.rank.written
+}
+
+/// Takes an entry out of the index and the plain list, or puts one into both.
+fn edit(index: &mut Index, plain: &mut Vec<Entry>, seed: &mut u64) -> Result<(), Refusal> {
+    let number = next(seed) % 1000;
+    let _ = index.remove(number, 0);
+    plain.retain(|other| other.rank.written != number);
+    if next(seed) % 4 == 0 {
+        return Ok(());
+    }
+    let start = i128::from(next(seed) % 500);
+    let length = i128::from(next(seed) % 30);
+    let new = entry(0, number, span(start, start + length));
+    let place = plain.partition_point(|other| comes_before(other, &new));
+    plain.insert(place, new)?;
+    put(index, new)
+}
+
+/// Whether the index answers a moment and a window as the plain list does.
+fn answers_alike(
+    alloc: Global,
+    index: &Index,
+    plain: &[Entry],
+    seed: &mut u64,
+) -> Result<bool, Refusal> {
+    let start = i128::from(next(seed) % 500);
+    let moment = at(start);
+    let window = span(start, start + i128::from(next(seed) % 9));
+    let covering: Vec<Entry> = plain
+        .iter()
+        .filter(|entry| covers_moment(&entry.span, moment))
+        .copied()
+        .collect(alloc)?;
+    let meeting: Vec<Entry> = plain
+        .iter()
+        .filter(|entry| meets(&entry.span, &window))
+        .copied()
+        .collect(alloc)?;
+    Ok(
+        are(
+            alloc,
+            &index.covering(moment)?,
+            told(alloc, &covering)?.as_str(),
+        )? && are(
+            alloc,
+            &index.overlapping(window)?,
+            told(alloc, &meeting)?.as_str(),
+        )?,
+    )
+}
+
+/// Whether the index answers alike after each of many edits.
+fn edits_alike(alloc: Global, index: &mut Index, plain: &mut Vec<Entry>) -> Result<bool, Refusal> {
+    let mut seed = 1;
+    for _ in 0..4000 {
+        edit(index, plain, &mut seed)?;
+        if index.len() != plain.len() || !answers_alike(alloc, index, plain, &mut seed)? {
+            return Ok(false);
+        }
+    }
+    Ok(true)
+}
+
+/// Whether each entry of the plain list is taken out as one that is known whole, until none is left.
+fn empties(index: &mut Index, plain: &[Entry]) -> bool {
+    index.replace(plain, &[]);
+    index.len() == 0
+}
+
+#[test]
+fn many_edits_are_answered_as_by_a_plain_list(rt: HostRuntime) -> Result<(), Fail> {
+    let mut index = Index::new(rt.alloc());
+    let mut plain = Vec::new(rt.alloc());
+    let are_alike = edits_alike(rt.alloc(), &mut index, &mut plain);
+    let is_empty = empties(&mut index, &plain);
+    drop(plain);
+    drop(index);
+    assert!(rt; are_alike? && is_empty);
     Ok(())
 }

@@ -1,25 +1,38 @@
-use Rattle.std.proofs.Common.{rules, ◌≡◌, length, arith}
+use Rattle.std.proofs.Common.{◌≡◌, ◌≤◌, ◌^◌, length, arith, ◌∙◌, ap}
+use Rattle.adr_index.specs.Chunks.{all_listed, listed}
 use Rattle.adr_index.specs.Index.{digits}
-use Rattle.adr_index.proofs.Listed.{ordered_starts, looks_room, looks_few}
+use Rattle.adr_index.proofs.Depth.{chunks_few, chunks_short, looks_few, looks_room}
+use Rattle.adr_index.proofs.Grown.{tree_levels}
+use Rattle.adr_index.proofs.Ordered.{ordered_starts}
 use Rattle.adr_index.proofs.index.Index.find_counted.Goals as goal
 
-pub search-requires-clause-order : goal.search-requires-clause-order
-search-requires-clause-order c = rw c.deref.ensures.value (ordered_starts c.self.inside.entries.items c.self.invariant.order)
+pub search_chunks-requires-clause-depth : goal.search_chunks-requires-clause-depth
+search_chunks-requires-clause-depth c =
+    let below : length (all_listed c.self.inside.table.chunks.items) ≤ 2 ^ c.digits-depth.result = omega (arith, c.digits-depth.ensures.below, c.self.invariant.table.count) in
+    rw c.deref.ensures.value (chunks_short (2 ^ c.digits-depth.result) c.self.inside.table.chunks.items below)
 
-pub search-requires-clause-room : goal.search-requires-clause-room
-search-requires-clause-room c =
-    let level : c.digits-levels.result ≡ digits (length c.self.inside.entries.items) = search rules in
-    let room = looks_room c.self.inside.entries.items c.args.query.now c.self.invariant.order in
-    rw (c.deref.ensures.value, level) (omega (arith, room, rw (← c.self.view_is) at c.requires))
+pub search_chunks-requires-clause-levels : goal.search_chunks-requires-clause-levels
+search_chunks-requires-clause-levels c =
+    let below : length (all_listed c.self.inside.table.chunks.items) ≤ 2 ^ c.digits-depth.result = omega (arith, c.digits-depth.ensures.below, c.self.invariant.table.count) in
+    rw c.deref.ensures.value (omega (arith, below, chunks_few c.self.inside.table.chunks.items c.self.invariant.table.chunks))
 
-pub returns-in_err-search-clause-probes : goal.returns-in_err-search-clause-probes
-returns-in_err-search-clause-probes c =
-    let level : c.digits-levels.result ≡ digits (length c.self.inside.entries.items) = search rules in
-    let few = looks_few c.self.inside.entries.items c.args.query.now c.self.invariant.order in
-    rw (← c.self.view_is) (omega (arith, few, rw (c.deref.ensures.value, level) at c.search.ensures.probes))
+pub search_chunks-requires-clause-tree : goal.search_chunks-requires-clause-tree
+search_chunks-requires-clause-tree c = rw (c.deref.ensures.value, c.deref-2.ensures.value) (tree_levels listed c.self.invariant.tops.levels c.digits-depth.result c.self.inside.table.chunks.items c.self.inside.tops.items c.self.invariant.tops.enough c.self.invariant.tops.tree)
+
+pub search_chunks-requires-clause-order : goal.search_chunks-requires-clause-order
+search_chunks-requires-clause-order c = rw c.deref.ensures.value (ordered_starts (all_listed c.self.inside.table.chunks.items) c.self.invariant.table.order)
+
+pub search_chunks-requires-clause-room : goal.search_chunks-requires-clause-room
+search_chunks-requires-clause-room c =
+    let depth : c.digits-depth.result ≡ digits (length (all_listed c.self.inside.table.chunks.items)) = c.digits-depth.ensures.digits ∙ ap digits c.self.invariant.table.count in
+    rw (c.deref.ensures.value, depth) (omega (arith, looks_room (all_listed c.self.inside.table.chunks.items) c.args.query.now, rw (← c.self.view_is) at c.requires))
+
+pub returns-in_err-search_chunks-clause-probes : goal.returns-in_err-search_chunks-clause-probes
+returns-in_err-search_chunks-clause-probes c =
+    let depth : c.digits-depth.result ≡ digits (length (all_listed c.self.inside.table.chunks.items)) = c.digits-depth.ensures.digits ∙ ap digits c.self.invariant.table.count in
+    rw (← c.self.view_is) (omega (arith, looks_few (all_listed c.self.inside.table.chunks.items) c.args.query.now, rw (c.deref.ensures.value, depth) at c.search_chunks.ensures.looks))
 
 pub returns-clause-probes : goal.returns-clause-probes
 returns-clause-probes c =
-    let level : c.digits-levels.result ≡ digits (length c.self.inside.entries.items) = search rules in
-    let few = looks_few c.self.inside.entries.items c.args.query.now c.self.invariant.order in
-    rw (← c.self.view_is) (omega (arith, few, rw (c.deref.ensures.value, level) at c.search.ensures.probes))
+    let depth : c.digits-depth.result ≡ digits (length (all_listed c.self.inside.table.chunks.items)) = c.digits-depth.ensures.digits ∙ ap digits c.self.invariant.table.count in
+    rw (← c.self.view_is) (omega (arith, looks_few (all_listed c.self.inside.table.chunks.items) c.args.query.now, rw (c.deref.ensures.value, depth) at c.search_chunks.ensures.looks))

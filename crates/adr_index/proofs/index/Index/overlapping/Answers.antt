@@ -1,6 +1,6 @@
 use Rattle.std.proofs.Common.{rules, ◌≡◌, ◌∙◌, sym, false}
 use Rattle.adr_time.specs.Spans.{is_before}
-use Rattle.adr_index.proofs.Listed.{meeting_empty}
+use Rattle.adr_index.proofs.Asked.{meeting_empty}
 use Rattle.adr_index.proofs.index.Index.overlapping.Goals as goal
 
 pub returns-then-not-is_before-clause-found : goal.returns-then-not-is_before-clause-found

@@ -1,0 +1,46 @@
+-- How many chunks there are, how long they are, and how many looks a search of them takes.
+use Rattle.std.proofs.Common.{ℕ, ◌+◌, ◌*◌, ◌^◌, ◌<◌, ◌≤◌, Bool, true, false, List, [], ◌∷◌, length, if◌then◌else◌, arith}
+use Rattle.std.specs.List.{AllByRecursion}
+use Rattle.std.proofs.Math.Nat.{mul-le-mul_left}
+use Rattle.std.proofs.lemmas.List.{length-append}
+use Rattle.std.proofs.lemmas.List.Sums.{length-filter, count_by-le-length}
+use Rattle.adr_model.specs.declared.entry.Entry.{Entry}
+use Rattle.adr_index.specs.declared.chunk.Chunk.{Chunk}
+use Rattle.adr_index.specs.declared.query.Query.{Query}
+use Rattle.adr_index.specs.Chunks.{all_listed, listed, AreChunks}
+use Rattle.adr_index.specs.Index.{digits, most_probes}
+use Rattle.adr_index.specs.Query.{any_late, hits, is_hit, looks, reached}
+
+pub chunks_few : (cs : List Chunk) → AreChunks cs → length cs ≤ length (all_listed cs)
+chunks_few [] h = omega arith
+chunks_few (c ∷ cs) h = rw (length-append (listed c) (all_listed cs)) (omega (arith, h.0.some, chunks_few cs h.1))
+
+pub chunks_short : (n : ℕ) (cs : List Chunk) → length (all_listed cs) ≤ n → AllByRecursion (λ c. length (listed c) ≤ n) cs
+chunks_short n [] h = tt
+chunks_short n (c ∷ cs) h =
+    let both : length (listed c) + length (all_listed cs) ≤ n = rw (length-append (listed c) (all_listed cs)) at h in
+    (omega (arith, both), chunks_short n cs (omega (arith, both)))
+
+reached_most : (es : List Entry) (q : Query) → reached es q ≤ length (hits es q) + 1
+reached_most es q = either (any_late es q)
+  where
+    either : (x : Bool) → length (hits es q) + (if x then 1 else 0) ≤ length (hits es q) + 1
+    either true = omega arith
+    either false = omega arith
+
+hits_fewer : (es : List Entry) (q : Query) → length (hits es q) ≤ length es
+hits_fewer es q = rw (length-filter (is_hit q) es) (count_by-le-length (is_hit q) es)
+
+paid : (d r m : ℕ) → r ≤ m + 1 → 1 + 2 * (d + d) * r ≤ 4 * (d + 1) * (m + 1)
+paid d r m h = omega (arith, mul-le-mul_left (4 * d) h)
+
+pub looks_few : (es : List Entry) (q : Query) → looks (digits (length es) + digits (length es)) es q ≤ most_probes es (length (hits es q))
+looks_few es q = paid (digits (length es)) (reached es q) (length (hits es q)) (reached_most es q)
+
+pub looks_room : (es : List Entry) (q : Query) → looks (digits (length es) + digits (length es)) es q ≤ most_probes es (length es)
+looks_room es q = paid (digits (length es)) (reached es q) (length es) (omega (arith, reached_most es q, hits_fewer es q))
+
+pub looks_fit : (d : ℕ) (es : List Entry) (q : Query) → d ≤ 64 → length es < 2 ^ 64 → looks (d + d) es q < 2 ^ 128
+looks_fit d es q small short =
+    let r : reached es q ≤ 2 ^ 64 = omega (arith, reached_most es q, hits_fewer es q) in
+    omega (arith, mul-le-mul_left (4 * d) r, small)

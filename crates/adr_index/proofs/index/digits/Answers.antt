@@ -1,6 +1,0 @@
-use Rattle.std.proofs.Common.{rules}
-use Rattle.adr_index.proofs.Listed.{digits_below}
-use Rattle.adr_index.proofs.index.digits.Goals as goal
-
-pub returns-clause-below : goal.returns-clause-below
-returns-clause-below c = digits_below c.args.number (search rules)

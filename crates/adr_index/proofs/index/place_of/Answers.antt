@@ -1,9 +1,0 @@
-use Rattle.std.proofs.Common.{rules, of_calls}
-use Rattle.std.proofs.lemmas.Fn.{always_returns_same}
-use Rattle.adr_model.specs.Entries.{is_listed_before}
-use Rattle.adr_index.proofs.Listed.{place_found}
-use Rattle.adr_index.proofs.index.place_of.Goals as goal
-
-pub returns-clause-place : goal.returns-clause-place
-returns-clause-place c = place_found c.args.entry.now c.args.entries.now c.partition_point.result c.requires c.partition_point.ensures.bound
-    (c.partition_point.ensures.partitioned (λ x. is_listed_before x c.args.entry.now) (always_returns_same _ _ _ (λ a r f k. search (rules, of_calls))))

@@ -1,0 +1,12 @@
+use Rattle.std.proofs.Common.{arith}
+use Rattle.adr_index.proofs.Ordered.{length_inserted, ordered_inserted}
+use Rattle.adr_index.specs.Chunks.{all_listed}
+use Rattle.adr_index.proofs.table.Table.put.Goals as goal
+
+pub returns-clause-table : goal.returns-clause-table
+returns-clause-table c = record {
+  chunks = c.put_any.ensures.chunks;
+  order = rw c.put_any.ensures.entries (ordered_inserted c.args.entry (all_listed c.args.self.now.chunks.items) c.requires.table.order c.requires.fresh);
+  pool = c.put_any.ensures.pool;
+  count = rw (c.put_any.ensures.entries, length_inserted c.args.entry (all_listed c.args.self.now.chunks.items)) (omega (arith, c.requires.table.count));
+}

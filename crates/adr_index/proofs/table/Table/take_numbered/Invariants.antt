@@ -1,0 +1,18 @@
+use Rattle.std.proofs.Common.{◌≡◌, ◌||◌, ◌≤◌, length}
+use Rattle.std.specs.List.{list_any}
+use Rattle.adr_index.specs.Chunks.{all_listed}
+use Rattle.adr_index.specs.Index.{is_entry, without}
+use Rattle.adr_index.specs.Tables.{free, IsTable}
+use Rattle.adr_index.proofs.table.Table.take_numbered.Given as goal
+
+abbrev pub invariant-loop-entry : goal.invariant-loop-entry
+invariant-loop-entry l = record {
+  table : IsTable l.self;
+  entries : without l.written l.place (all_listed l.self.chunks.items) ≡ without l.written l.place (all_listed l.fn.self.chunks.items);
+  answer : (l.is_found || list_any (is_entry l.written l.place) (all_listed l.self.chunks.items)) ≡ list_any (is_entry l.written l.place) (all_listed l.fn.self.chunks.items);
+  free : free l.fn.self ≤ free l.self;
+  length : length l.self.chunks.items ≤ length l.fn.self.chunks.items;
+}
+
+abbrev pub decreases-loop-entry : goal.decreases-loop-entry
+decreases-loop-entry l = length (all_listed l.self.chunks.items)

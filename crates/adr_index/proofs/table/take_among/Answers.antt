@@ -1,0 +1,49 @@
+use Rattle.std.proofs.Common.{rules, ◌≡◌, ◌<◌, length, get_or, slice_set, arith, sym, ◌∙◌, ap}
+use Rattle.std.proofs.lemmas.List.{get_or_read}
+use Rattle.adr_index.specs.declared.chunk.Chunk.{Chunk}
+use Rattle.std.specs.List.{remove}
+use Rattle.adr_index.specs.Chunks.{listed}
+use Rattle.adr_index.proofs.Placed.{take_one, take_gone, take_count}
+use Rattle.adr_index.proofs.table.take_among.Goals as goal
+
+pub returns-then-left-gt0-clause-entries : goal.returns-then-left-gt0-clause-entries
+returns-then-left-gt0-clause-entries c =
+    let inside : c.home-place.result < length c.args.chunks.now.items = search rules in
+    let read : c.index_mut.result.now ≡ get_or c.args.chunks.now.items c.home-place.result c.index_mut.result.now = search rules in
+    take_one c.args.chunks.now.items c.home-place.result c.index_mut.result.now c.take.new.self c.args.entry.now inside read (rw c.deref.ensures.value at c.home-place.ensures.before) (rw c.deref.ensures.value at c.home-place.ensures.after) c.take.ensures.entries
+
+pub returns-then-left-gt0-clause-count : goal.returns-then-left-gt0-clause-count
+returns-then-left-gt0-clause-count c =
+    let inside : c.home-place.result < length c.args.chunks.now.items = search rules in
+    let read : c.index_mut.result.now ≡ get_or c.args.chunks.now.items c.home-place.result c.index_mut.result.now = search rules in
+    let entries = take_one c.args.chunks.now.items c.home-place.result c.index_mut.result.now c.take.new.self c.args.entry.now inside read (rw c.deref.ensures.value at c.home-place.ensures.before) (rw c.deref.ensures.value at c.home-place.ensures.after) c.take.ensures.entries in
+    let total = take_count c.args.chunks.now.items c.home-place.result c.index_mut.result.now c.take.new.self c.args.entry.now inside read (rw c.deref.ensures.value at c.home-place.ensures.before) (rw c.deref.ensures.value at c.home-place.ensures.after) c.take.ensures.entries in
+    let first : c.index.result.now ≡ get_or c.args.chunks.now.items c.home-place.result c.index.result.now = search rules in
+    let same : c.index.result.now ≡ c.index_mut.result.now = get_or_read c.args.chunks.now.items c.home-place.result c.index.result.now inside first c.index_mut.result.now ∙ sym read in
+    let counted : c.len-count.result ≡ length (listed c.index.result.now) = search rules in
+    let count : c.len-count.result ≡ length (listed c.index_mut.result.now) = counted ∙ ap (λ (d : Chunk). length (listed d)) same in
+    let left : c.len-left.result ≡ length (listed c.take.new.self) = search rules in
+    rw (entries, count, left) (omega (arith, total, c.take.ensures.fewer))
+
+pub returns-clause-entries : goal.returns-clause-entries
+returns-clause-entries c =
+    let inside : c.home-place.result < length c.args.chunks.now.items = search rules in
+    let read : c.index_mut.result.now ≡ get_or c.args.chunks.now.items c.home-place.result c.index_mut.result.now = search rules in
+    let left : c.len-left.result ≡ length (listed c.take.new.self) = search rules in
+    let none : length (listed c.take.new.self) ≡ 0 = search rules in
+    let new : c.remove-chunk.new.self.items ≡ remove (slice_set c.args.chunks.now.items c.home-place.result c.take.new.self) c.home-place.result = search rules in
+    rw new (take_gone c.args.chunks.now.items c.home-place.result c.index_mut.result.now c.take.new.self c.args.entry.now inside read (rw c.deref.ensures.value at c.home-place.ensures.before) (rw c.deref.ensures.value at c.home-place.ensures.after) c.take.ensures.entries none)
+
+pub returns-clause-count : goal.returns-clause-count
+returns-clause-count c =
+    let inside : c.home-place.result < length c.args.chunks.now.items = search rules in
+    let read : c.index_mut.result.now ≡ get_or c.args.chunks.now.items c.home-place.result c.index_mut.result.now = search rules in
+    let first : c.index.result.now ≡ get_or c.args.chunks.now.items c.home-place.result c.index.result.now = search rules in
+    let same : c.index.result.now ≡ c.index_mut.result.now = get_or_read c.args.chunks.now.items c.home-place.result c.index.result.now inside first c.index_mut.result.now ∙ sym read in
+    let counted : c.len-count.result ≡ length (listed c.index.result.now) = search rules in
+    let count : c.len-count.result ≡ length (listed c.index_mut.result.now) = counted ∙ ap (λ (d : Chunk). length (listed d)) same in
+    let none : length (listed c.take.new.self) ≡ 0 = search rules in
+    let new : c.remove-chunk.new.self.items ≡ remove (slice_set c.args.chunks.now.items c.home-place.result c.take.new.self) c.home-place.result = search rules in
+    let entries = take_gone c.args.chunks.now.items c.home-place.result c.index_mut.result.now c.take.new.self c.args.entry.now inside read (rw c.deref.ensures.value at c.home-place.ensures.before) (rw c.deref.ensures.value at c.home-place.ensures.after) c.take.ensures.entries none in
+    let total = take_count c.args.chunks.now.items c.home-place.result c.index_mut.result.now c.take.new.self c.args.entry.now inside read (rw c.deref.ensures.value at c.home-place.ensures.before) (rw c.deref.ensures.value at c.home-place.ensures.after) c.take.ensures.entries in
+    rw (new, entries, count) (omega (arith, total, none))

@@ -1,0 +1,133 @@
+use Rattle.std.proofs.Common.{rules, ◌≡◌, ◌+◌, ◌-◌, ◌/◌, ◌<◌, length, true, false, sym, ◌∙◌, arith}
+use Rattle.std.proofs.lemmas.List.{append-nil}
+use Rattle.adr_index.specs.Chunks.{all_listed, listed, IsChunk}
+use Rattle.adr_index.specs.Query.{any_late, reached}
+use Rattle.adr_index.proofs.Grown.{few_levels, root_read, level_some, left_short, right_short, tree_at}
+use Rattle.adr_index.proofs.Searched.{none_last, none_late_last, found_left, looks_left, looks_both, reached_some, starts_left, starts_right}
+use Rattle.adr_index.proofs.Scanned.{both_halves, each_left, each_taken, few_chunks_paid}
+use Rattle.adr_index.proofs.tops.+search_chunks.Goals as goal
+
+pub returns-then-not-reaches-clause-found : goal.returns-then-not-reaches-clause-found
+returns-then-not-reaches-clause-found t c =
+    let two : 1 < length c.args.chunks.now = search rules in
+    let out : c.reaches.result ≡ false = search rules in
+    let none = root_read listed c.args.levels c.args.chunks.now c.args.tops.now (level_some c.args.levels (length c.args.chunks.now) two c.requires.levels) c.args.query.now.from c.index-tops-middle.result false two c.requires.lengths c.requires.tree c.index-tops-middle.is (sym c.reaches.ensures ∙ out) in
+    rw (none_last (all_listed c.args.chunks.now) c.args.query.now none) (sym (append-nil c.args.found.now.items))
+
+pub returns-then-not-reaches-clause-late : goal.returns-then-not-reaches-clause-late
+returns-then-not-reaches-clause-late t c =
+    let two : 1 < length c.args.chunks.now = search rules in
+    let out : c.reaches.result ≡ false = search rules in
+    let none = root_read listed c.args.levels c.args.chunks.now c.args.tops.now (level_some c.args.levels (length c.args.chunks.now) two c.requires.levels) c.args.query.now.from c.index-tops-middle.result false two c.requires.lengths c.requires.tree c.index-tops-middle.is (sym c.reaches.ensures ∙ out) in
+    sym (none_late_last (all_listed c.args.chunks.now) c.args.query.now none)
+
+pub scan_chunks-requires-then-count-le-FEW-clause-room : goal.scan_chunks-requires-then-count-le-FEW-clause-room
+scan_chunks-requires-then-count-le-FEW-clause-room t c =
+    let two : 1 < length c.args.chunks.now = search rules in
+    let goes : c.reaches.result ≡ true = search rules in
+    let last = root_read listed c.args.levels c.args.chunks.now c.args.tops.now (level_some c.args.levels (length c.args.chunks.now) two c.requires.levels) c.args.query.now.from c.index-tops-middle.result true two c.requires.lengths c.requires.tree c.index-tops-middle.is (sym c.reaches.ensures ∙ goes) in
+    let cost = few_chunks_paid c.args.levels c.args.depth (length c.args.chunks.now) (reached (all_listed c.args.chunks.now) c.args.query.now) (reached_some (all_listed c.args.chunks.now) c.args.query.now last) (few_levels c.args.levels (length c.args.chunks.now) two (search rules) c.requires.levels) in
+    omega (arith, cost, c.tick.ensures, c.requires.room)
+
+pub returns-then-count-le-FEW-clause-looks : goal.returns-then-count-le-FEW-clause-looks
+returns-then-count-le-FEW-clause-looks t c =
+    let two : 1 < length c.args.chunks.now = search rules in
+    let goes : c.reaches.result ≡ true = search rules in
+    let last = root_read listed c.args.levels c.args.chunks.now c.args.tops.now (level_some c.args.levels (length c.args.chunks.now) two c.requires.levels) c.args.query.now.from c.index-tops-middle.result true two c.requires.lengths c.requires.tree c.index-tops-middle.is (sym c.reaches.ensures ∙ goes) in
+    let cost = few_chunks_paid c.args.levels c.args.depth (length c.args.chunks.now) (reached (all_listed c.args.chunks.now) c.args.query.now) (reached_some (all_listed c.args.chunks.now) c.args.query.now last) (few_levels c.args.levels (length c.args.chunks.now) two (search rules) c.requires.levels) in
+    omega (arith, cost, c.tick.ensures, c.scan_chunks-then-count-le-FEW.ensures.looks)
+
+pub search_chunks-requires : goal.search_chunks-requires
+search_chunks-requires t c =
+    let two : 1 < length c.args.chunks.now = search rules in
+    let more : 4 < length c.args.chunks.now = search rules in
+    let level : 0 < c.args.levels = level_some c.args.levels (length c.args.chunks.now) two c.requires.levels in
+    let lower : c.args.levels + c.args.depth - 1 ≡ c.args.levels - 1 + c.args.depth = omega (arith, level) in
+    let goes : c.reaches.result ≡ true = search rules in
+    let last = root_read listed c.args.levels c.args.chunks.now c.args.tops.now level c.args.query.now.from c.index-tops-middle.result true two c.requires.lengths c.requires.tree c.index-tops-middle.is (sym c.reaches.ensures ∙ goes) in
+    let whole = both_halves c.args.chunks.now c.split_at.result.0.now c.split_at.result.1.now (length c.args.chunks.now / 2) c.split_at.ensures.front c.split_at.ensures.back in
+    let cost = rw lower at (looks_left (all_listed c.args.chunks.now) (all_listed c.split_at.result.0.now) (all_listed c.split_at.result.1.now) c.args.query.now whole (c.args.levels + c.args.depth) (omega (arith, level)) last) in (
+      search rules,
+      (
+        rw c.split_at.ensures.front (each_taken IsChunk (length c.args.chunks.now / 2) c.args.chunks.now c.requires.chunks),
+        (
+          rw c.split_at.ensures.front (each_taken _ (length c.args.chunks.now / 2) c.args.chunks.now c.requires.depth),
+          (
+            rw c.split_at.ensures.front (left_short listed c.args.levels c.args.chunks.now c.args.tops.now level c.requires.levels),
+            (
+              omega (arith, c.split_at.ensures.front_len, c.split_at-2.ensures.front_len),
+              (
+                rw (c.split_at.ensures.front, c.split_at-2.ensures.front) ((tree_at listed c.args.levels c.args.chunks.now c.args.tops.now level two c.requires.tree).1 more).0,
+                (starts_left (all_listed c.split_at.result.0.now) (all_listed c.split_at.result.1.now) (rw whole at c.requires.order), omega (arith, cost, c.tick.ensures, c.requires.room)),
+              ),
+            ),
+          ),
+        ),
+      ),
+    )
+
+pub returns-in_err-search_chunks-clause-looks : goal.returns-in_err-search_chunks-clause-looks
+returns-in_err-search_chunks-clause-looks t c =
+    let two : 1 < length c.args.chunks.now = search rules in
+    let level : 0 < c.args.levels = level_some c.args.levels (length c.args.chunks.now) two c.requires.levels in
+    let lower : c.args.levels + c.args.depth - 1 ≡ c.args.levels - 1 + c.args.depth = omega (arith, level) in
+    let goes : c.reaches.result ≡ true = search rules in
+    let last = root_read listed c.args.levels c.args.chunks.now c.args.tops.now level c.args.query.now.from c.index-tops-middle.result true two c.requires.lengths c.requires.tree c.index-tops-middle.is (sym c.reaches.ensures ∙ goes) in
+    let cost = rw lower at (looks_left (all_listed c.args.chunks.now) (all_listed c.split_at.result.0.now) (all_listed c.split_at.result.1.now) c.args.query.now (both_halves c.args.chunks.now c.split_at.result.0.now c.split_at.result.1.now (length c.args.chunks.now / 2) c.split_at.ensures.front c.split_at.ensures.back) (c.args.levels + c.args.depth) (omega (arith, level)) last) in
+    omega (arith, cost, c.tick.ensures, c.search_chunks.ensures.looks)
+
+pub returns-then-branch-clause-found : goal.returns-then-branch-clause-found
+returns-then-branch-clause-found t c =
+    let late : any_late (all_listed c.split_at.result.0.now) c.args.query.now ≡ true = search rules in
+    rw (found_left (all_listed c.args.chunks.now) (all_listed c.split_at.result.0.now) (all_listed c.split_at.result.1.now) c.args.query.now (both_halves c.args.chunks.now c.split_at.result.0.now c.split_at.result.1.now (length c.args.chunks.now / 2) c.split_at.ensures.front c.split_at.ensures.back) c.requires.order late) c.in_ok-search_chunks.ensures.found
+
+pub returns-then-branch-clause-looks : goal.returns-then-branch-clause-looks
+returns-then-branch-clause-looks t c =
+    let two : 1 < length c.args.chunks.now = search rules in
+    let level : 0 < c.args.levels = level_some c.args.levels (length c.args.chunks.now) two c.requires.levels in
+    let lower : c.args.levels + c.args.depth - 1 ≡ c.args.levels - 1 + c.args.depth = omega (arith, level) in
+    let goes : c.reaches.result ≡ true = search rules in
+    let last = root_read listed c.args.levels c.args.chunks.now c.args.tops.now level c.args.query.now.from c.index-tops-middle.result true two c.requires.lengths c.requires.tree c.index-tops-middle.is (sym c.reaches.ensures ∙ goes) in
+    let cost = rw lower at (looks_left (all_listed c.args.chunks.now) (all_listed c.split_at.result.0.now) (all_listed c.split_at.result.1.now) c.args.query.now (both_halves c.args.chunks.now c.split_at.result.0.now c.split_at.result.1.now (length c.args.chunks.now / 2) c.split_at.ensures.front c.split_at.ensures.back) (c.args.levels + c.args.depth) (omega (arith, level)) last) in
+    omega (arith, cost, c.tick.ensures, c.search_chunks.ensures.looks)
+
+pub search_chunks-requires-2 : goal.search_chunks-requires-2
+search_chunks-requires-2 t c =
+    let two : 1 < length c.args.chunks.now = search rules in
+    let more : 4 < length c.args.chunks.now = search rules in
+    let level : 0 < c.args.levels = level_some c.args.levels (length c.args.chunks.now) two c.requires.levels in
+    let lower : c.args.levels + c.args.depth - 1 ≡ c.args.levels - 1 + c.args.depth = omega (arith, level) in
+    let goes : c.reaches.result ≡ true = search rules in
+    let last = root_read listed c.args.levels c.args.chunks.now c.args.tops.now level c.args.query.now.from c.index-tops-middle.result true two c.requires.lengths c.requires.tree c.index-tops-middle.is (sym c.reaches.ensures ∙ goes) in
+    let whole = both_halves c.args.chunks.now c.split_at.result.0.now c.split_at.result.1.now (length c.args.chunks.now / 2) c.split_at.ensures.front c.split_at.ensures.back in
+    let early : any_late (all_listed c.split_at.result.0.now) c.args.query.now ≡ false = search rules in
+    let cost = rw lower at (looks_both (all_listed c.args.chunks.now) (all_listed c.split_at.result.0.now) (all_listed c.split_at.result.1.now) c.args.query.now whole (c.args.levels + c.args.depth) (omega (arith, level)) last early) in (
+      search rules,
+      (
+        rw c.split_at.ensures.back (each_left IsChunk (length c.args.chunks.now / 2) c.args.chunks.now c.requires.chunks),
+        (
+          rw c.split_at.ensures.back (each_left _ (length c.args.chunks.now / 2) c.args.chunks.now c.requires.depth),
+          (
+            rw c.split_at.ensures.back (right_short listed c.args.levels c.args.chunks.now c.args.tops.now level c.requires.levels),
+            (
+              omega (arith, c.split_at.ensures.back_len, c.split_at-3.ensures.back_len, c.requires.lengths),
+              (
+                rw (c.split_at.ensures.back, c.split_at-3.ensures.back) ((tree_at listed c.args.levels c.args.chunks.now c.args.tops.now level two c.requires.tree).1 more).1,
+                (starts_right (all_listed c.split_at.result.0.now) (all_listed c.split_at.result.1.now) (rw whole at c.requires.order), omega (arith, cost, c.tick.ensures, c.requires.room, c.search_chunks.ensures.looks)),
+              ),
+            ),
+          ),
+        ),
+      ),
+    )
+
+pub returns-clause-looks : goal.returns-clause-looks
+returns-clause-looks t c =
+    let two : 1 < length c.args.chunks.now = search rules in
+    let level : 0 < c.args.levels = level_some c.args.levels (length c.args.chunks.now) two c.requires.levels in
+    let lower : c.args.levels + c.args.depth - 1 ≡ c.args.levels - 1 + c.args.depth = omega (arith, level) in
+    let goes : c.reaches.result ≡ true = search rules in
+    let last = root_read listed c.args.levels c.args.chunks.now c.args.tops.now level c.args.query.now.from c.index-tops-middle.result true two c.requires.lengths c.requires.tree c.index-tops-middle.is (sym c.reaches.ensures ∙ goes) in
+    let early : any_late (all_listed c.split_at.result.0.now) c.args.query.now ≡ false = search rules in
+    let cost = rw lower at (looks_both (all_listed c.args.chunks.now) (all_listed c.split_at.result.0.now) (all_listed c.split_at.result.1.now) c.args.query.now (both_halves c.args.chunks.now c.split_at.result.0.now c.split_at.result.1.now (length c.args.chunks.now / 2) c.split_at.ensures.front c.split_at.ensures.back) (c.args.levels + c.args.depth) (omega (arith, level)) last early) in
+    omega (arith, cost, c.tick.ensures, c.search_chunks.ensures.looks, c.search_chunks-2.ensures.looks)

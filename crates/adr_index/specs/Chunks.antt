@@ -1,0 +1,54 @@
+-- The chunks of an index.
+use Rattle.std.specs.Prelude.{◌≡◌, ℕ, ◌^◌, ◌-◌, ◌<◌, ◌≤◌, Bool, List, [], length, slice_index_or, Option, Some, None, vec_capacity}
+use Rattle.std.specs.List.{AllByRecursion, flat_map}
+use Rattle.adr_time.specs.declared.span.End.{End}
+use Rattle.adr_model.specs.declared.entry.Entry.{Entry}
+use Rattle.adr_model.specs.Entries.{is_listed_before}
+use Rattle.adr_index.specs.declared.chunk.Chunk.{Chunk}
+use Rattle.adr_index.specs.Tree.{only, IsGreatest, IsTree}
+
+-- the entries of a chunk
+abbrev pub listed : Chunk → List Entry
+listed c = c.entries.items
+
+-- and of one that may be there
+abbrev pub listed_too : Option Chunk → List Entry
+listed_too None = []
+listed_too (Some c) = listed c
+
+-- the entries of all of them
+abbrev pub all_listed : List Chunk → List Entry
+all_listed cs = flat_map listed cs
+
+-- its room is taken at once, for one more than it keeps
+pub record IsRoomy (c : Chunk) : Type 0 where
+  pub room : 128 < vec_capacity c.entries
+  pub nodes : 128 ≤ length c.greatest.items
+
+-- the greatest end of entries, over the tree of their ends
+pub record HasEnds (es : List Entry) (gs : List (Option End)) (end : Option End) : Type 0 where
+  pub levels : ℕ
+  pub enough : length es ≤ 2 ^ levels
+  pub tree : IsTree only levels es gs
+  pub greatest : IsGreatest end es
+
+-- some entries, at most 128, with the tree of their ends
+pub record IsChunk (c : Chunk) : Type 0 where
+  pub roomy : IsRoomy c
+  pub some : 0 < length (listed c)
+  pub few : length (listed c) ≤ 128
+  pub ends : HasEnds (listed c) c.greatest.items c.end
+
+-- room for a chunk
+abbrev pub IsPooled : Chunk → Type 0
+IsPooled c = IsRoomy c × (listed c ≡ [])
+
+abbrev pub AreChunks : List Chunk → Type 0
+AreChunks cs = AllByRecursion IsChunk cs
+
+abbrev pub ArePooled : List Chunk → Type 0
+ArePooled cs = AllByRecursion IsPooled cs
+
+-- whether the last entry of the chunk comes before the entry
+abbrev pub EndsBefore : Chunk → Entry → Bool → Type 0
+EndsBefore c e answer = (d : Entry) → is_listed_before (slice_index_or (listed c) (length (listed c) - 1) d) e ≡ answer

@@ -1,0 +1,39 @@
+-- The chunks of an index with their pool.
+use Rattle.std.specs.Prelude.{◌≡◌, ℕ, ◌-◌, ◌^◌, ◌<◌, ◌≤◌, true, List, Option, length, min, vec_len, vec_capacity}
+use Rattle.std.specs.List.{list_any}
+use Rattle.adr_model.specs.declared.entry.Entry.{Entry}
+use Rattle.adr_index.specs.declared.table.Table.{Table}
+use Rattle.adr_time.specs.declared.span.End.{End}
+use Rattle.adr_index.specs.declared.chunk.Chunk.{Chunk}
+use Rattle.adr_index.specs.Chunks.{all_listed, listed, AreChunks, ArePooled}
+use Rattle.adr_index.specs.Tree.{IsTree}
+use Rattle.adr_index.specs.Index.{is_entry, others, IsOrdered}
+
+-- how many entries can be put into it: each may take a chunk of the pool, and no number goes past 2 ^ 64
+abbrev pub free : Table → ℕ
+free t = min (min (vec_capacity t.chunks - vec_len t.chunks) (length t.pool.items)) ((2 ^ 64 - 1) - t.count)
+
+-- chunks in order, and their pool
+pub record IsTable (t : Table) : Type 0 where
+  pub chunks : AreChunks t.chunks.items
+  pub order : IsOrdered (all_listed t.chunks.items)
+  pub pool : ArePooled t.pool.items
+  pub count : t.count ≡ length (all_listed t.chunks.items)
+
+-- an entry of that written number and place, which is one of the entries, so that there are fewer without it
+pub record IsFound (written place : ℕ) (e : Entry) (es : List Entry) : Type 0 where
+  pub named : is_entry written place e ≡ true
+  pub any : list_any (is_entry written place) es ≡ true
+  pub fewer : length (others e es) < length es
+
+-- the tree of greatest ends over the chunks
+pub record HasTops (cs : List Chunk) (gs : List (Option End)) : Type 0 where
+  pub levels : ℕ
+  pub enough : length cs ≤ 2 ^ levels
+  pub tree : IsTree listed levels cs gs
+
+-- chunks in order, with the tree of their ends
+pub record IsIndex (t : Table) (gs : List (Option End)) : Type 0 where
+  pub table : IsTable t
+  pub enough : length t.chunks.items ≤ length gs
+  pub tops : HasTops t.chunks.items gs

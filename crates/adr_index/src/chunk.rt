@@ -1,0 +1,145 @@
+//! A chunk of an index: some entries in order, under a tree of their ends.
+ghost use Rattle.std.specs.Prelude.{◌≡◌, ◌+◌, ◌<◌, ◌≤◌, ◌++◌, ◌∷◌, [], ◌^◌, IfOk, IfSome, OnOk, length};
+ghost use Rattle.adr_index.specs.Chunks.{listed, listed_too, ArePooled, HasEnds, IsChunk, IsPooled, IsRoomy};
+ghost use Rattle.adr_index.specs.Query.{any_late, hits, looks};
+ghost use Rattle.adr_index.specs.Tree.{IsByStart};
+ghost use Rattle.adr_index.specs.Index.{inserted, others, IsOrdered};
+
+use crate::order::{comes_before, place_of};
+use crate::query::Query;
+use crate::tree::{digits, rebuild, search};
+use adr_model::Entry;
+use adr_rule::Meter;
+use adr_time::End;
+use std::alloc::{AllocError, Global};
+
+/// How many entries a chunk has at most.
+const MOST: usize = 128;
+
+/// Some entries in order, with the tree of their ends, and the greatest of these. Its room is taken at once.
+#[derive(Drop)]
+pub(crate) struct Chunk {
+    pub(crate) entries: Vec<Entry>,
+    pub(crate) greatest: Vec<Option<End>>,
+    pub(crate) end: Option<End>,
+}
+
+impl Chunk {
+    /// Room for a chunk, and no entries.
+    pub(crate) fn empty(alloc: Global) -> Result<Chunk, AllocError>
+        ensures { IfOk result IsPooled }
+    {
+        let entries = Vec::with_capacity(alloc, MOST + 1)?;
+        let greatest = Vec::from_elem(alloc, None, MOST)?;
+        Ok(Chunk {
+            entries,
+            greatest,
+            end: None,
+        })
+    }
+
+    /// Writes the tree anew.
+    fn refresh(&mut self)
+        requires { length self.old.entries.items ≤ length self.old.greatest.items + 1 }
+        ensures entries { self.new.entries ≡ self.old.entries }
+        ensures nodes { length self.new.greatest.items ≡ length self.old.greatest.items }
+        ensures ends { HasEnds self.new.entries.items self.new.greatest.items self.new.end }
+    {
+        let levels = digits(self.entries.len());
+        self.end = rebuild(levels, &self.entries, &mut self.greatest);
+    }
+
+    /// Adds the first entry.
+    pub(crate) fn start(&mut self, entry: Entry)
+        requires { IsPooled self.old }
+        ensures entries { self.new.entries.items ≡ entry ∷ [] }
+        ensures chunk { IsChunk self.new }
+    {
+        let place = place_of(&self.entries, &entry);
+        let _ = self.entries.insert(place, entry);
+        self.refresh();
+    }
+
+    /// Hands its later half on.
+    fn move_half(&mut self, other: &mut Chunk)
+        requires length { length self.old.entries.items ≡ 129 }
+        requires room { IsRoomy self.old }
+        requires other { IsPooled other.old }
+        ensures entries { self.old.entries.items ≡ self.new.entries.items ++ other.new.entries.items }
+        ensures chunk { IsChunk self.new }
+        ensures other { IsChunk other.new }
+    {
+        let (_, later) = self.entries.split_at(MOST / 2);
+        let _ = other.entries.extend_from_slice(later);
+        self.entries.truncate(MOST / 2);
+        self.refresh();
+        other.refresh();
+    }
+
+    /// Adds an entry in its place. A chunk that has too many then hands its later half on, into one of the pool.
+    pub(crate) fn put(&mut self, entry: Entry, pool: &mut Vec<Chunk>) -> Option<Chunk>
+        requires chunk { IsChunk self.old }
+        requires order { IsOrdered self.old.entries.items }
+        requires pool { ArePooled pool.old.items }
+        requires room { 0 < length pool.old.items }
+        ensures entries { self.new.entries.items ++ listed_too result ≡ inserted entry self.old.entries.items }
+        ensures chunk { IsChunk self.new }
+        ensures more { IfSome result IsChunk }
+        ensures pool { ArePooled pool.new.items }
+        ensures taken { length pool.old.items ≤ length pool.new.items + 1 }
+    {
+        let place = place_of(&self.entries, &entry);
+        let _ = self.entries.insert(place, entry);
+        if self.entries.len() <= MOST {
+            self.refresh();
+            return None;
+        }
+        let Some(mut other) = pool.pop() else {
+            return None;
+        };
+        self.move_half(&mut other);
+        Some(other)
+    }
+
+    /// Takes out the entry that stands in the same place, if there is one.
+    pub(crate) fn take(&mut self, entry: &Entry)
+        requires { IsChunk self.old }
+        ensures entries { self.new.entries.items ≡ others entry.now self.old.entries.items }
+        ensures fewer { length self.new.entries.items ≤ length self.old.entries.items }
+        ensures room { IsRoomy self.new }
+        ensures chunk { 0 < length self.new.entries.items → IsChunk self.new }
+    {
+        self.entries.retain(|other| comes_before(other, entry) || comes_before(entry, other));
+        self.refresh();
+    }
+
+    /// A chunk of the same entries.
+    pub(crate) fn copy(&self) -> Result<Chunk, AllocError>
+        requires { IsChunk self.now }
+        ensures { IfOk result (λ chunk. IsChunk chunk × (chunk.entries.items ≡ self.now.entries.items)) }
+    {
+        let mut chunk = Chunk::empty(*self.entries.allocator())?;
+        let _ = chunk.entries.extend_from_slice(&self.entries);
+        chunk.refresh();
+        Ok(chunk)
+    }
+
+    /// Searches its entries, as the search of their tree does.
+    pub(crate) fn search(
+        &self,
+        depth: u32,
+        query: &Query,
+        found: &mut Vec<Entry>,
+        meter: &mut Meter,
+    ) -> Result<bool, AllocError>
+        requires chunk { IsChunk self.now }
+        requires depth { length self.now.entries.items ≤ 2 ^ depth }
+        requires order { IsByStart self.now.entries.items }
+        requires room { meter.old + looks depth self.now.entries.items query.now < 2 ^ 128 }
+        ensures found { OnOk result (found.new.items ≡ found.old.items ++ hits self.now.entries.items query.now) }
+        ensures late { IfOk result (λ is_late. is_late ≡ any_late self.now.entries.items query.now) }
+        ensures looks { meter.new ≤ meter.old + looks depth self.now.entries.items query.now }
+    {
+        search(depth, &self.entries, &self.greatest, query, found, meter)
+    }
+}

@@ -1,0 +1,38 @@
+//! The order in which an index lists its entries.
+ghost use Rattle.std.specs.Prelude.{◌≡◌, ◌≤◌, ◌<◌, ℕ, false, length};
+ghost use Rattle.std.specs.List.{insert, list_any};
+ghost use Rattle.adr_model.specs.Entries.{is_listed_before};
+ghost use Rattle.adr_index.specs.Index.{inserted, IsOrdered, is_entry};
+
+use adr_model::Entry;
+
+/// Whether the first entry comes before the second in an index.
+pub(crate) fn comes_before(first: &Entry, second: &Entry) -> bool
+    ensures { result ≡ is_listed_before first.now second.now }
+{
+    first.span.start < second.span.start
+        || first.span.start == second.span.start
+            && (first.rank.written < second.rank.written
+                || first.rank.written == second.rank.written
+                    && first.rank.place < second.rank.place)
+}
+
+/// Whether it is the entry of that written number and place.
+pub(crate) fn is_entry(entry: &Entry, written: u64, place: u32) -> bool
+    ensures { result ≡ is_entry written place entry.now }
+{
+    entry.rank.written == written && entry.rank.place == place
+}
+
+/// How many of the entries come before the new one.
+pub(crate) fn place_of(entries: &[Entry], entry: &Entry) -> usize
+    requires { IsOrdered entries.now }
+    ensures within { result ≤ length entries.now }
+    ensures place { insert entries.now result entry.now ≡ inserted entry.now entries.now }
+{
+    entries.partition_point(
+        |other: &Entry| -> bool
+            ensures { result ≡ is_listed_before other.now entry.entry.now }
+        { comes_before(other, entry) },
+    )
+}

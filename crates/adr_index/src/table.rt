@@ -1,0 +1,333 @@
+//! The chunks of an index, one after the other.
+ghost use Rattle.std.specs.Prelude.{◌≡◌, ◌+◌, ◌-◌, ◌<◌, ◌≤◌, ◌++◌, ◌∷◌, [], true, false, IfNone, IfOk, IfSome, OnOk, length, take, drop, vec_len, vec_capacity};
+ghost use Rattle.std.specs.List.{AllByRecursion, list_any};
+ghost use Rattle.adr_model.specs.Entries.{is_listed_before};
+ghost use Rattle.adr_index.specs.Chunks.{all_listed, AreChunks, ArePooled, EndsBefore, IsChunk, IsPooled};
+ghost use Rattle.adr_index.specs.Tables.{free, IsFound, IsTable};
+ghost use Rattle.adr_index.specs.Index.{inserted, inserted_all, is_entry, others, others_all, without, AreNew, IsOrdered};
+
+use crate::chunk::Chunk;
+use crate::order::{comes_before, is_entry};
+use adr_model::Entry;
+use std::alloc::{AllocError, Global};
+
+/// The place of the chunk to which the entry belongs.
+fn home(chunks: &[Chunk], entry: &Entry) -> usize
+    requires some { 0 < length chunks.now }
+    requires chunks { AreChunks chunks.now }
+    requires order { IsOrdered (all_listed chunks.now) }
+    ensures within { result < length chunks.now }
+    ensures before { AllByRecursion (λ x. is_listed_before x entry.now ≡ true) (all_listed (take result chunks.now)) }
+    ensures after { AllByRecursion (λ x. is_listed_before entry.now x ≡ true) (all_listed (drop (result + 1) chunks.now)) }
+{
+    let mut low = 0;
+    let mut high = chunks.len() - 1;
+    while low < high {
+        let middle = low + (high - low) / 2;
+        if ends_before(&chunks[middle], entry) {
+            low = middle + 1;
+        } else {
+            high = middle;
+        }
+    }
+    low
+}
+
+/// Whether the chunk's last entry comes before the entry.
+fn ends_before(chunk: &Chunk, entry: &Entry) -> bool
+    requires { IsChunk chunk.now }
+    ensures { EndsBefore chunk.now entry.now result }
+{
+    comes_before(&chunk.entries[chunk.entries.len() - 1], entry)
+}
+
+/// Adds an entry to the first chunk.
+pub(crate) fn put_first(chunks: &mut Vec<Chunk>, pool: &mut Vec<Chunk>, entry: Entry)
+    requires none { chunks.old.items ≡ [] }
+    requires pool { ArePooled pool.old.items }
+    requires some { 0 < length pool.old.items }
+    requires room { vec_len chunks.old < vec_capacity chunks.old }
+    ensures chunks { AreChunks chunks.new.items }
+    ensures entries { all_listed chunks.new.items ≡ entry ∷ [] }
+    ensures pool { ArePooled pool.new.items }
+    ensures taken { length pool.old.items ≤ length pool.new.items + 1 }
+    ensures room { vec_capacity chunks.old - vec_len chunks.old ≤ (vec_capacity chunks.new - vec_len chunks.new) + 1 }
+    ensures length { length chunks.new.items ≤ length chunks.old.items + 1 }
+{
+    let Some(mut chunk) = pool.pop() else {
+        return;
+    };
+    chunk.start(entry);
+    let _ = chunks.insert(0, chunk);
+}
+
+/// Adds an entry to one of the chunks. It takes a chunk of the pool at most.
+pub(crate) fn put_among(chunks: &mut Vec<Chunk>, pool: &mut Vec<Chunk>, entry: Entry)
+    requires some { 0 < length chunks.old.items }
+    requires chunks { AreChunks chunks.old.items }
+    requires order { IsOrdered (all_listed chunks.old.items) }
+    requires pool { ArePooled pool.old.items }
+    requires spare { 0 < length pool.old.items }
+    requires room { vec_len chunks.old < vec_capacity chunks.old }
+    ensures chunks { AreChunks chunks.new.items }
+    ensures entries { all_listed chunks.new.items ≡ inserted entry (all_listed chunks.old.items) }
+    ensures pool { ArePooled pool.new.items }
+    ensures taken { length pool.old.items ≤ length pool.new.items + 1 }
+    ensures room { vec_capacity chunks.old - vec_len chunks.old ≤ (vec_capacity chunks.new - vec_len chunks.new) + 1 }
+    ensures length { length chunks.new.items ≤ length chunks.old.items + 1 }
+{
+    let place = home(chunks, &entry);
+    let later = chunks[place].put(entry, pool);
+    if let Some(later) = later {
+        let _ = chunks.insert(place + 1, later);
+    }
+}
+
+/// Keeps the empty chunk for later, where there is a place for it.
+fn lay_by(pool: &mut Vec<Chunk>, chunk: Chunk)
+    requires pool { ArePooled pool.old.items }
+    requires chunk { IsPooled chunk }
+    ensures pool { ArePooled pool.new.items }
+    ensures kept { length pool.old.items ≤ length pool.new.items }
+{
+    let _ = pool.push(chunk);
+}
+
+/// Takes out the entry that stands in the same place, and answers how many that were. A chunk that it leaves empty
+/// goes to the pool.
+pub(crate) fn take_among(chunks: &mut Vec<Chunk>, pool: &mut Vec<Chunk>, entry: &Entry) -> usize
+    requires some { 0 < length chunks.old.items }
+    requires chunks { AreChunks chunks.old.items }
+    requires order { IsOrdered (all_listed chunks.old.items) }
+    requires pool { ArePooled pool.old.items }
+    ensures chunks { AreChunks chunks.new.items }
+    ensures entries { all_listed chunks.new.items ≡ others entry.now (all_listed chunks.old.items) }
+    ensures count { length (all_listed chunks.new.items) + result ≡ length (all_listed chunks.old.items) }
+    ensures pool { ArePooled pool.new.items }
+    ensures kept { length pool.old.items ≤ length pool.new.items }
+    ensures room { vec_capacity chunks.old - vec_len chunks.old ≤ vec_capacity chunks.new - vec_len chunks.new }
+    ensures length { length chunks.new.items ≤ length chunks.old.items }
+{
+    let place = home(chunks, entry);
+    let count = chunks[place].entries.len();
+    chunks[place].take(entry);
+    let left = chunks[place].entries.len();
+    if left > 0 {
+        return count - left;
+    }
+    let chunk = chunks.remove(place);
+    lay_by(pool, chunk);
+    count
+}
+
+/// Adds an entry. It takes a chunk of the pool at most.
+fn put_any(chunks: &mut Vec<Chunk>, pool: &mut Vec<Chunk>, entry: Entry)
+    requires chunks { AreChunks chunks.old.items }
+    requires order { IsOrdered (all_listed chunks.old.items) }
+    requires pool { ArePooled pool.old.items }
+    requires spare { 0 < length pool.old.items }
+    requires room { vec_len chunks.old < vec_capacity chunks.old }
+    ensures chunks { AreChunks chunks.new.items }
+    ensures entries { all_listed chunks.new.items ≡ inserted entry (all_listed chunks.old.items) }
+    ensures pool { ArePooled pool.new.items }
+    ensures taken { length pool.old.items ≤ length pool.new.items + 1 }
+    ensures room { vec_capacity chunks.old - vec_len chunks.old ≤ (vec_capacity chunks.new - vec_len chunks.new) + 1 }
+    ensures length { length chunks.new.items ≤ length chunks.old.items + 1 }
+{
+    if chunks.is_empty() {
+        put_first(chunks, pool, entry);
+        return;
+    }
+    put_among(chunks, pool, entry);
+}
+
+/// The chunks of an index, empty ones for later, and how many entries there are.
+#[derive(Drop)]
+pub(crate) struct Table {
+    pub(crate) chunks: Vec<Chunk>,
+    pub(crate) pool: Vec<Chunk>,
+    pub(crate) count: usize,
+}
+
+impl Table {
+    /// No chunks.
+    pub(crate) fn new(alloc: Global) -> Table
+        ensures table { IsTable result }
+        ensures chunks { result.chunks.items ≡ [] }
+    {
+        Table {
+            chunks: Vec::new(alloc),
+            pool: Vec::new(alloc),
+            count: 0,
+        }
+    }
+
+    /// How many entries can be put into it.
+    pub(crate) fn free(&self) -> usize
+        ensures { result ≡ free self.now }
+    {
+        let chunks = self.chunks.capacity() - self.chunks.len();
+        chunks.min(self.pool.len()).min(usize::MAX - self.count)
+    }
+
+    /// Adds an entry.
+    pub(crate) fn put(&mut self, entry: Entry)
+        requires table { IsTable self.old }
+        requires free { 0 < free self.old }
+        requires fresh { list_any (is_entry entry.rank.written entry.rank.place) (all_listed self.old.chunks.items) ≡ false }
+        ensures table { IsTable self.new }
+        ensures entries { all_listed self.new.chunks.items ≡ inserted entry (all_listed self.old.chunks.items) }
+        ensures free { free self.old ≤ free self.new + 1 }
+        ensures length { length self.new.chunks.items ≤ length self.old.chunks.items + 1 }
+    {
+        put_any(&mut self.chunks, &mut self.pool, entry);
+        self.count += 1;
+    }
+
+    /// Takes out the entry that stands in the same place, if there is one.
+    pub(crate) fn take(&mut self, entry: &Entry)
+        requires { IsTable self.old }
+        ensures table { IsTable self.new }
+        ensures entries { all_listed self.new.chunks.items ≡ others entry.now (all_listed self.old.chunks.items) }
+        ensures free { free self.old ≤ free self.new }
+        ensures length { length self.new.chunks.items ≤ length self.old.chunks.items }
+    {
+        if self.chunks.is_empty() {
+            return;
+        }
+        let count = take_among(&mut self.chunks, &mut self.pool, entry);
+        self.count -= count;
+    }
+
+    /// Adds the entries, one after the other.
+    pub(crate) fn put_all(&mut self, new: &[Entry])
+        requires table { IsTable self.old }
+        requires free { length new.now ≤ free self.old }
+        requires fresh { AreNew new.now (all_listed self.old.chunks.items) }
+        ensures table { IsTable self.new }
+        ensures entries { all_listed self.new.chunks.items ≡ inserted_all new.now (all_listed self.old.chunks.items) }
+        ensures free { free self.old ≤ free self.new + length new.now }
+        ensures length { length self.new.chunks.items ≤ length self.old.chunks.items + length new.now }
+    {
+        for entry in new {
+            self.put(*entry);
+        }
+    }
+
+    /// Takes out what stands in the places of the old entries.
+    pub(crate) fn take_all(&mut self, old: &[Entry])
+        requires { IsTable self.old }
+        ensures table { IsTable self.new }
+        ensures entries { all_listed self.new.chunks.items ≡ others_all old.now (all_listed self.old.chunks.items) }
+        ensures free { free self.old ≤ free self.new }
+        ensures length { length self.new.chunks.items ≤ length self.old.chunks.items }
+    {
+        for entry in old {
+            self.take(entry);
+        }
+    }
+
+    /// Takes out the entries of that written number and place, and answers whether there were any.
+    pub(crate) fn take_numbered(&mut self, written: u64, place: u32) -> bool
+        requires { IsTable self.old }
+        ensures table { IsTable self.new }
+        ensures answer { result ≡ list_any (is_entry written place) (all_listed self.old.chunks.items) }
+        ensures entries { all_listed self.new.chunks.items ≡ without written place (all_listed self.old.chunks.items) }
+        ensures free { free self.old ≤ free self.new }
+        ensures length { length self.new.chunks.items ≤ length self.old.chunks.items }
+    {
+        let mut is_found = false;
+        while let Some(entry) = find(&self.chunks, written, place) {
+            self.take(&entry);
+            is_found = true;
+        }
+        is_found
+    }
+
+    /// Makes room for that many more entries.
+    pub(crate) fn reserve(&mut self, more: usize) -> Result<(), AllocError>
+        requires { IsTable self.old }
+        ensures table { IsTable self.new }
+        ensures chunks { self.new.chunks.items ≡ self.old.chunks.items }
+        ensures free { OnOk result (more ≤ free self.new) }
+        ensures kept { free self.old ≤ free self.new }
+    {
+        if usize::MAX - self.count < more {
+            return Err(AllocError);
+        }
+        let alloc = *self.chunks.allocator();
+        self.chunks.reserve(more)?;
+        fill(&mut self.pool, alloc, more)
+    }
+
+    /// A table of the same entries.
+    pub(crate) fn copy(&self) -> Result<Table, AllocError>
+        requires { IsTable self.now }
+        ensures table { IfOk result IsTable }
+        ensures entries { IfOk result (λ table. all_listed table.chunks.items ≡ all_listed self.now.chunks.items) }
+        ensures length { IfOk result (λ table. length table.chunks.items ≡ length self.now.chunks.items) }
+    {
+        let alloc = *self.chunks.allocator();
+        let chunks = copy_chunks(alloc, &self.chunks)?;
+        Ok(Table {
+            chunks,
+            pool: Vec::new(alloc),
+            count: self.count,
+        })
+    }
+}
+
+/// Fills the pool up to that many chunks.
+fn fill(pool: &mut Vec<Chunk>, alloc: Global, wanted: usize) -> Result<(), AllocError>
+    requires { ArePooled pool.old.items }
+    ensures pool { ArePooled pool.new.items }
+    ensures kept { length pool.old.items ≤ length pool.new.items }
+    ensures full { OnOk result (wanted ≤ length pool.new.items) }
+{
+    while pool.len() < wanted {
+        let chunk = Chunk::empty(alloc)?;
+        pool.push(chunk)?;
+    }
+    Ok(())
+}
+
+/// Chunks of the same entries.
+fn copy_chunks(alloc: Global, chunks: &[Chunk]) -> Result<Vec<Chunk>, AllocError>
+    requires { AreChunks chunks.now }
+    ensures chunks { IfOk result (λ copy. AreChunks copy.items) }
+    ensures entries { IfOk result (λ copy. all_listed copy.items ≡ all_listed chunks.now) }
+    ensures length { IfOk result (λ copy. length copy.items ≡ length chunks.now) }
+{
+    let mut copy = Vec::new(alloc);
+    for chunk in chunks {
+        let other = chunk.copy()?;
+        copy.push(other)?;
+    }
+    Ok(copy)
+}
+
+/// An entry of that written number and place.
+fn find(chunks: &[Chunk], written: u64, place: u32) -> Option<Entry>
+    ensures some { IfSome result (λ entry. IsFound written place entry (all_listed chunks.now)) }
+    ensures none { IfNone result (list_any (is_entry written place) (all_listed chunks.now) ≡ false) }
+{
+    for chunk in chunks {
+        if let Some(entry) = find_in(&chunk.entries, written, place) {
+            return Some(entry);
+        }
+    }
+    None
+}
+
+/// The same among some.
+fn find_in(entries: &[Entry], written: u64, place: u32) -> Option<Entry>
+    ensures some { IfSome result (λ entry. IsFound written place entry entries.now) }
+    ensures none { IfNone result (list_any (is_entry written place) entries.now ≡ false) }
+{
+    for entry in entries {
+        if is_entry(entry, written, place) {
+            return Some(*entry);
+        }
+    }
+    None
+}

@@ -1,0 +1,121 @@
+//! The tree of greatest ends over the chunks of an index, of the same shape as that of a chunk.
+ghost use Rattle.std.specs.Prelude.{◌≡◌, ◌+◌, ◌*◌, ◌<◌, ◌≤◌, ◌^◌, ◌++◌, IfOk, OnOk, length};
+ghost use Rattle.std.specs.List.{AllByRecursion};
+ghost use Rattle.adr_index.specs.Chunks.{all_listed, listed, AreChunks};
+ghost use Rattle.adr_index.specs.Query.{any_late, hits, looks, reached};
+ghost use Rattle.adr_index.specs.Tree.{IsByStart, IsGreatest, IsTree};
+
+use crate::chunk::Chunk;
+use crate::query::Query;
+use crate::tree::{later, reaches};
+use adr_model::Entry;
+use adr_rule::Meter;
+use adr_time::End;
+use std::alloc::AllocError;
+
+/// How many chunks are gone through one by one.
+const FEW: usize = 4;
+
+/// Searches the few chunks, up to an entry that lasts and starts too late, and answers whether it came to such a one.
+fn scan_chunks(
+    depth: u32,
+    chunks: &[Chunk],
+    query: &Query,
+    found: &mut Vec<Entry>,
+    meter: &mut Meter,
+) -> Result<bool, AllocError>
+    requires chunks { AreChunks chunks.now }
+    requires depth { AllByRecursion (λ c. length (listed c) ≤ 2 ^ depth) chunks.now }
+    requires order { IsByStart (all_listed chunks.now) }
+    requires room { meter.old + length chunks.now + 2 * depth * reached (all_listed chunks.now) query.now < 2 ^ 128 }
+    ensures found { OnOk result (found.new.items ≡ found.old.items ++ hits (all_listed chunks.now) query.now) }
+    ensures late { IfOk result (λ is_late. is_late ≡ any_late (all_listed chunks.now) query.now) }
+    ensures looks { meter.new ≤ meter.old + length chunks.now + 2 * depth * reached (all_listed chunks.now) query.now }
+{
+    for chunk in chunks {
+        if chunk.search(depth, query, found, meter)? {
+            return Ok(true);
+        }
+    }
+    Ok(false)
+}
+
+/// Adds the entries of the chunks that are asked for, as the search of a chunk does, which takes `depth` levels.
+pub(crate) fn search_chunks(
+    levels: u32,
+    depth: u32,
+    chunks: &[Chunk],
+    tops: &[Option<End>],
+    query: &Query,
+    found: &mut Vec<Entry>,
+    meter: &mut Meter,
+) -> Result<bool, AllocError>
+    requires chunks { AreChunks chunks.now }
+    requires depth { AllByRecursion (λ c. length (listed c) ≤ 2 ^ depth) chunks.now }
+    requires levels { length chunks.now ≤ 2 ^ levels }
+    requires lengths { length chunks.now ≤ length tops.now + 1 }
+    requires tree { IsTree listed levels chunks.now tops.now }
+    requires order { IsByStart (all_listed chunks.now) }
+    requires room { meter.old + looks (levels + depth) (all_listed chunks.now) query.now < 2 ^ 128 }
+    ensures found { OnOk result (found.new.items ≡ found.old.items ++ hits (all_listed chunks.now) query.now) }
+    ensures late { IfOk result (λ is_late. is_late ≡ any_late (all_listed chunks.now) query.now) }
+    ensures looks { meter.new ≤ meter.old + looks (levels + depth) (all_listed chunks.now) query.now }
+{
+    let count = chunks.len();
+    if count < 2 {
+        return scan_chunks(depth, chunks, query, found, meter);
+    }
+    let middle = count / 2;
+    meter.tick();
+    if !reaches(&tops[middle - 1], query) {
+        return Ok(false);
+    }
+    if count <= FEW {
+        return scan_chunks(depth, chunks, query, found, meter);
+    }
+    let (left, right) = chunks.split_at(middle);
+    let (front, _) = tops.split_at(middle - 1);
+    let (_, back) = tops.split_at(middle);
+    if search_chunks(levels - 1, depth, left, front, query, found, meter)? {
+        return Ok(true);
+    }
+    search_chunks(levels - 1, depth, right, back, query, found, meter)
+}
+
+/// The greatest end of the few chunks.
+fn greatest_of_chunks(chunks: &[Chunk]) -> Option<End>
+    requires { AreChunks chunks.now }
+    ensures { IsGreatest result (all_listed chunks.now) }
+{
+    let mut greatest = None;
+    for chunk in chunks {
+        greatest = later(greatest, chunk.end);
+    }
+    greatest
+}
+
+/// Writes the tree of greatest ends anew, in place, and answers the greatest of all.
+pub(crate) fn rebuild_chunks(levels: u32, chunks: &[Chunk], tops: &mut [Option<End>]) -> Option<End>
+    requires chunks { AreChunks chunks.now }
+    requires levels { length chunks.now ≤ 2 ^ levels }
+    requires lengths { length chunks.now ≤ length tops.old + 1 }
+    ensures tree { IsTree listed levels chunks.now tops.new }
+    ensures greatest { IsGreatest result (all_listed chunks.now) }
+{
+    let count = chunks.len();
+    if count < 2 {
+        return greatest_of_chunks(chunks);
+    }
+    let middle = count / 2;
+    if count <= FEW {
+        tops[middle - 1] = greatest_of_chunks(chunks);
+        return tops[middle - 1];
+    }
+    let (left, right) = chunks.split_at(middle);
+    let (front, back) = tops.split_at_mut(middle - 1);
+    let (here, back) = back.split_at_mut(1);
+    let left_greatest = rebuild_chunks(levels - 1, left, front);
+    let right_greatest = rebuild_chunks(levels - 1, right, back);
+    here[0] = later(left_greatest, right_greatest);
+    here[0]
+}
