@@ -7,3 +7,4 @@ pub mod Ordered
 pub mod Placed
 pub mod Scanned
 pub mod Searched
+pub mod Sorted

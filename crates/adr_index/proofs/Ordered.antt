@@ -126,7 +126,7 @@ all_kept p P (e ∷ es) f = either (p e) refl (all_kept p P es f)
     either true h rest = (f e h, rest)
     either false h rest = rest
 
-all_both : (P Q R : Entry → Type 0) → ((f : Entry) → P f → Q f → R f) → (es : List Entry) → AllByRecursion P es → AllByRecursion Q es → AllByRecursion R es
+pub all_both : (P Q R : Entry → Type 0) → ((f : Entry) → P f → Q f → R f) → (es : List Entry) → AllByRecursion P es → AllByRecursion Q es → AllByRecursion R es
 all_both P Q R f [] h k = tt
 all_both P Q R f (e ∷ es) h k = (f e h.0 k.0, all_both P Q R f es h.1 k.1)
 
@@ -255,7 +255,7 @@ pub listed_asym : (a b : Entry) → is_listed_before a b ≡ true → is_listed_
 listed_asym a b h = starts_asym a.span.start b.span.start (later_write a b) (later_write b a) (writes_asym a b) h
 
 -- what is not after an entry stands before those after it
-listed_after : (a b c : Entry) → is_listed_before a b ≡ false → is_listed_before a c ≡ true → is_listed_before b c ≡ true
+pub listed_after : (a b c : Entry) → is_listed_before a b ≡ false → is_listed_before a c ≡ true → is_listed_before b c ≡ true
 listed_after a b c h k = starts_after a.span.start b.span.start c.span.start (later_write a b) (later_write a c) (later_write b c) (writes_after a b c) h k
 
 all_right : (P : Entry → Type 0) (xs ys : List Entry) → AllByRecursion P (xs ++ ys) → AllByRecursion P ys

@@ -1,5 +1,5 @@
 -- An index as a list.
-use Rattle.std.specs.Prelude.{◌≡◌, ℕ, ◌+◌, ◌-◌, ◌*◌, ⊤, Bool, true, false, not, ◌&&◌, ◌||◌, ◌==◌, List, [], ◌∷◌, ◌++◌, length, filter}
+use Rattle.std.specs.Prelude.{◌≡◌, ℕ, ◌+◌, ◌-◌, ◌*◌, ◌≤◌, ⊤, Bool, true, false, not, ◌&&◌, ◌||◌, ◌==◌, List, [], ◌∷◌, ◌++◌, length, filter}
 use Rattle.std.specs.List.{AllByRecursion, list_any}
 use Rattle.std.specs.Int.{leading_zeros, w64}
 use Rattle.adr_model.specs.declared.entry.Entry.{Entry}
@@ -48,6 +48,10 @@ others_all (e ∷ es) entries = others_all es (others e entries)
 abbrev pub inserted_all : List Entry → List Entry → List Entry
 inserted_all [] entries = entries
 inserted_all (e ∷ es) entries = inserted_all es (inserted e entries)
+
+-- no two have one written number and place
+abbrev pub AreDistinct : List Entry → Type 0
+AreDistinct entries = (written place : ℕ) → length (filter (is_entry written place) entries) ≤ 1
 
 -- none has the written number and place of an entry, or of a new one before it
 abbrev pub AreNew : List Entry → List Entry → Type 0

@@ -113,15 +113,24 @@ impl Chunk {
         self.refresh();
     }
 
+    /// A chunk of the entries.
+    pub(crate) fn of(alloc: Global, entries: &[Entry]) -> Result<Chunk, AllocError>
+        requires some { 0 < length entries.now }
+        requires few { length entries.now ≤ 128 }
+        ensures { IfOk result (λ chunk. IsChunk chunk × (chunk.entries.items ≡ entries.now)) }
+    {
+        let mut chunk = Chunk::empty(alloc)?;
+        let _ = chunk.entries.extend_from_slice(entries);
+        chunk.refresh();
+        Ok(chunk)
+    }
+
     /// A chunk of the same entries.
     pub(crate) fn copy(&self) -> Result<Chunk, AllocError>
         requires { IsChunk self.now }
         ensures { IfOk result (λ chunk. IsChunk chunk × (chunk.entries.items ≡ self.now.entries.items)) }
     {
-        let mut chunk = Chunk::empty(*self.entries.allocator())?;
-        let _ = chunk.entries.extend_from_slice(&self.entries);
-        chunk.refresh();
-        Ok(chunk)
+        Chunk::of(*self.entries.allocator(), &self.entries)
     }
 
     /// Searches its entries, as the search of their tree does.

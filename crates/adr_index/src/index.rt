@@ -1,14 +1,16 @@
 //! Entries in order, found by the moments and windows that they cover.
 ghost use Rattle.std.specs.Prelude.{◌≡◌, ◌+◌, ◌*◌, ◌<◌, ◌≤◌, ◌^◌, [], false, length, IfOk, IsOk, OnOk, OnErr};
 ghost use Rattle.std.specs.List.{list_any};
+ghost use Rattle.std.specs.List.Sorted.{IsPermutation};
 ghost use Rattle.adr_value.specs.Answer.{OnlyNoMemory};
 ghost use Rattle.adr_model.specs.Entries.{covering, meeting, IsListed};
 ghost use Rattle.adr_index.specs.Chunks.{listed, AreChunks};
-ghost use Rattle.adr_index.specs.Index.{inserted, inserted_all, is_entry, most_probes, others_all, without, AreNew};
+ghost use Rattle.adr_index.specs.Index.{inserted, inserted_all, is_entry, most_probes, others_all, without, AreDistinct, AreNew, IsOrdered};
 ghost use Rattle.adr_index.specs.Query.{hits};
 ghost use Rattle.adr_index.specs.Tables.{HasTops};
 
 use crate::chunk::Chunk;
+use crate::order::sort;
 use crate::query::{Latest, Query};
 use crate::table::Table;
 use crate::tops::{rebuild_chunks, search_chunks};
@@ -82,6 +84,30 @@ impl Index {
             table: Table::new(alloc),
             tops: Vec::new(alloc),
         }
+    }
+
+    /// An index of the entries, which are in order.
+    fn filled(alloc: Global, entries: &[Entry]) -> Result<Index, AllocError>
+        requires { IsOrdered entries.now }
+        ensures { IfOk result (λ index. index.entries ≡ entries.now) }
+    {
+        let table = Table::of(alloc, entries)?;
+        let mut tops = Vec::from_elem(alloc, None, table.chunks.len())?;
+        refresh(&table.chunks, &mut tops);
+        Ok(Index { table, tops })
+    }
+
+    /// An index of the entries, which may lie in any order. Its chunks are full to three quarters, so that edits don't
+    /// part each at once. `NoMemory` where there is no room. Cost: that of sorting the entries, and some steps for each.
+    pub fn of(alloc: Global, mut entries: Vec<Entry>) -> Result<Index, Refusal>
+        requires { AreDistinct entries.items }
+        ensures entries { IfOk result (λ index. IsPermutation entries.items index.entries) }
+        ensures refused { OnlyNoMemory result }
+    {
+        sort(&mut entries);
+        let index = Index::filled(alloc, &entries)?;
+        drop(entries);
+        Ok(index)
     }
 
     /// An index of the same entries. `NoMemory` where there is no room.

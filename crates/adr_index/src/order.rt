@@ -1,10 +1,13 @@
 //! The order in which an index lists its entries.
 ghost use Rattle.std.specs.Prelude.{◌≡◌, ◌≤◌, ◌<◌, ℕ, false, length};
 ghost use Rattle.std.specs.List.{insert, list_any};
+ghost use Rattle.std.specs.List.Sorted.{IsPermutation};
+ghost use Rattle.std.specs.Ordering.{is_lt};
 ghost use Rattle.adr_model.specs.Entries.{is_listed_before};
-ghost use Rattle.adr_index.specs.Index.{inserted, IsOrdered, is_entry};
+ghost use Rattle.adr_index.specs.Index.{inserted, is_entry, AreDistinct, IsOrdered};
 
 use adr_model::Entry;
+use std::cmp::Ordering;
 
 /// Whether the first entry comes before the second in an index.
 pub(crate) fn comes_before(first: &Entry, second: &Entry) -> bool
@@ -35,4 +38,26 @@ pub(crate) fn place_of(entries: &[Entry], entry: &Entry) -> usize
             ensures { result ≡ is_listed_before other.now entry.entry.now }
         { comes_before(other, entry) },
     )
+}
+
+/// How the first entry stands to the second in an index.
+fn compare(first: &Entry, second: &Entry) -> Ordering
+    ensures { is_lt result ≡ is_listed_before first.now second.now }
+{
+    if comes_before(first, second) {
+        Ordering::Less
+    } else if comes_before(second, first) {
+        Ordering::Greater
+    } else {
+        Ordering::Equal
+    }
+}
+
+/// Puts the entries in order.
+pub(crate) fn sort(entries: &mut [Entry])
+    requires { AreDistinct entries.old }
+    ensures order { IsOrdered entries.new }
+    ensures permutation { IsPermutation entries.old entries.new }
+{
+    entries.sort_unstable_by(|first, second| compare(first, second));
 }

@@ -162,6 +162,20 @@ impl Table {
         }
     }
 
+    /// A table of the entries.
+    pub(crate) fn of(alloc: Global, entries: &[Entry]) -> Result<Table, AllocError>
+        requires { IsOrdered entries.now }
+        ensures table { IfOk result IsTable }
+        ensures entries { IfOk result (λ table. all_listed table.chunks.items ≡ entries.now) }
+    {
+        let chunks = cut(alloc, entries)?;
+        Ok(Table {
+            chunks,
+            pool: Vec::new(alloc),
+            count: entries.len(),
+        })
+    }
+
     /// How many entries can be put into it.
     pub(crate) fn free(&self) -> usize
         ensures { result ≡ free self.now }
@@ -304,6 +318,25 @@ fn copy_chunks(alloc: Global, chunks: &[Chunk]) -> Result<Vec<Chunk>, AllocError
         copy.push(other)?;
     }
     Ok(copy)
+}
+
+/// How many entries a chunk has where chunks are made at once, so that edits don't part each soon.
+const FILLED: usize = 96;
+
+/// Chunks of the entries, each of as many but for the last.
+fn cut(alloc: Global, entries: &[Entry]) -> Result<Vec<Chunk>, AllocError>
+    ensures chunks { IfOk result (λ chunks. AreChunks chunks.items) }
+    ensures entries { IfOk result (λ chunks. all_listed chunks.items ≡ entries.now) }
+{
+    let mut chunks = Vec::new(alloc);
+    let mut left = entries;
+    while !left.is_empty() {
+        let (part, rest) = left.split_at(left.len().min(FILLED));
+        let chunk = Chunk::of(alloc, part)?;
+        chunks.push(chunk)?;
+        left = rest;
+    }
+    Ok(chunks)
 }
 
 /// An entry of that written number and place.
