@@ -89,8 +89,8 @@ pub(crate) fn fastest_edit<R: AllocGlobal + Clock>(
     requires { AreBelow count index.old.entries }
 {
     let mut least = u128::MAX;
-    let mut old = Vec::new(rt.alloc());
-    for time in 0..EDITS {
+    let mut old = write_again(rt.alloc(), index, &[], count, 0)?;
+    for time in 1..EDITS {
         let start = Instant::now(rt)?;
         old = write_again(rt.alloc(), index, &old, count, time)?;
         let passed = start.elapsed(rt)?;

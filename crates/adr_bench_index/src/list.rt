@@ -85,8 +85,8 @@ pub(crate) fn fastest_list_edit<R: AllocGlobal + Clock>(
     count: u32,
 ) -> io::Result<u128> {
     let mut least = u128::MAX;
-    let mut old = Vec::new(rt.alloc());
-    for time in 0..EDITS {
+    let mut old = write_again(rt.alloc(), list, &[], count, 0)?;
+    for time in 1..EDITS {
         let start = Instant::now(rt)?;
         old = write_again(rt.alloc(), list, &old, count, time)?;
         let passed = start.elapsed(rt)?;
