@@ -61,7 +61,7 @@ none_before (s ∷ ss) v t c f h =
     rw (not_from s.start t (is_before t s.end) early) (none_before ss v t c.2 (starts_rest s ss v c.0 c.1 f) h)
 
 -- the rest starts at the end of the first
-starts_end : (s : Segment) (ss : List Segment) (v : ℤ) → s.end ≡ At v → IsApart s ss → StartsFrom ss v
+pub starts_end : (s : Segment) (ss : List Segment) (v : ℤ) → s.end ≡ At v → IsApart s ss → StartsFrom ss v
 starts_end s [] v e a = tt
 starts_end s (r ∷ rs) v e a = let k : EndsBy (At v) r.start = subst (λ (x : End). EndsBy x r.start) e a.0 in k
 
@@ -175,7 +175,7 @@ same_ends Endless (At v) h k = absurd (false≢true (sym (k v refl)))
 same_ends Endless Endless h k = refl
 
 -- nothing comes after an endless segment
-after_endless : (s : Segment) (ss : List Segment) (t : ℤ) → s.end ≡ Endless → IsApart s ss → winner_in ss t ≡ None
+pub after_endless : (s : Segment) (ss : List Segment) (t : ℤ) → s.end ≡ Endless → IsApart s ss → winner_in ss t ≡ None
 after_endless s [] t e a = refl
 after_endless s (r ∷ rs) t e a = absurd (subst (λ (x : End). EndsBy x r.start) e a.0)
 

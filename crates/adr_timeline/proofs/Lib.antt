@@ -2,9 +2,10 @@ pub mod Canonical
 pub mod Chunks
 pub mod Compared
 pub mod Joined
+pub mod Laid
+pub mod Least
 pub mod Merged
 pub mod Pieces
-pub mod Ranks
 pub mod Runs
 pub mod Searched
 pub mod Segments

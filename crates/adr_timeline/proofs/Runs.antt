@@ -10,7 +10,7 @@ use Rattle.adr_model.specs.declared.entry.Rank.{Rank}
 use Rattle.adr_timeline.specs.declared.step.Step.{Step}
 use Rattle.adr_timeline.specs.Steps.{Adds, AreRanked, goes_left, down_at, steps_of, starts_from, is_run, steps_in_turn}
 use Rattle.adr_timeline.proofs.Merged.{IsMerge, merge_none, merge_left, merge_right, order_of}
-use Rattle.adr_timeline.proofs.Ranks.{rank_append}
+use Rattle.adr_timeline.proofs.Least.{rank_append}
 use Rattle.adr_timeline.proofs.Stepped.{steps_rank, steps_order, steps_few}
 
 -- the steps start at the end or later

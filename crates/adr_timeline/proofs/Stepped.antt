@@ -22,7 +22,7 @@ use Rattle.adr_model.specs.Governor.{winner_at}
 use Rattle.adr_model.specs.Timeline.{shows, IsCanonical}
 use Rattle.adr_timeline.specs.Parts.{part, joined_all}
 use Rattle.adr_timeline.proofs.Pieces.{StartsBy, StartsAfter, IsSpread, clip_made}
-use Rattle.adr_timeline.proofs.Ranks.{lesser_none, rank_cons, rank_append, winner_rank}
+use Rattle.adr_timeline.proofs.Least.{lesser_none, rank_cons, rank_append, winner_rank}
 
 -- ---- one entry
 

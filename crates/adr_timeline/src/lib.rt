@@ -4,6 +4,7 @@
 mod bound;
 mod chunk;
 mod line;
+mod overlay;
 mod part;
 mod search;
 mod segment;
@@ -13,5 +14,6 @@ mod windows;
 
 pub use adr_model::{Entry, Segment, Winner};
 pub use chunk::Chunk;
+pub use overlay::Ranks;
 pub use timeline::{Timeline, timeline_laws};
 pub use windows::are_apart;

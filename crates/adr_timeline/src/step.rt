@@ -49,7 +49,7 @@ fn goes_left(left: &[Step], right: &[Step]) -> bool
 
 /// Puts two lists of steps at the end of others, merged into one that has the lesser of both at each moment. At most
 /// one comparison a step.
-fn merge(
+pub(crate) fn merge(
     steps: &mut Vec<Step>,
     left: &[Step],
     right: &[Step],
@@ -86,7 +86,7 @@ fn merge(
 
 /// Puts the steps of one entry at the end of others: up at its start and down at its end, or none where it covers no
 /// moment.
-fn add_steps_of(steps: &mut Vec<Step>, entry: &Entry) -> Result<(), AllocError>
+pub(crate) fn add_steps_of(steps: &mut Vec<Step>, entry: &Entry) -> Result<(), AllocError>
     ensures { OnOk result (steps.new.items ≡ steps.old.items ++ steps_of entry.now) }
 {
     if !entry.span.start.is_before(entry.span.end) {
@@ -182,6 +182,7 @@ pub(crate) fn ranked(
 ) -> Result<Vec<Step>, AllocError>
     requires { meter.old + length entries.now * (2 * length entries.now + 1) < 2 ^ 128 }
     ensures order { IfOk result (λ steps. IsInOrder steps.items) }
+    ensures few { IfOk result (λ steps. length steps.items ≤ 2 * length entries.now) }
     ensures ranks { IfOk result (λ steps. (t : ℤ) → rank_from None steps.items t ≡ rank_at entries.now t) }
     ensures compared { meter.new ≤ meter.old + length entries.now * (2 * length entries.now + 1) }
 {

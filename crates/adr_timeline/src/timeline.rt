@@ -1,18 +1,23 @@
 //! Timelines.
-ghost use Rattle.std.specs.Prelude.{◌≡◌, ◌&&◌, IsTrue, true, drop, ◌+◌, ◌<◌, ◌≤◌, ◌^◌, ℤ, [], if◌then◌else◌, None, IfOk};
+ghost use Rattle.std.specs.Prelude.{◌≡◌, ◌&&◌, ◌++◌, List, length, IsTrue, true, drop, ◌+◌, ◌<◌, ◌≤◌, ◌^◌, ℤ, [], if◌then◌else◌, None, IfOk};
+ghost use Rattle.std.specs.Option.{option_map};
 ghost use Rattle.adr_value.specs.Answer.{OnlyNoMemory};
 ghost use Rattle.adr_value.specs.Copy.{IsCopyOf};
 ghost use Rattle.adr_time.specs.Spans.{covers};
 ghost use Rattle.adr_model.specs.Answer.{IsUntil};
+ghost use Rattle.adr_model.specs.declared.entry.Entry.{Entry};
 ghost use Rattle.adr_model.specs.Entries.{meeting};
 ghost use Rattle.adr_model.specs.Governor.{winner_at};
 ghost use Rattle.adr_model.specs.Timeline.{shows, CanonicalIsUnique, IsCanonical};
 ghost use Rattle.adr_timeline.specs.Build.{most_compared};
 ghost use Rattle.adr_timeline.specs.Chunks.{listed};
+ghost use Rattle.adr_timeline.specs.Overlay.{most_laid, most_merged, segments_in};
+ghost use Rattle.adr_timeline.specs.Steps.{lesser, rank_at, winner_of_rank};
 ghost use Rattle.adr_timeline.specs.Windows.{any_covers, are_apart};
 
 use crate::chunk::Chunk;
 use crate::line::Line;
+use crate::overlay::{Ranks, hull_of, laid_steps};
 use crate::step::{join_steps, ranked};
 use crate::{part, search};
 use adr_model::{Entry, Segment, Winner};
@@ -195,6 +200,85 @@ impl Timeline {
         let mut line = Line::new(*self.chunks.allocator(), self.most);
         part::splice_all(&mut line, &self.chunks, windows, &inner.chunks)?;
         timeline_of(self.most, line)
+    }
+
+    /// The least, at each instant of the window, of what this timeline shows and the entries, and nothing outside.
+    fn lay_inside<R: Ranks>(
+        &self,
+        entries: &[Entry],
+        window: Span,
+        ranks: &R,
+        meter: &mut Meter,
+    ) -> Result<Timeline, Refusal>
+        requires { meter.old + most_merged (length self.now) (length entries.now) < 2 ^ 128 }
+        ensures canonical { IfOk result (λ timeline. IsCanonical timeline) }
+        ensures shows { IfOk result (λ timeline. (t : ℤ) → shows timeline t ≡ (if covers window t then option_map winner_of_rank (lesser (option_map (R.rank ranks.now) (shows self.now t)) (rank_at entries.now t)) else None)) }
+        ensures compared { meter.new ≤ meter.old + most_merged (length self.now) (length entries.now) }
+        ensures refused { OnlyNoMemory result }
+    {
+        let alloc = *self.chunks.allocator();
+        let steps = laid_steps(alloc, &self.chunks, entries, ranks, meter)?;
+        let mut line = Line::new(alloc, self.most);
+        join_steps(&mut line, &steps, window)?;
+        timeline_of(self.most, line)
+    }
+
+    /// A clip, whose segments are those that meet the window.
+    #[tactic(auto, using(crate::proofs::Laid::inside_few))]
+    fn inside(&self, window: Span) -> Result<Timeline, Refusal>
+        ensures shows { IfOk result (λ timeline. (t : ℤ) → shows timeline t ≡ (if covers window t then shows self.now t else None)) }
+        ensures few { IfOk result (λ timeline. length timeline ≤ length (segments_in window self.now)) }
+        ensures refused { OnlyNoMemory result }
+    {
+        let _segments = self.segments();
+        let inside = self.clip(window)?;
+        Ok(inside)
+    }
+
+    /// The least, at each instant of the window, of what this timeline shows and the entries, and what it shows outside.
+    fn lay_in<R: Ranks>(
+        &self,
+        entries: &[Entry],
+        window: &Span,
+        ranks: &R,
+        meter: &mut Meter,
+    ) -> Result<Timeline, Refusal>
+        requires { meter.old + most_merged (length (segments_in window.now self.now)) (length entries.now) < 2 ^ 128 }
+        ensures canonical { IfOk result (λ timeline. IsCanonical timeline) }
+        ensures shows { IfOk result (λ timeline. (t : ℤ) → shows timeline t ≡ (if covers window.now t then option_map winner_of_rank (lesser (option_map (R.rank ranks.now) (shows self.now t)) (rank_at entries.now t)) else shows self.now t)) }
+        ensures compared { meter.new ≤ meter.old + most_merged (length (segments_in window.now self.now)) (length entries.now) }
+        ensures refused { OnlyNoMemory result }
+    {
+        let inside = self.inside(*window)?;
+        let laid = inside.lay_inside(entries, *window, ranks, meter)?;
+        self.splice(*window, &laid)
+    }
+
+    /// The least, at each instant, of what this timeline shows and the entries: what one new event's entries change.
+    ///
+    /// Ranks are compared by `before` alone, which counts each comparison. `NoMemory` where there is no room. Cost: that
+    /// of a table of the chunks, and for k entries and n segments that meet the span from their first start to their
+    /// last end about n + k log k steps; the chunks outside of it are shared.
+    pub fn lay_over<R: Ranks>(
+        &self,
+        entries: &[Entry],
+        ranks: &R,
+        meter: &mut Meter,
+    ) -> Result<Timeline, Refusal>
+        requires { meter.old + most_laid self.now entries.now < 2 ^ 128 }
+        ensures canonical { IfOk result (λ timeline. IsCanonical timeline) }
+        ensures shows { IfOk result (λ timeline. (t : ℤ) → shows timeline t ≡ option_map winner_of_rank (lesser (option_map (R.rank ranks.now) (shows self.now t)) (rank_at entries.now t))) }
+        ensures wins { IfOk result (λ timeline. (others : List Entry) → (t : ℤ) → option_map (R.rank ranks.now) (shows self.now t) ≡ rank_at others t → shows timeline t ≡ winner_at (others ++ entries.now) t) }
+        ensures compared { meter.new ≤ meter.old + most_laid self.now entries.now }
+        ensures refused { OnlyNoMemory result }
+    {
+        match hull_of(entries) {
+            Some(window) => self.lay_in(entries, &window, ranks, meter),
+            None => {
+                let copy = self.copy()?;
+                Ok(copy)
+            }
+        }
     }
 }
 

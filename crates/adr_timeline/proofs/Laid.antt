@@ -1,0 +1,239 @@
+-- Entries laid over what is shown.
+use Rattle.std.proofs.Common.{◌≡◌, ℕ, ◌+◌, ◌*◌, ◌<◌, ◌≤◌, ◌&&◌, not, Bool, true, false, List, [], ◌∷◌, ◌++◌, map, length, drop, get_or, Option, Some, None, if◌then◌else◌, inl, inr, refl, sym, ◌∙◌, ap, arith, ℤ, int_le}
+use Rattle.std.specs.Option.{option_map}
+use Rattle.std.specs.Int.{int_max, int_min}
+use Rattle.std.proofs.lemmas.Int.{ints}
+use Rattle.std.proofs.lemmas.Bool.{false≢true, and_parts, cases_Bool}
+use Rattle.std.proofs.lemmas.List.{append_assoc, drop_more}
+use Rattle.adr_time.specs.Spans.{covers, is_before, meets}
+use Rattle.adr_time.specs.declared.span.End.{End}
+use Rattle.adr_time.specs.declared.span.End.TheVariants.{At, Endless}
+use Rattle.adr_time.specs.declared.span.Span.{Span}
+use Rattle.adr_model.specs.declared.entry.Entry.{Entry}
+use Rattle.adr_model.specs.declared.entry.Rank.{Rank}
+use Rattle.adr_model.specs.declared.timeline.Winner.{Winner}
+use Rattle.adr_model.specs.declared.timeline.Segment.{Segment}
+use Rattle.adr_model.specs.Governor.{winner_at}
+use Rattle.adr_model.specs.Timeline.{shows, span_of, IsCanonical}
+use Rattle.adr_timeline.specs.declared.step.Step.{Step}
+use Rattle.adr_timeline.specs.Parts.{part, joined, joined_all, earlier, leads_to, trimmed}
+use Rattle.adr_timeline.specs.Chunks.{listed}
+use Rattle.adr_timeline.specs.Overlay.{hull_with, hull, later_end, most_laid, most_merged, segments_in, shown_entry, spanned}
+use Rattle.adr_timeline.specs.Steps.{Adds, IsInOrder, IsMergeOf, is_run, starts_from, steps_of, steps_in_turn, lesser, pieces, rank_at, rank_from, winner_of_rank}
+use Rattle.adr_timeline.proofs.Canonical.{none_before, starts_end, after_endless, canonical_is_unique}
+use Rattle.adr_timeline.proofs.Pieces.{clip_made, clipped_as}
+use Rattle.adr_timeline.proofs.Least.{lesser_none, rank_cons, rank_append, winner_rank}
+use Rattle.adr_timeline.proofs.Runs.{run_ranked}
+use Rattle.adr_timeline.proofs.Segments.{winner_in, EndsBy, IsApart, IsLinked}
+use Rattle.adr_timeline.proofs.Stepped.{pieces_spread, pieces_show}
+use Rattle.adr_timeline.proofs.Words.{shows_is, canonical_linked}
+
+-- ---- what is shown, as entries
+
+-- where the first segment covers, the rest shows nothing
+rest_none : (s : Segment) (ss : List Segment) (t : ℤ) (e : End) → s.end ≡ e → is_before t e ≡ true → IsLinked (s ∷ ss) → winner_in ss t ≡ None
+rest_none s ss t (At v) h b c = none_before ss v t c.2 (starts_end s ss v h c.1) (grind (arith, ints))
+rest_none s ss t Endless h b c = after_endless s ss t h c.1
+
+module _ (rank : Winner → Rank) where
+  rank_first : (s : Segment) (ss : List Segment) (t : ℤ) (x : Bool) → covers (span_of s) t ≡ x → IsLinked (s ∷ ss) → lesser (if x then Some (rank s.winner) else None) (option_map rank (winner_in ss t)) ≡ option_map rank (if x then Some s.winner else winner_in ss t)
+  rank_first s ss t true h c = rw (rest_none s ss t s.end refl (and_parts (int_le s.start t) (is_before t s.end) h).1 c)
+  rank_first s ss t false h c = refl
+
+  -- the rank of what is shown is the least of those entries
+  pub rank_shown : (ss : List Segment) (t : ℤ) → IsLinked ss → rank_at (map (shown_entry rank) ss) t ≡ option_map rank (winner_in ss t)
+  rank_shown [] t c = refl
+  rank_shown (s ∷ ss) t c =
+      rank_cons (shown_entry rank s) (map (shown_entry rank) ss) t
+      ∙ (ap (lesser (if covers (span_of s) t then Some (rank s.winner) else None)) (rank_shown ss t c.2) ∙ rank_first s ss t (covers (span_of s) t) refl c)
+
+  not_before : (e : End) (b : ℤ) → EndsBy e b → not (is_before b e) ≡ true
+  not_before (At u) b h = grind (arith, ints)
+  not_before Endless b h = absurd h
+
+  starts_later : (s : Segment) (ss : List Segment) → IsApart s ss → starts_from s.end (map (shown_entry rank) ss) ≡ true
+  starts_later s [] a = refl
+  starts_later s (r ∷ rs) a = not_before s.end r.start a.0
+
+  -- they come one after the other
+  shown_run : (ss : List Segment) → IsLinked ss → is_run (map (shown_entry rank) ss) ≡ true
+  shown_run [] c = refl
+  shown_run (s ∷ ss) c = rw (c.0, starts_later s ss c.1) (shown_run ss c.2)
+
+  map_length : (ss : List Segment) → length (map (shown_entry rank) ss) ≡ length ss
+  map_length [] = refl
+  map_length (s ∷ ss) = omega (arith, map_length ss)
+
+  pub record AreShown (ss : List Segment) (steps : List Step) : Type 0 where
+    pub order : IsInOrder steps
+    pub few : length steps ≤ 2 * length ss
+    pub ranks : (t : ℤ) → rank_from None steps t ≡ option_map rank (shows ss t)
+
+  -- the steps of what is shown have its ranks
+  pub shown_ranked : (ss : List Segment) (none steps : List Step) → IsCanonical ss → none ≡ [] → steps ≡ none ++ steps_in_turn (map (shown_entry rank) ss) → AreShown ss steps
+  shown_ranked ss none steps c n h =
+      let l = canonical_linked ss c in
+      let made = run_ranked (map (shown_entry rank) ss) (shown_run ss l) in
+      rw (h, n) (record {
+        order = made.0;
+        few = omega (arith, made.1, map_length ss);
+        ranks = λ t. made.2 t ∙ (rank_shown ss t l ∙ ap (option_map rank) (sym (shows_is ss t)));
+      })
+
+  turn_append : (xs ys : List Segment) → steps_in_turn (map (shown_entry rank) (xs ++ ys)) ≡ steps_in_turn (map (shown_entry rank) xs) ++ steps_in_turn (map (shown_entry rank) ys)
+  turn_append [] ys = refl
+  turn_append (x ∷ xs) ys = ap (λ (ss : List Step). steps_of (shown_entry rank x) ++ ss) (turn_append xs ys) ∙ sym (append_assoc (steps_of (shown_entry rank x)) (steps_in_turn (map (shown_entry rank) xs)) (steps_in_turn (map (shown_entry rank) ys)))
+
+  -- the steps of a chunk more
+  pub chunk_more : (steps new : List Step) (chunk rest : List Segment) → new ≡ steps ++ steps_in_turn (map (shown_entry rank) chunk) → new ++ steps_in_turn (map (shown_entry rank) rest) ≡ steps ++ steps_in_turn (map (shown_entry rank) (chunk ++ rest))
+  chunk_more steps new chunk rest h = rw (h, turn_append chunk rest) (append_assoc steps (steps_in_turn (map (shown_entry rank) chunk)) (steps_in_turn (map (shown_entry rank) rest)))
+
+  pub chunks_more : (cs : List (List Segment)) (i : ℕ) (chunk : List Segment) (steps new whole : List Step) → i < length cs → chunk ≡ get_or cs i chunk → new ≡ steps ++ steps_in_turn (map (shown_entry rank) chunk) → steps ++ steps_in_turn (map (shown_entry rank) (listed (drop i cs))) ≡ whole → new ++ steps_in_turn (map (shown_entry rank) (listed (drop (i + 1) cs))) ≡ whole
+  chunks_more cs i chunk steps new whole lt is h so_far =
+      let here : drop i cs ≡ chunk ∷ drop (i + 1) cs = drop_more cs i chunk lt ∙ ap (λ (c : List Segment). c ∷ drop (i + 1) cs) (sym is) in
+      chunk_more steps new chunk (listed (drop (i + 1) cs)) h ∙ (rw here at so_far)
+
+-- ---- what is merged
+
+-- the steps put at the end of none
+pub merged_none : (left right none new : List Step) → none ≡ [] → Adds (IsMergeOf left right) none new → IsMergeOf left right new
+merged_none left right none new n made = rw (made.1 ∙ ap (λ (xs : List Step). xs ++ made.0) n) made.2
+
+pub ranked_room : (n k before limit : ℕ) → before + most_merged n k < limit → before + k * (2 * k + 1) < limit
+ranked_room n k before limit h = omega arith
+
+pub ranked_within : (n k before now : ℕ) → now ≤ before + k * (2 * k + 1) → now ≤ before + most_merged n k
+ranked_within n k before now h = omega arith
+
+pub merged_room : (n k before now held given limit : ℕ) → before + most_merged n k < limit → now ≤ before + k * (2 * k + 1) → held ≤ 2 * n → given ≤ 2 * k → now + (held + given) < limit
+merged_room n k before now held given limit h c l r = omega arith
+
+pub merged_within : (n k before now later held given : ℕ) → now ≤ before + k * (2 * k + 1) → held ≤ 2 * n → given ≤ 2 * k → later ≤ now + (held + given) → later ≤ before + most_merged n k
+merged_within n k before now later held given c l r h = omega arith
+
+-- ---- the hull of entries
+
+spanned_none : (a b : ℤ) (e f : End) (t : ℤ) → (int_le (int_min a b) t && is_before t (later_end e f)) ≡ false → ((int_le a t && is_before t e) ≡ false) × ((int_le b t && is_before t f) ≡ false)
+spanned_none a b (At u) (At v) t h = (grind (arith, ints), grind (arith, ints))
+spanned_none a b (At u) Endless t h = (grind (arith, ints), grind (arith, ints))
+spanned_none a b Endless (At v) t h = (grind (arith, ints), grind (arith, ints))
+spanned_none a b Endless Endless t h = (grind (arith, ints), grind (arith, ints))
+
+rank_none : (e : Entry) (es : List Entry) (t : ℤ) → covers e.span t ≡ false → rank_at es t ≡ None → rank_at (e ∷ es) t ≡ None
+rank_none e es t c r = rank_cons e es t ∙ (rw (c, r) refl)
+
+hull_with_none : (es : List Entry) (s : Span) (t : ℤ) → covers (hull_with s es) t ≡ false → (covers s t ≡ false) × (rank_at es t ≡ None)
+hull_with_none [] s t h = (h, refl)
+hull_with_none (e ∷ es) s t h =
+    let rest = hull_with_none es (spanned s e.span) t h in
+    let both = spanned_none s.start e.span.start s.end e.span.end t rest.0 in
+    (both.0, rank_none e es t both.1 rest.1)
+
+some_is : (a b : Span) → Some a ≡ Some b → a ≡ b
+some_is a b h = cc
+
+-- outside of it no entry covers
+hull_none : (es : List Entry) (w : Span) (t : ℤ) → hull es ≡ Some w → covers w t ≡ false → rank_at es t ≡ None
+hull_none [] w t h c = refl
+hull_none (e ∷ es) w t h c =
+    let rest = hull_with_none es e.span t (ap (λ (v : Span). covers v t) (some_is (hull_with e.span es) w h) ∙ c) in
+    rank_none e es t rest.0 rest.1
+
+none_some : (a : Span) → Some a ≡ None → ⊥
+none_some a h = cc
+
+hull_of_none : (es : List Entry) → hull es ≡ None → es ≡ []
+hull_of_none [] h = refl
+hull_of_none (e ∷ es) h = absurd (none_some (hull_with e.span es) h)
+
+-- ---- what is laid over
+
+-- inside the window
+pub inside_shows : (rank : Winner → Rank) (es : List Entry) (old new : List Segment) (steps : List Step) (w : Span) → IsInOrder steps → ((t : ℤ) → rank_from None steps t ≡ lesser (option_map rank (shows old t)) (rank_at es t)) → new ≡ joined_all [] (part (Some w.start) w.end (pieces steps)) → (t : ℤ) → shows new t ≡ (if covers w t then option_map winner_of_rank (lesser (option_map rank (shows old t)) (rank_at es t)) else None)
+inside_shows rank es old new steps w o r n t =
+    let made = clip_made (pieces steps) new w (pieces_spread steps o) n in
+    made.shown t ∙ ap (λ (v : Option Winner). if covers w t then v else None) (pieces_show steps t o ∙ ap (option_map winner_of_rank) (r t))
+
+module _ (rank : Winner → Rank) (names : (w : Winner) → winner_of_rank (rank w) ≡ w) where
+  named : (o : Option Winner) → option_map winner_of_rank (option_map rank o) ≡ o
+  named None = refl
+  named (Some w) = ap (λ (v : Winner). Some v) (names w)
+
+  -- where no entry covers, what was shown is
+  kept : (o : Option Winner) (r : Option Rank) → r ≡ None → o ≡ option_map winner_of_rank (lesser (option_map rank o) r)
+  kept o r h = rw h (sym (ap (option_map winner_of_rank) (lesser_none (option_map rank o)) ∙ named o))
+
+  pub kept_shows : (es : List Entry) (old new : List Segment) → hull es ≡ None → new ≡ old → (t : ℤ) → shows new t ≡ option_map winner_of_rank (lesser (option_map rank (shows old t)) (rank_at es t))
+  kept_shows es old new h same t = ap (λ (ss : List Segment). shows ss t) same ∙ kept (shows old t) (rank_at es t) (ap (λ (xs : List Entry). rank_at xs t) (hull_of_none es h))
+
+  -- what is laid inside the hull of the entries is laid over all
+  pub laid_shows : (es : List Entry) (w : Span) (old new : List Segment) → hull es ≡ Some w
+      → ((t : ℤ) → shows new t ≡ (if covers w t then option_map winner_of_rank (lesser (option_map rank (shows old t)) (rank_at es t)) else shows old t))
+      → (t : ℤ) → shows new t ≡ option_map winner_of_rank (lesser (option_map rank (shows old t)) (rank_at es t))
+  laid_shows es w old new h n t = elim (cases_Bool (covers w t)) [
+    | inl c ↦ rw c at (n t)
+    | inr c ↦ (rw c at (n t)) ∙ kept (shows old t) (rank_at es t) (hull_none es w t h c)
+  ]
+
+-- what is laid in the window, between what is shown outside
+pub spliced_shows : (rank : Winner → Rank) (es : List Entry) (w : Span) (old inside laid new : List Segment)
+    → ((t : ℤ) → shows inside t ≡ (if covers w t then shows old t else None))
+    → ((t : ℤ) → shows laid t ≡ (if covers w t then option_map winner_of_rank (lesser (option_map rank (shows inside t)) (rank_at es t)) else None))
+    → ((t : ℤ) → shows new t ≡ (if covers w t then shows laid t else shows old t))
+    → (t : ℤ) → shows new t ≡ (if covers w t then option_map winner_of_rank (lesser (option_map rank (shows old t)) (rank_at es t)) else shows old t)
+spliced_shows rank es w old inside laid new i l n t = elim (cases_Bool (covers w t)) [
+  | inl c ↦ rw c ((rw c at (n t)) ∙ ((rw c at (l t)) ∙ ap (λ (v : Option Winner). option_map winner_of_rank (lesser (option_map rank v) (rank_at es t))) (rw c at (i t))))
+  | inr c ↦ rw c (rw c at (n t))
+]
+
+-- with other entries, whose least is shown
+pub wins : (rank : Winner → Rank) (others es : List Entry) (old new : List Segment) (t : ℤ) → shows new t ≡ option_map winner_of_rank (lesser (option_map rank (shows old t)) (rank_at es t)) → option_map rank (shows old t) ≡ rank_at others t → shows new t ≡ winner_at (others ++ es) t
+wins rank others es old new t h o =
+    h
+    ∙ (ap (λ (r : Option Rank). option_map winner_of_rank (lesser r (rank_at es t))) o
+    ∙ (ap (option_map winner_of_rank) (sym (rank_append others es t)) ∙ winner_rank (others ++ es) t))
+
+-- ---- how much is compared
+
+length_joined : (ss : List Segment) (p : Segment) → length (joined ss p) ≤ length ss + 1
+length_joined [] p = omega arith
+length_joined (s ∷ []) p = either (leads_to s p)
+  where
+    either : (x : Bool) → length (if x then record s { end = p.end } ∷ [] else s ∷ p ∷ []) ≤ 2
+    either true = omega arith
+    either false = omega arith
+length_joined (s ∷ (r ∷ rs)) p = omega (arith, length_joined (r ∷ rs) p)
+
+length_joined_all : (ps out : List Segment) → length (joined_all out ps) ≤ length out + length ps
+length_joined_all [] out = omega arith
+length_joined_all (p ∷ ps) out = omega (arith, length_joined out p, length_joined_all ps (joined out p))
+
+trimmed_meets : (a b : ℤ) (e f : End) → is_before (int_max a b) (earlier e f) ≡ true → (is_before b f && is_before a e && is_before b e && is_before a f) ≡ true
+trimmed_meets a b (At u) (At v) h = grind (arith, ints)
+trimmed_meets a b (At u) Endless h = grind (arith, ints)
+trimmed_meets a b Endless (At v) h = grind (arith, ints)
+trimmed_meets a b Endless Endless h = refl
+
+put_few : (p s : Segment) (ps qs : List Segment) (x y : Bool) → (x ≡ true → y ≡ true) → length ps ≤ length qs → length (if x then p ∷ ps else ps) ≤ length (if y then s ∷ qs else qs)
+put_few p s ps qs true true f h = omega arith
+put_few p s ps qs true false f h = absurd (false≢true (f refl))
+put_few p s ps qs false true f h = omega arith
+put_few p s ps qs false false f h = h
+
+length_part : (w : Span) (ss : List Segment) → length (part (Some w.start) w.end ss) ≤ length (segments_in w ss)
+length_part w [] = omega arith
+length_part w (s ∷ ss) =
+    let p = trimmed (Some w.start) w.end s in
+    put_few p s (part (Some w.start) w.end ss) (segments_in w ss) (is_before p.start p.end) (meets (span_of s) w) (trimmed_meets w.start s.start w.end s.end) (length_part w ss)
+
+-- a clip has no more segments than meet its window
+pub inside_few : (old inside : List Segment) (w : Span) → IsCanonical old → IsCanonical inside → ((t : ℤ) → shows inside t ≡ (if covers w t then shows old t else None)) → length inside ≤ length (segments_in w old)
+inside_few old inside w c i h =
+    let cut = joined_all [] (part (Some w.start) w.end old) in
+    let made = clipped_as old [] cut w refl c refl in
+    let same : inside ≡ cut = canonical_is_unique inside cut i made.canonical (λ t. h t ∙ sym (made.shown t)) in
+    let few : length cut ≤ length (segments_in w old) = omega (arith, length_joined_all (part (Some w.start) w.end old) [], length_part w old) in
+    rw same few
+
+pub most_of_hull : (es : List Entry) (old : List Segment) (w : Span) → hull es ≡ Some w → most_laid old es ≡ most_merged (length (segments_in w old)) (length es)
+most_of_hull es old w h = rw h refl

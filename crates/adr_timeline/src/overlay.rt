@@ -1,0 +1,157 @@
+//! What is shown and the entries of a new event, as steps that are merged.
+ghost use Rattle.std.specs.Prelude.{◌≡◌, ◌+◌, ◌*◌, ◌<◌, ◌≤◌, ◌^◌, ◌++◌, ℤ, IfOk, OnOk, None, map, length};
+ghost use Rattle.std.specs.Option.{option_map};
+ghost use Rattle.adr_model.specs.Timeline.{shows, IsCanonical};
+ghost use Rattle.adr_timeline.specs.Chunks.{listed};
+ghost use Rattle.adr_timeline.specs.Overlay.{hull, later_end as later_end_of, most_merged, shown_entry, spanned as spanned_by};
+ghost use Rattle.adr_timeline.specs.Steps.{IsInOrder, IsMergeOf, lesser, rank_at, rank_from, steps_in_turn};
+
+use crate::bound::later;
+use crate::chunk::Chunk;
+use crate::step::{Step, add_steps_of, merge, ranked};
+use adr_model::{Entry, Rank, Segment, Winner};
+use adr_rule::Meter;
+use adr_time::{End, Span};
+use std::alloc::{AllocError, Global};
+
+/// The ranks of winners, by which what a timeline shows competes with new entries.
+pub trait Ranks {
+    ghost use Rattle.std.specs.Prelude.{◌≡◌};
+    ghost use Rattle.adr_model.specs.declared.timeline.Winner.{Winner};
+    ghost use Rattle.adr_model.specs.declared.entry.Rank.{Rank};
+    ghost use Rattle.adr_timeline.specs.Steps.{winner_of_rank};
+
+    ghost rank: { Self → Winner → Rank };
+
+    /// The rank of the winner's entry.
+    fn rank(&self, winner: Winner) -> Rank
+        ensures { result ≡ rank self.now winner };
+
+    /// A winner's rank is that of its own interval.
+    ghost names: { (ranks : Self) → (winner : Winner) → winner_of_rank (rank ranks winner) ≡ winner };
+}
+
+/// The later of two ends.
+fn later_end(a: End, b: End) -> End
+    ensures { result ≡ later_end_of a b }
+{
+    let End::At(first) = a else {
+        return a;
+    };
+    let End::At(second) = b else {
+        return b;
+    };
+    End::At(later(first, second))
+}
+
+/// From the earlier start to the later end.
+fn spanned(a: &Span, b: &Span) -> Span
+    ensures { result ≡ spanned_by a.now b.now }
+{
+    let start = if b.start < a.start { b.start } else { a.start };
+    Span {
+        start,
+        end: later_end(a.end, b.end),
+    }
+}
+
+/// From the earliest start of the entries to their latest end.
+pub(crate) fn hull_of(entries: &[Entry]) -> Option<Span>
+    ensures { result ≡ hull entries.now }
+{
+    let (first, rest) = entries.split_first()?;
+    let mut window = first.span;
+    for entry in rest {
+        window = spanned(&window, &entry.span);
+    }
+    Some(window)
+}
+
+/// Puts the steps of the segments, by the ranks of their winners, at the end of others.
+fn add_shown<R: Ranks>(
+    steps: &mut Vec<Step>,
+    segments: &[Segment],
+    ranks: &R,
+) -> Result<(), AllocError>
+    ensures { OnOk result (steps.new.items ≡ steps.old.items ++ steps_in_turn (map (shown_entry (R.rank ranks.now)) segments.now)) }
+{
+    for segment in segments {
+        let entry = Entry {
+            rank: ranks.rank(segment.winner),
+            span: Span {
+                start: segment.start,
+                end: segment.end,
+            },
+        };
+        add_steps_of(steps, &entry)?;
+    }
+    Ok(())
+}
+
+/// Puts the steps of the segments of chunks at the end of others.
+fn add_chunks<R: Ranks>(
+    steps: &mut Vec<Step>,
+    chunks: &[Chunk],
+    ranks: &R,
+) -> Result<(), AllocError>
+    ensures { OnOk result (steps.new.items ≡ steps.old.items ++ steps_in_turn (map (shown_entry (R.rank ranks.now)) (listed chunks.now))) }
+{
+    for chunk in chunks {
+        add_shown(steps, chunk.segments(), ranks)?;
+    }
+    Ok(())
+}
+
+/// The steps of what the chunks show.
+fn shown_steps<R: Ranks>(
+    alloc: Global,
+    chunks: &[Chunk],
+    ranks: &R,
+) -> Result<Vec<Step>, AllocError>
+    requires { IsCanonical (listed chunks.now) }
+    ensures order { IfOk result (λ steps. IsInOrder steps.items) }
+    ensures few { IfOk result (λ steps. length steps.items ≤ 2 * length (listed chunks.now)) }
+    ensures ranks { IfOk result (λ steps. (t : ℤ) → rank_from None steps.items t ≡ option_map (R.rank ranks.now) (shows (listed chunks.now) t)) }
+{
+    let mut steps = Vec::new(alloc);
+    add_chunks(&mut steps, chunks, ranks)?;
+    Ok(steps)
+}
+
+/// Two lists of steps merged into one.
+fn merged(
+    alloc: Global,
+    left: &[Step],
+    right: &[Step],
+    meter: &mut Meter,
+) -> Result<Vec<Step>, AllocError>
+    requires room { meter.old + (length left.now + length right.now) < 2 ^ 128 }
+    requires left { IsInOrder left.now }
+    requires right { IsInOrder right.now }
+    ensures merged { IfOk result (λ steps. IsMergeOf left.now right.now steps.items) }
+    ensures compared { meter.new ≤ meter.old + (length left.now + length right.now) }
+{
+    let room = left.len().saturating_add(right.len());
+    let mut steps = Vec::with_capacity(alloc, room)?;
+    merge(&mut steps, left, right, meter)?;
+    Ok(steps)
+}
+
+/// The steps of the lesser rank of what the chunks show and of the entries.
+pub(crate) fn laid_steps<R: Ranks>(
+    alloc: Global,
+    shown: &[Chunk],
+    entries: &[Entry],
+    ranks: &R,
+    meter: &mut Meter,
+) -> Result<Vec<Step>, AllocError>
+    requires room { meter.old + most_merged (length (listed shown.now)) (length entries.now) < 2 ^ 128 }
+    requires canonical { IsCanonical (listed shown.now) }
+    ensures order { IfOk result (λ steps. IsInOrder steps.items) }
+    ensures ranks { IfOk result (λ steps. (t : ℤ) → rank_from None steps.items t ≡ lesser (option_map (R.rank ranks.now) (shows (listed shown.now) t)) (rank_at entries.now t)) }
+    ensures compared { meter.new ≤ meter.old + most_merged (length (listed shown.now)) (length entries.now) }
+{
+    let given = ranked(alloc, entries, meter)?;
+    let held = shown_steps(alloc, shown, ranks)?;
+    merged(alloc, &held, &given, meter)
+}
