@@ -9,8 +9,8 @@ use Rattle.adr_object.specs.declared.party.Ven.{Ven}
 use Rattle.adr_object.specs.declared.party.Resource.{Resource}
 use Rattle.adr_model.specs.Book.{Book, ven_by}
 use Rattle.adr_model.specs.Matching.{applies}
-use Rattle.adr_repair.specs.Lists.{In}
-use Rattle.adr_repair.specs.Whole.{IsWhole}
+use Rattle.adr_model.specs.Lists.{In}
+use Rattle.adr_model.specs.Whole.{IsWhole}
 use Rattle.adr_keys.specs.declared.key.Key.{Key}
 use Rattle.adr_keys.specs.Rows.{offers_key}
 use Rattle.adr_audience.specs.Offers.{offers}

@@ -3,7 +3,7 @@ use Rattle.std.proofs.Common.{◌≡◌, ℕ, ◌++◌, ◌∷◌, [], Bool, tru
 use Rattle.std.proofs.lemmas.Bool.{false≢true}
 use Rattle.std.proofs.lemmas.Slice.Eq.{bytes_eq-Decides}
 use Rattle.std.specs.List.{AllByRecursion, IsDistinct, list_any}
-use Rattle.adr_repair.specs.Lists.{In}
+use Rattle.adr_model.specs.Lists.{In}
 use Rattle.adr_keys.specs.declared.key.Key.{Key}
 use Rattle.adr_audience.proofs.Matched.{bytes_eq-flip}
 

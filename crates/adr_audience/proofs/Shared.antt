@@ -15,7 +15,7 @@ use Rattle.adr_object.specs.declared.party.Resource.{Resource}
 use Rattle.adr_model.specs.declared.written.Written.{Written}
 use Rattle.adr_model.specs.Book.{Book, program_by}
 use Rattle.adr_model.specs.Matching.{applies}
-use Rattle.adr_repair.specs.Lists.{In}
+use Rattle.adr_model.specs.Lists.{In}
 use Rattle.adr_keys.specs.declared.key.Key.{Key}
 use Rattle.adr_keys.specs.declared.key.Key.TheVariants.{Anyone}
 use Rattle.adr_keys.specs.Key.{same_key, same_key_flip}

@@ -14,7 +14,7 @@ use Rattle.adr_object.specs.declared.party.Resource.{Resource}
 use Rattle.adr_model.specs.Matching.{applies}
 use Rattle.adr_model.specs.Book.{Book, ven_by, program_by}
 use Rattle.adr_model.specs.Edits.{made, is_named}
-use Rattle.adr_repair.specs.Whole.{IsWhole, event_ids}
+use Rattle.adr_model.specs.Whole.{IsWhole, event_ids}
 use Rattle.adr_keys.specs.Rows.{offers_key}
 use Rattle.adr_audience.specs.Offers.{offers}
 use Rattle.adr_model.specs.declared.written.Written.{Written}

@@ -7,7 +7,7 @@ ghost use Rattle.adr_audience.specs.Rows.{offered_in, offers_of, fresh_row as th
 ghost use Rattle.adr_keys.specs.Rows.{offers_key};
 ghost use Rattle.adr_value.specs.Answer.{OnlyNoMemory};
 ghost use Rattle.adr_audience.specs.Laws.{RowsMatchAsScenes, RowsOfCreated, RowsOfChanged, RowsOfRemoved, RowsOfChangedVen, RowsOfCreatedVen, RowsOfRemovedVen, RowsOfOthers, applying_places};
-ghost use Rattle.adr_repair.specs.Whole.{IsWhole};
+ghost use Rattle.adr_model.specs.Whole.{IsWhole};
 ghost use Rattle.adr_model.specs.Book.{Book};
 
 use crate::offers::offered;

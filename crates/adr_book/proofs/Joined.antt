@@ -10,8 +10,8 @@ use Rattle.adr_object.specs.declared.object.Edit.{Edit}
 use Rattle.adr_model.specs.Book.{Book, empty}
 use Rattle.adr_model.specs.Edits.{after_from, step}
 use Rattle.adr_model.proofs.EditLemmas.{accepted_edits_count, after_from_push, journals_go_on}
-use Rattle.adr_repair.specs.Whole.{IsWhole}
-use Rattle.adr_repair.proofs.Whole.{after_whole, step_whole}
+use Rattle.adr_model.specs.Whole.{IsWhole}
+use Rattle.adr_model.proofs.Whole.{after_whole, step_whole}
 use Rattle.adr_book.specs.Ledger.{Leads, closed_edits, joined}
 
 -- what edits leave of a whole book is whole

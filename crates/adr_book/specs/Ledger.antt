@@ -3,7 +3,7 @@ use Rattle.std.specs.Prelude.{◌≡◌, ℕ, ◌+◌, List, ◌++◌, flat_map,
 use Rattle.adr_object.specs.declared.object.Edit.{Edit}
 use Rattle.adr_model.specs.Book.{Book}
 use Rattle.adr_model.specs.Edits.{after_from}
-use Rattle.adr_repair.specs.Whole.{IsWhole}
+use Rattle.adr_model.specs.Whole.{IsWhole}
 
 -- closed batches of edits and the open one, and how many more edits it takes with no memory
 pub record Batches : Type 0 where

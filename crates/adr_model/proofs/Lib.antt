@@ -10,3 +10,10 @@ pub mod Rows
 pub mod Receipts
 pub mod Answers
 pub mod Replies
+pub mod Lists
+pub mod Keyed
+pub mod Events
+pub mod Succession
+pub mod Steps
+pub mod Whole
+pub mod Within

@@ -21,7 +21,7 @@ use Rattle.adr_model.specs.Book.{Book}
 use Rattle.adr_model.specs.Rank.{ranked}
 use Rattle.adr_model.proofs.Ranked.{bounds_ranked, governs_winners, governs_wins}
 use Rattle.adr_model.specs.Answer.{IsUntil, at, bounds, same_winner, shown, state_text, until}
-use Rattle.adr_model.specs.Governor.{entries_for, first_of, governs, ranked_entries, winner_at, winner_of}
+use Rattle.adr_model.specs.Governor.{entries_for, first_of, ranked_entries, winner_at, winner_of}
 use Rattle.adr_model.specs.Laws.{IsAscending, SegmentsAreApart, SegmentsAreInOrder, SegmentsBeginAtChanges, SegmentsCoverAll, SegmentsShowOne, RollTellsEach, RollTellsWhatAtTells, TypesGovernSometime}
 use Rattle.adr_model.specs.Queries.{beginnings, begins, end_within, in_order, is_governed, put_in_order, roll}
 use Rattle.adr_model.proofs.AnswerLaws.{next, next_is_until, same_before_next, same_from_winner, winner_from_same, winner_same}

@@ -1,5 +1,5 @@
 -- Entries under a rule for ties: what governs is the winner of the entries as they are ranked.
-use Rattle.std.proofs.Common.{◌≡◌, ℤ, Bool, true, false, cond, List, [], ◌∷◌, ◌++◌, refl, sym, ap, filter, map}
+use Rattle.std.proofs.Common.{◌≡◌, ℤ, Bool, true, false, cond, List, [], ◌∷◌, ◌++◌, refl, ap, filter, map}
 use Rattle.std.specs.Option.{option_map}
 use Rattle.adr_value.specs.declared.payload.PayloadType.{PayloadType}
 use Rattle.std.proofs.Common.{ℕ}

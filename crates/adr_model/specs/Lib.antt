@@ -5,9 +5,12 @@ pub mod Entries
 pub mod Governor
 pub mod Laws
 pub mod Layout
+pub mod Lists
 pub mod Machine
 pub mod Matching
 pub mod Queries
 pub mod Rank
 pub mod Timeline
 pub mod Touches
+pub mod Whole
+pub mod Within

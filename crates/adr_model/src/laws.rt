@@ -1,5 +1,7 @@
 //! What follows from the definitions. Each function's clause is a law, and its body does nothing.
 ghost use Rattle.adr_model.specs.Laws.{AcceptedEditsCount, BasesOnlyRefuse, JournalsGoOn, LooksShowNoEarlier, PublicationsAreTheirEdits, PublicationsFollow, PublicationsStay, ReadersStayBehind, RefusedEditsChangeNothing, RepeatsAreOneEntry, RollTellsEach, RollTellsWhatAtTells, SeenNeverFalls, SegmentsAreApart, SegmentsAreInOrder, SegmentsBeginAtChanges, SegmentsCoverAll, SegmentsShowOne, TypesGovernSometime, UntilIsTheNextChange, VersionsAreEdits, VersionsCountEdits};
+ghost use Rattle.adr_model.specs.Whole.{BooksAreWhole, StepsKeepWhole};
+ghost use Rattle.adr_model.specs.Within.{BooksAreWithin, EditsKeepLimits};
 
 /// The laws of edits: one that is refused changes nothing, one that is accepted makes the version one more, and
 /// the book after a journal is where the rest of the journal goes on. A version is at most the number of edits. The
@@ -49,4 +51,19 @@ pub fn machine_laws()
     ensures batches { PublicationsFollow }
     ensures edits { PublicationsAreTheirEdits }
     ensures versions { VersionsCountEdits }
+{}
+
+/// Every book that accepted edits leave is whole: ids are distinct, each event has a number of its own that is
+/// at most the version, each program and ven that is named is there, and every event can be laid out.
+pub fn books_are_whole()
+    ensures step { StepsKeepWhole }
+    ensures after { BooksAreWhole }
+{}
+
+/// No limit is ever passed: after any list of edits the programs, vens, resources, events and entries are at most
+/// as many as their limits, and the version is at most the greatest. The same holds of any limits, on a base that
+/// is within them.
+pub fn books_are_within_limits()
+    ensures any { EditsKeepLimits }
+    ensures after { BooksAreWithin }
 {}

@@ -13,10 +13,10 @@ use Rattle.adr_model.specs.declared.written.Written.{Written}
 use Rattle.adr_model.specs.Book.{Book, resource_by, event_by}
 use Rattle.adr_model.specs.Governor.{entries_of, applies_to, candidates}
 use Rattle.adr_model.specs.Touches.{applying}
-use Rattle.adr_repair.specs.Lists.{In}
-use Rattle.adr_repair.specs.Whole.{event_ids}
-use Rattle.adr_repair.proofs.Lists.{flat_map-same, filter-flat_map}
-use Rattle.adr_repair.proofs.Keyed.{own_key, found, event_id}
+use Rattle.adr_model.specs.Lists.{In}
+use Rattle.adr_model.specs.Whole.{event_ids}
+use Rattle.adr_model.proofs.Lists.{flat_map-same, filter-flat_map}
+use Rattle.adr_model.proofs.Keyed.{own_key, found, event_id}
 
 -- what a write that may apply gives at an instant
 abbrev pub live : PayloadType → ℤ → Option Written → List Entry

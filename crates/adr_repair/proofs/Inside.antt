@@ -18,13 +18,13 @@ use Rattle.adr_model.specs.Rank.{carries}
 use Rattle.adr_model.specs.Book.{Book}
 use Rattle.adr_model.specs.Governor.{entry_at, entries_of, candidates, Disturbed}
 use Rattle.adr_model.specs.Touches.{applying, touches, touches_of, touches_between, ids_of_both}
-use Rattle.adr_repair.specs.Lists.{In}
-use Rattle.adr_repair.specs.Whole.{event_ids}
+use Rattle.adr_model.specs.Lists.{In}
+use Rattle.adr_model.specs.Whole.{event_ids}
 use Rattle.adr_repair.specs.Windows.{is_touched, is_window_at}
-use Rattle.adr_repair.proofs.Lists.{part_with_one, passing_in, In-filter, In-from_filter, In-flat_map, In-from_flat_map, In-map, In-from_map, Contains-from_In, In-from_Contains, same_bytes}
+use Rattle.adr_model.proofs.Lists.{part_with_one, passing_in, In-filter, In-from_filter, In-flat_map, In-from_flat_map, In-map, In-from_map, Contains-from_In, In-from_Contains, same_bytes}
 use Rattle.adr_repair.proofs.Windows.{event_touches}
 use Rattle.adr_repair.proofs.Candidates.{live, candidates_by_id, applying_there}
-use Rattle.adr_repair.proofs.Succession.{Succeeds}
+use Rattle.adr_model.proofs.Succession.{Succeeds}
 
 -- ---- the entries of a write have its number
 

@@ -13,7 +13,7 @@ use Rattle.adr_repair.specs.Laws.{AtEachEdit, CandidatesStay, GovernorStays, Win
 use Rattle.adr_repair.specs.Windows.{is_touched}
 use Rattle.adr_repair.proofs.Outside.{same_candidates}
 use Rattle.adr_repair.proofs.Inside.{disturbed}
-use Rattle.adr_repair.proofs.Steps.{step_sound, step_succeeds, after_sound}
+use Rattle.adr_model.proofs.Steps.{step_sound, step_succeeds, after_sound}
 
 pub candidates_stay : AtEachEdit CandidatesStay
 candidates_stay edits edit new e id kind t h =

@@ -13,9 +13,9 @@ use Rattle.adr_model.specs.Rank.{goes_before, ranked}
 use Rattle.adr_model.proofs.Order.{none_goes_before_itself, not_both_ways, not_going_before_passes_on}
 use Rattle.adr_model.specs.Book.{Book}
 use Rattle.adr_model.specs.Governor.{candidates, governs, first_of, winner_of}
-use Rattle.adr_repair.specs.Lists.{In}
+use Rattle.adr_model.specs.Lists.{In}
 use Rattle.adr_repair.specs.Ranks.{IsLeast, IsGovernor, same_mark}
-use Rattle.adr_repair.proofs.Lists.{In_from_each}
+use Rattle.adr_model.proofs.Lists.{In_from_each}
 
 module _ (x f : Entry) (xs : List Entry) (least : IsLeast xs f) where
   none_over_old : goes_before f.rank x.rank ≡ true → (g : Entry) → (x ≡ g) ⊎ In g xs → goes_before g.rank f.rank ≡ false

@@ -3,9 +3,9 @@ use Rattle.std.proofs.Common.{◌≡◌, ℕ, Bool, true, false, not, cond, if�
 use Rattle.std.specs.Str.{bytes_eq}
 use Rattle.std.proofs.lemmas.Slice.Eq.{bytes_eq-Decides}
 use Rattle.std.proofs.lemmas.Bool.{both_ways, false_from_ne_true}
-use Rattle.adr_repair.specs.Lists.{In}
-use Rattle.adr_repair.proofs.Lists.{same_bytes}
-use Rattle.adr_repair.proofs.Keyed.{by_key, put}
+use Rattle.adr_model.specs.Lists.{In}
+use Rattle.adr_model.proofs.Lists.{same_bytes}
+use Rattle.adr_model.proofs.Keyed.{by_key, put}
 
 pub apart_flip : (a b : List ℕ) → bytes_eq a b ≡ false → bytes_eq b a ≡ false
 apart_flip a b h = false_from_ne_true (bytes_eq b a) (λ t. both_ways (bytes_eq a b) h ((bytes_eq-Decides a b).1 (sym (same_bytes b a t))))

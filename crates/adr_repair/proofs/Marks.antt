@@ -17,12 +17,12 @@ use Rattle.adr_model.specs.Rank.{carries, ranked}
 use Rattle.adr_model.specs.declared.entry.Tie.{Tie}
 use Rattle.adr_model.specs.Book.{Book, resource_by}
 use Rattle.adr_model.specs.Governor.{entry_at, entries_of, entries_for, applies_to}
-use Rattle.adr_repair.specs.Lists.{In}
+use Rattle.adr_model.specs.Lists.{In}
 use Rattle.adr_repair.specs.Ranks.{same_mark}
-use Rattle.adr_repair.specs.Whole.{IsSound}
-use Rattle.adr_repair.proofs.Lists.{In-append_cases, In-from_flat_map, In-map, each_from_In, In_from_each}
-use Rattle.adr_repair.proofs.Keyed.{distinct_filter}
-use Rattle.adr_repair.proofs.Events.{numbers, one_write}
+use Rattle.adr_model.specs.Whole.{IsSound}
+use Rattle.adr_model.proofs.Lists.{In-append_cases, In-from_flat_map, In-map, each_from_In, In_from_each}
+use Rattle.adr_model.proofs.Keyed.{distinct_filter}
+use Rattle.adr_model.proofs.Events.{numbers, one_write}
 use Rattle.adr_repair.proofs.Inside.{number_of_entry}
 
 -- two distinct lists with nothing in common

@@ -12,14 +12,14 @@ use Rattle.adr_model.specs.declared.written.Written.{Written}
 use Rattle.adr_model.specs.Book.{Book}
 use Rattle.adr_model.specs.Governor.{entries_of, candidates}
 use Rattle.adr_model.specs.Touches.{applying, touches, touches_of, touches_between, ids_of_both}
-use Rattle.adr_repair.specs.Lists.{In}
-use Rattle.adr_repair.specs.Whole.{event_ids}
+use Rattle.adr_model.specs.Lists.{In}
+use Rattle.adr_model.specs.Whole.{event_ids}
 use Rattle.adr_repair.specs.Windows.{is_touched, is_window_at}
-use Rattle.adr_repair.proofs.Lists.{flat_map-same, flat_map-filter, flat_map-filter_none, none_in_part, filter_none, has, has_from_In, In_from_has, In-filter, bytes_eq_self}
-use Rattle.adr_repair.proofs.Keyed.{absent, event_id, resource_id}
+use Rattle.adr_model.proofs.Lists.{flat_map-same, flat_map-filter, flat_map-filter_none, none_in_part, filter_none, has, has_from_In, In_from_has, In-filter, bytes_eq_self}
+use Rattle.adr_model.proofs.Keyed.{absent, event_id, resource_id}
 use Rattle.adr_repair.proofs.Windows.{event_touches}
 use Rattle.adr_repair.proofs.Candidates.{live, candidates_by_id, no_resource, no_event, applying_there}
-use Rattle.adr_repair.proofs.Succession.{Succeeds}
+use Rattle.adr_model.proofs.Succession.{Succeeds}
 
 -- ---- both books' ids
 

@@ -24,15 +24,15 @@ use Rattle.adr_model.specs.Book.{Book, resource_by}
 use Rattle.adr_model.specs.Edits.{after}
 use Rattle.adr_model.specs.Governor.{applies_to, candidates, entries_for, entries_of, entry_at, governs, winner_of}
 use Rattle.adr_repair.specs.Answers.{GovernorsAreShown}
-use Rattle.adr_repair.specs.Lists.{In}
+use Rattle.adr_model.specs.Lists.{In}
 use Rattle.adr_repair.specs.Ranks.{IsGovernor}
-use Rattle.adr_repair.specs.Whole.{IsSound}
-use Rattle.adr_repair.proofs.Events.{numbers, one_write}
+use Rattle.adr_model.specs.Whole.{IsSound}
+use Rattle.adr_model.proofs.Events.{numbers, one_write}
 use Rattle.adr_repair.proofs.Inside.{number_of_entry}
 use Rattle.adr_repair.proofs.Least.{governor_is_least}
-use Rattle.adr_repair.proofs.Lists.{In-from_filter, In-from_flat_map, In-from_map}
+use Rattle.adr_model.proofs.Lists.{In-from_filter, In-from_flat_map, In-from_map}
 use Rattle.adr_repair.proofs.Marks.{entries_from}
-use Rattle.adr_repair.proofs.Steps.{after_sound}
+use Rattle.adr_model.proofs.Steps.{after_sound}
 
 -- where one passes, one is found
 pub found-any : {X : Type 0} (p : X → Bool) (xs : List X) → is_some (find p xs) ≡ list_any p xs

@@ -19,14 +19,14 @@ use Rattle.adr_model.specs.Edits.{step, faults, made, has_id}
 use Rattle.adr_model.proofs.EditLemmas.{accepted}
 use Rattle.adr_model.specs.Governor.{applies_to}
 use Rattle.adr_model.specs.Touches.{applying, touches, touches_of, touches_between, ids_of_both}
-use Rattle.adr_repair.specs.Whole.{event_ids, IsWhole}
+use Rattle.adr_model.specs.Whole.{event_ids, IsWhole}
 use Rattle.adr_repair.specs.Table.{spans, spans_if_differs, is_event_of, is_resource_of, touched_at, table}
-use Rattle.adr_repair.proofs.Lists.{flat_map-same, none_passes, same_bytes}
-use Rattle.adr_repair.proofs.Keyed.{program_id, ven_id, resource_id, event_id, by_key, found, put}
+use Rattle.adr_model.proofs.Lists.{flat_map-same, none_passes, same_bytes}
+use Rattle.adr_model.proofs.Keyed.{program_id, ven_id, resource_id, event_id, by_key, found, put}
 use Rattle.adr_repair.proofs.Candidates.{no_resource, no_event, applying_event, applying_there}
-use Rattle.adr_repair.proofs.Steps.{no_fault}
+use Rattle.adr_model.proofs.Steps.{no_fault}
 use Rattle.adr_repair.proofs.Lookups.{apart_flip, none_found, push_other, push_found, put_other, put_own, drop_other, drop_own}
-use Rattle.adr_repair.proofs.Whole.{created_parts, unnamed}
+use Rattle.adr_model.proofs.Whole.{created_parts, unnamed}
 
 -- ---- two writes
 

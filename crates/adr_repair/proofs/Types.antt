@@ -28,8 +28,8 @@ use Rattle.adr_model.specs.Governor.{applies_to, candidates, entries_for, entry_
 use Rattle.adr_model.specs.Queries.{governing_types, in_order, is_governed, private_name, private_names, put_in_order, types_in_order}
 use Rattle.adr_model.proofs.QueryLaws.{types_govern_sometime}
 use Rattle.adr_repair.specs.Answers.{TypesThatGovernAreListed}
-use Rattle.adr_repair.specs.Lists.{In}
-use Rattle.adr_repair.proofs.Lists.{In-append_left, In-append_right, In-filter, In-flat_map, In-from_filter, In-map, passing_in, same_bytes}
+use Rattle.adr_model.specs.Lists.{In}
+use Rattle.adr_model.proofs.Lists.{In-append_left, In-append_right, In-filter, In-flat_map, In-from_filter, In-map, passing_in, same_bytes}
 use Rattle.adr_repair.proofs.Shown.{event_of_entry, placed}
 
 -- ---- a type is no more than its name

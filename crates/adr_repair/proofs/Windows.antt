@@ -23,7 +23,7 @@ use Rattle.adr_model.specs.Rank.{carries}
 use Rattle.adr_model.specs.Governor.{entry_at, entries_of}
 use Rattle.adr_model.specs.Touches.{types_of, touches_of}
 use Rattle.adr_repair.specs.Windows.{is_window_at}
-use Rattle.adr_repair.proofs.Lists.{list_any-filter, same_bytes}
+use Rattle.adr_model.proofs.Lists.{list_any-filter, same_bytes}
 
 -- ---- tests
 

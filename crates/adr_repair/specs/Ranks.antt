@@ -12,7 +12,7 @@ use Rattle.adr_model.specs.Rank.{goes_before, ranked}
 use Rattle.adr_model.specs.Book.{Book}
 use Rattle.adr_model.specs.Edits.{after}
 use Rattle.adr_model.specs.Governor.{entry_at, entries_for, candidates, governs, winner_of}
-use Rattle.adr_repair.specs.Lists.{In}
+use Rattle.adr_model.specs.Lists.{In}
 
 -- the entries are of one write and one place
 abbrev pub same_mark : Entry → Entry → Bool

@@ -11,7 +11,7 @@ use Rattle.adr_model.specs.declared.written.Written.{Written}
 use Rattle.adr_model.specs.Book.{Book, resource_by, event_by}
 use Rattle.adr_model.specs.Edits.{step, after}
 use Rattle.adr_model.specs.Touches.{applying, touches, touches_of, ids_of_both}
-use Rattle.adr_repair.specs.Whole.{event_ids}
+use Rattle.adr_model.specs.Whole.{event_ids}
 
 -- the spans of the event that applies
 abbrev pub spans : List ℕ → Option Written → List Touch

@@ -1,6 +1,5 @@
 #![tactic(auto)]
-//! Why it is enough to repair timelines inside the windows of an edit, and what every book of edits keeps: laws
-//! of the definitions alone. Each function's clause is a law, and its body does nothing.
+//! Why it is enough to repair timelines inside the windows of an edit: laws of the definitions alone. Each function's clause is a law, and its body does nothing.
 //!
 //! An edit's windows are the spans of the events that it brings in, takes away or lets apply otherwise, each with
 //! a resource and a payload type.
@@ -10,8 +9,6 @@ ghost use Rattle.adr_repair.specs.Answers.{GovernorsAreShown, TypesThatGovernAre
 ghost use Rattle.adr_repair.specs.Laws.{AtEachEdit, CandidatesStay, GovernorStays, RepairsAll, WindowsAreDisturbed};
 ghost use Rattle.adr_repair.specs.Ranks.{EntriesAreApart, GovernsTheLeast, IntervalsAreApart, LeastIsOne};
 ghost use Rattle.adr_repair.specs.Table.{TouchesAreTheTable};
-ghost use Rattle.adr_repair.specs.Whole.{BooksAreWhole, StepsKeepWhole};
-ghost use Rattle.adr_repair.specs.Within.{BooksAreWithin, EditsKeepLimits};
 
 /// Outside the windows of an accepted edit everything stays: at an instant that no window covers, the same
 /// intervals compete as before, and the same one governs, under either rule for ties.
@@ -36,21 +33,6 @@ pub fn repaired_inside_windows()
 /// a changed program, ven or resource the spans of the events whose targets now say otherwise, and so on.
 pub fn touches_are_the_table()
     ensures { TouchesAreTheTable }
-{}
-
-/// Every book that accepted edits leave is whole: ids are distinct, each event has a number of its own that is
-/// at most the version, each program and ven that is named is there, and every event can be laid out.
-pub fn books_are_whole()
-    ensures step { StepsKeepWhole }
-    ensures after { BooksAreWhole }
-{}
-
-/// No limit is ever passed: after any list of edits the programs, vens, resources, events and entries are at most
-/// as many as their limits, and the version is at most the greatest. The same holds of any limits, on a base that
-/// is within them.
-pub fn books_are_within_limits()
-    ensures any { EditsKeepLimits }
-    ensures after { BooksAreWithin }
 {}
 
 /// There are no ties: no two intervals of one book have one rank, and no two entries of one resource and payload

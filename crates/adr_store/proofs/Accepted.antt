@@ -16,10 +16,10 @@ use Rattle.adr_model.specs.declared.written.Written.{Written}
 use Rattle.adr_model.specs.Book.{Book, event_by}
 use Rattle.adr_model.specs.Edits.{step, made, faults, fault_if, layout_faults, reference_faults, has_id, is_full_for, is_named, has_too_many_entries, most_objects, count_of, entries_beside, entry_count}
 use Rattle.adr_model.proofs.EditLemmas.{accepted}
-use Rattle.adr_repair.specs.Lists.{In}
-use Rattle.adr_repair.specs.Whole.{IsWhole}
-use Rattle.adr_repair.proofs.Steps.{no_fault, no_faults_before, no_faults_after}
-use Rattle.adr_repair.proofs.Keyed.{event_id}
+use Rattle.adr_model.specs.Lists.{In}
+use Rattle.adr_model.specs.Whole.{IsWhole}
+use Rattle.adr_model.proofs.Steps.{no_fault, no_faults_before, no_faults_after}
+use Rattle.adr_model.proofs.Keyed.{event_id}
 use Rattle.adr_store.specs.Numbers.{all_entries, by_number}
 use Rattle.adr_store.proofs.Found.{without_none}
 

@@ -8,8 +8,8 @@ use Rattle.adr_value.specs.declared.refusal.Refusal.TheVariants.{NoMemory}
 use Rattle.std.specs.List.{IsDistinct}
 use Rattle.std.specs.Str.{bytes_eq}
 use Rattle.std.proofs.lemmas.List.Sums.{sum_by-cons}
-use Rattle.adr_repair.specs.Lists.{In}
-use Rattle.adr_repair.proofs.Lists.{In_from_each, In-map}
+use Rattle.adr_model.specs.Lists.{In}
+use Rattle.adr_model.proofs.Lists.{In_from_each, In-map}
 use Rattle.adr_store.proofs.Found.{the_one, at}
 use Rattle.adr_store.proofs.Times.{bytes_eq_flip}
 

@@ -12,8 +12,8 @@ use Rattle.adr_value.specs.declared.limits.TheConstants.{MOST_ENTRIES, MOST_EVEN
 use Rattle.adr_object.specs.declared.event.Event.{Event}
 use Rattle.adr_model.specs.declared.written.Written.{Written}
 use Rattle.adr_model.specs.Edits.{entry_count}
-use Rattle.adr_repair.proofs.Keyed.{event_id}
-use Rattle.adr_repair.proofs.Lists.{bytes_eq_self}
+use Rattle.adr_model.proofs.Keyed.{event_id}
+use Rattle.adr_model.proofs.Lists.{bytes_eq_self}
 use Rattle.adr_store.specs.Numbers.{times, one_if, all_entries, by_number, IsCounted}
 use Rattle.adr_store.proofs.Found.{the_one, without_it, with_it, sum_drop, sum_put, more_number, drop_number, put_number}
 

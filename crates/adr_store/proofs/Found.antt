@@ -3,8 +3,8 @@ use Rattle.std.proofs.Common.{◌≡◌, ℕ, ◌+◌, ◌==◌, Bool, true, fal
 use Rattle.std.specs.List.{AllByRecursion, IsDistinct}
 use Rattle.std.specs.Str.{bytes_eq}
 use Rattle.std.proofs.lemmas.List.Sums.{sum_by-cons}
-use Rattle.adr_repair.specs.Lists.{In}
-use Rattle.adr_repair.proofs.Lists.{same_bytes, In_from_each, In-map}
+use Rattle.adr_model.specs.Lists.{In}
+use Rattle.adr_model.proofs.Lists.{same_bytes, In_from_each, In-map}
 use Rattle.adr_store.proofs.Times.{same_test}
 
 pub eqb_flip : (a b : ℕ) → (a == b) ≡ (b == a)

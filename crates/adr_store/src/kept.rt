@@ -4,9 +4,9 @@ ghost use Rattle.adr_value.specs.Copy.{IsCopyOf};
 ghost use Rattle.adr_model.specs.Edits.{entry_count as number_of_entries};
 
 use crate::counting::entry_count;
-use crate::shared::Shared;
 use crate::table::Keyed;
 use adr_object::Event;
+use adr_shared::Shared;
 use adr_value::{Refusal, TryClone};
 use std::alloc::Global;
 use std::marker::Model;

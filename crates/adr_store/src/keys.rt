@@ -1,7 +1,7 @@
 //! The texts that objects are found by: their ids.
-use crate::shared::Shared;
 use crate::table::Keyed;
 use adr_object::{Program, Resource, Ven};
+use adr_shared::Shared;
 
 impl Keyed for Shared<Program> {
     ghost key = { λ p. p.id };

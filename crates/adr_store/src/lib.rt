@@ -7,12 +7,11 @@ mod kept;
 mod keys;
 mod numbers;
 mod resources;
-mod shared;
 mod store;
 mod table;
 mod tally;
 mod writes;
 
+pub use adr_shared::Shared;
 pub use counting::entry_count;
-pub use shared::Shared;
 pub use store::Store;

@@ -8,10 +8,10 @@ ghost use Rattle.adr_value.specs.Copy.{IsCopyOf};
 ghost use Rattle.adr_model.specs.Edits.{put_at};
 ghost use Rattle.adr_store.specs.Table.{find_by};
 
-use crate::shared::Shared;
 use crate::table::Table;
 use crate::tally::Tally;
 use adr_object::{Id, Resource};
+use adr_shared::Shared;
 use adr_value::Refusal;
 use adr_value::limits::MOST_RESOURCES;
 use std::alloc::Global;

@@ -9,14 +9,14 @@ ghost use Rattle.adr_object.specs.declared.object.Object.TheVariants.{Program as
 ghost use Rattle.adr_object.specs.declared.object.Edit.TheVariants.{Create, Change, Remove};
 ghost use Rattle.adr_model.specs.Book.{empty, program_by, ven_by, resource_by, event_by};
 ghost use Rattle.adr_model.specs.Edits.{count_of, made, step, entry_count};
-ghost use Rattle.adr_repair.specs.Whole.{IsWhole};
+ghost use Rattle.adr_model.specs.Whole.{IsWhole};
 ghost use Rattle.adr_store.specs.Numbers.{all_entries, by_number};
 
 use crate::events::Events;
 use crate::resources::Resources;
-use crate::shared::Shared;
 use crate::table::Table;
 use adr_object::{Edit, Event, Id, Kind, Object, Program, Resource, Ven};
+use adr_shared::Shared;
 use adr_value::Refusal;
 use adr_value::limits::{MOST_ENTRIES, MOST_EVENTS, MOST_RESOURCES, MOST_VERSION};
 use std::alloc::Global;

@@ -4,8 +4,8 @@ ghost use Rattle.std.specs.Option.{option_copied, option_map};
 ghost use Rattle.adr_value.specs.Answer.{OnlyNoMemory};
 ghost use Rattle.indexmap.specs.IndexMap.{get, spare};
 
-use crate::shared::Shared;
 use adr_object::Event;
+use adr_shared::Shared;
 use adr_value::Refusal;
 use indexmap::IndexMap;
 use std::alloc::Global;

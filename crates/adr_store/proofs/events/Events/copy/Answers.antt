@@ -2,7 +2,7 @@ use Rattle.std.proofs.Common.{◌≡◌, ◌∙◌, ◌++◌, ◌∷◌, [], Som
 use Rattle.std.specs.List.{IsDistinct}
 use Rattle.std.specs.Option.{option_copied}
 use Rattle.std.specs.Str.{bytes_eq}
-use Rattle.adr_repair.proofs.Keyed.{event_id}
+use Rattle.adr_model.proofs.Keyed.{event_id}
 use Rattle.adr_store.specs.Numbers.{all_entries, by_number}
 use Rattle.adr_store.specs.Table.{find_by}
 use Rattle.adr_store.proofs.Copies.{take_new, take_fresh, take_sum, take_next}

@@ -1,6 +1,6 @@
 use Rattle.std.proofs.Common.{◌∙◌, ◌-◌, ap, sym, refl, arith}
 use Rattle.std.specs.Option.{option_copied}
-use Rattle.adr_repair.proofs.Keyed.{event_id}
+use Rattle.adr_model.proofs.Keyed.{event_id}
 use Rattle.adr_store.proofs.Found.{without_none}
 use Rattle.adr_store.proofs.Counted.{counted_within, counted_beside}
 use Rattle.adr_store.specs.Numbers.{all_entries}

@@ -1,5 +1,5 @@
 use Rattle.std.proofs.Common.{◌∙◌, ◌+◌, ◌++◌, ◌∷◌, [], ap, subst, refl, arith}
-use Rattle.adr_repair.proofs.Keyed.{event_id}
+use Rattle.adr_model.proofs.Keyed.{event_id}
 use Rattle.adr_store.specs.Numbers.{by_number, IsCounted}
 use Rattle.adr_store.proofs.Counted.{told_small, counted_same, counted_more, program_of, count_of}
 use Rattle.adr_store.proofs.events.Events.push_kept.Goals as goal

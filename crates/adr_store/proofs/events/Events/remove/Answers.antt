@@ -1,6 +1,6 @@
 use Rattle.std.proofs.Common.{◌∙◌, sym, subst, eqb, map, refl}
 use Rattle.std.specs.List.{IsDistinct}
-use Rattle.adr_repair.proofs.Keyed.{event_id}
+use Rattle.adr_model.proofs.Keyed.{event_id}
 use Rattle.adr_store.proofs.Found.{without_none}
 use Rattle.adr_store.proofs.Counted.{counted_some, counted_within, counted_drop, number_of_write, program_of}
 use Rattle.adr_store.proofs.events.Events.remove.Goals as goal

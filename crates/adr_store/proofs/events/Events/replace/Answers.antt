@@ -2,7 +2,7 @@ use Rattle.std.proofs.Common.{◌≤◌, ◌∙◌, ◌-◌, ◌+◌, ap, sym, s
 use Rattle.std.specs.List.{IsDistinct}
 use Rattle.adr_store.specs.Numbers.{by_number, all_entries}
 use Rattle.adr_value.specs.declared.limits.TheConstants.{MOST_ENTRIES}
-use Rattle.adr_repair.proofs.Keyed.{event_id}
+use Rattle.adr_model.proofs.Keyed.{event_id}
 use Rattle.adr_store.proofs.Found.{without_it, with_it}
 use Rattle.adr_store.proofs.Counted.{told_small, counted_same, counted_some, counted_within, counted_beside, counted_put, renamed, program_of, count_of, number_of_write}
 use Rattle.adr_store.proofs.events.Events.replace.Goals as goal

@@ -1,6 +1,6 @@
 use Rattle.std.proofs.Common.{◌∙◌, arith}
 use Rattle.adr_store.proofs.Counted.{told_small}
-use Rattle.adr_repair.proofs.Keyed.{resource_id}
+use Rattle.adr_model.proofs.Keyed.{resource_id}
 use Rattle.adr_store.proofs.resources.Resources.push_shared.Goals as goal
 
 pub add-requires-2-clause-bound : goal.add-requires-2-clause-bound

@@ -1,6 +1,6 @@
 use Rattle.std.proofs.Common.{◌∙◌, ap, sym}
 use Rattle.adr_value.specs.declared.limits.TheConstants.{MOST_RESOURCES}
-use Rattle.adr_repair.proofs.Keyed.{resource_id}
+use Rattle.adr_model.proofs.Keyed.{resource_id}
 use Rattle.adr_store.proofs.Found.{without_none}
 use Rattle.adr_store.proofs.Counted.{told_some, told_drop, few_less}
 use Rattle.adr_store.proofs.resources.Resources.remove.Goals as goal

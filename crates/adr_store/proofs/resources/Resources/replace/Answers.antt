@@ -1,6 +1,6 @@
 use Rattle.std.proofs.Common.{◌≡◌, ◌∙◌, ap, sym, subst}
 use Rattle.adr_value.specs.declared.limits.TheConstants.{MOST_RESOURCES}
-use Rattle.adr_repair.proofs.Keyed.{resource_id}
+use Rattle.adr_model.proofs.Keyed.{resource_id}
 use Rattle.adr_store.proofs.Found.{with_it}
 use Rattle.adr_store.proofs.Counted.{told_small, told_some, told_put, few_put}
 use Rattle.adr_store.proofs.resources.Resources.replace.Goals as goal

@@ -13,10 +13,10 @@ use Rattle.adr_model.specs.Book.{Book, empty, event_by}
 use Rattle.adr_model.proofs.EditLemmas.{accepted}
 use Rattle.adr_model.specs.Edits.{step, after, faults, edited, fault_if, layout_faults, reference_faults, is_full_for, after_from}
 use Rattle.adr_value.specs.declared.limits.TheConstants.{MOST_VERSION}
-use Rattle.adr_repair.specs.Whole.{IsSound}
-use Rattle.adr_repair.proofs.Keyed.{event_id, is_found}
-use Rattle.adr_repair.proofs.Succession.{Succeeds}
-use Rattle.adr_repair.proofs.Events.{Kept, unchanged, one_more, one_again, one_less}
+use Rattle.adr_model.specs.Whole.{IsSound}
+use Rattle.adr_model.proofs.Keyed.{event_id, is_found}
+use Rattle.adr_model.proofs.Succession.{Succeeds}
+use Rattle.adr_model.proofs.Events.{Kept, unchanged, one_more, one_again, one_less}
 
 -- ---- no faults
 

@@ -2,9 +2,9 @@
 use Rattle.std.proofs.Common.{◌≡◌, ◌++◌, not, filter}
 use Rattle.adr_model.specs.declared.written.Written.{Written}
 use Rattle.adr_model.specs.Book.{Book}
-use Rattle.adr_repair.specs.Lists.{In}
-use Rattle.adr_repair.specs.Whole.{event_ids}
-use Rattle.adr_repair.proofs.Lists.{has}
+use Rattle.adr_model.specs.Lists.{In}
+use Rattle.adr_model.specs.Whole.{event_ids}
+use Rattle.adr_model.proofs.Lists.{has}
 
 pub record Succeeds (old new : Book) : Type 0 where
   -- events that stay keep their order, and new ones go last

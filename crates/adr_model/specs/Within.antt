@@ -8,7 +8,7 @@ use Rattle.adr_value.specs.declared.limits.TheConstants.{MOST_VERSION}
 use Rattle.adr_object.specs.declared.object.Edit.{Edit}
 use Rattle.adr_model.specs.Book.{Book}
 use Rattle.adr_model.specs.Edits.{after, entry_count, step_by}
-use Rattle.adr_repair.specs.Whole.{event_ids}
+use Rattle.adr_model.specs.Whole.{event_ids}
 
 -- how many entries the events of the book have
 abbrev pub entries_in_all : Book → ℕ

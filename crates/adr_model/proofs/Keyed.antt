@@ -8,8 +8,8 @@ use Rattle.adr_object.specs.declared.party.Program.{Program}
 use Rattle.adr_object.specs.declared.party.Ven.{Ven}
 use Rattle.adr_object.specs.declared.party.Resource.{Resource}
 use Rattle.adr_model.specs.declared.written.Written.{Written}
-use Rattle.adr_repair.specs.Lists.{In}
-use Rattle.adr_repair.proofs.Lists.{has, has_from_In, In_from_has, In-map, In-from_map, In-append_left, In-append_cases, In-filter, In-from_filter, In_from_each, each_from_In, same_bytes, bytes_eq_self}
+use Rattle.adr_model.specs.Lists.{In}
+use Rattle.adr_model.proofs.Lists.{has, has_from_In, In_from_has, In-map, In-from_map, In-append_left, In-append_cases, In-filter, In-from_filter, In_from_each, each_from_In, same_bytes, bytes_eq_self}
 
 -- ---- look-ups by key
 

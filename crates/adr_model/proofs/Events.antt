@@ -5,9 +5,9 @@ use Rattle.std.specs.Str.{bytes_eq}
 use Rattle.std.proofs.lemmas.List.Elements.{filter-append}
 use Rattle.std.proofs.lemmas.Bool.{both_ways, false_from_ne_true, not_from_true}
 use Rattle.adr_model.specs.declared.written.Written.{Written}
-use Rattle.adr_repair.specs.Lists.{In}
-use Rattle.adr_repair.proofs.Keyed.{event_id, distinct_filter, distinct_push, map-push, map-filter, put, put_keys, In-from_put}
-use Rattle.adr_repair.proofs.Lists.{each_from_In, In_from_each, has, has_from_In, In_from_has, In-map, In-from_map, In-append_left, In-append_cases, In-filter, In-from_filter, filter-same, filter_all, filter_drops_all, same_bytes}
+use Rattle.adr_model.specs.Lists.{In}
+use Rattle.adr_model.proofs.Keyed.{event_id, distinct_filter, distinct_push, map-push, map-filter, put, put_keys, In-from_put}
+use Rattle.adr_model.proofs.Lists.{each_from_In, In_from_each, has, has_from_In, In_from_has, In-map, In-from_map, In-append_left, In-append_cases, In-filter, In-from_filter, filter-same, filter_all, filter_drops_all, same_bytes}
 
 abbrev pub keys : List Written → List (List ℕ)
 keys es = map (λ w. w.event.id) es

@@ -25,11 +25,11 @@ use Rattle.adr_model.specs.Book.{Book, empty}
 use Rattle.adr_model.proofs.EditLemmas.{accepted}
 use Rattle.adr_model.specs.Edits.{step, after, faults, edited, fault_if, layout_faults, reference_faults, is_named, is_full_for, has_id, after_from}
 use Rattle.adr_value.specs.declared.limits.TheConstants.{MOST_VERSION}
-use Rattle.adr_repair.specs.Lists.{In}
-use Rattle.adr_repair.specs.Whole.{IsWhole}
-use Rattle.adr_repair.proofs.Steps.{no_fault, no_faults_before, no_faults_after, step_sound, empty_sound}
-use Rattle.adr_repair.proofs.Lists.{none_passes}
-use Rattle.adr_repair.proofs.Keyed.{program_id, ven_id, resource_id, event_id, distinct_filter, put, distinct_more, distinct_put, found_more, found_put, found_drop, each_more, each_put, each_drop}
+use Rattle.adr_model.specs.Lists.{In}
+use Rattle.adr_model.specs.Whole.{IsWhole}
+use Rattle.adr_model.proofs.Steps.{no_fault, no_faults_before, no_faults_after, step_sound, empty_sound}
+use Rattle.adr_model.proofs.Lists.{none_passes}
+use Rattle.adr_model.proofs.Keyed.{program_id, ven_id, resource_id, event_id, distinct_filter, put, distinct_more, distinct_put, found_more, found_put, found_drop, each_more, each_put, each_drop}
 
 -- ---- what the absence of faults says
 

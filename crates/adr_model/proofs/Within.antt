@@ -22,11 +22,11 @@ use Rattle.adr_model.specs.declared.written.Written.{Written}
 use Rattle.adr_model.specs.Book.{Book, empty}
 use Rattle.adr_model.proofs.EditLemmas.{judged_value}
 use Rattle.adr_model.specs.Edits.{after_from, count_of, entries_beside, entry_count, fault_if, faults_by, has_id, has_too_many_entries_by, is_full_for_by, is_named, layout_faults, made, most_objects_by, reference_faults, step_by}
-use Rattle.adr_repair.specs.Whole.{event_ids}
-use Rattle.adr_repair.specs.Within.{BooksAreWithin, EditsKeepLimits, IsWithin, after_by, entries_in_all}
-use Rattle.adr_repair.proofs.Steps.{no_fault, no_faults_before, no_faults_after}
-use Rattle.adr_repair.proofs.Lists.{same_bytes}
-use Rattle.adr_repair.proofs.Keyed.{by_key, event_id, distinct_filter, distinct_more, distinct_put, put}
+use Rattle.adr_model.specs.Whole.{event_ids}
+use Rattle.adr_model.specs.Within.{BooksAreWithin, EditsKeepLimits, IsWithin, after_by, entries_in_all}
+use Rattle.adr_model.proofs.Steps.{no_fault, no_faults_before, no_faults_after}
+use Rattle.adr_model.proofs.Lists.{same_bytes}
+use Rattle.adr_model.proofs.Keyed.{by_key, event_id, distinct_filter, distinct_more, distinct_put, put}
 
 -- ---- lengths and sums of a changed list
 

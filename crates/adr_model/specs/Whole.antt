@@ -9,7 +9,7 @@ use Rattle.adr_model.specs.declared.written.Written.{Written}
 use Rattle.adr_model.specs.Layout.{layout}
 use Rattle.adr_model.specs.Book.{Book}
 use Rattle.adr_model.specs.Edits.{step, after, has_id}
-use Rattle.adr_repair.specs.Lists.{In}
+use Rattle.adr_model.specs.Lists.{In}
 
 abbrev pub event_ids : Book → List (List ℕ)
 event_ids book = map (λ w. w.event.id) book.events

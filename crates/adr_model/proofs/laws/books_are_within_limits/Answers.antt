@@ -1,5 +1,5 @@
-use Rattle.adr_repair.proofs.Within.{edits_keep_limits, books_are_within}
-use Rattle.adr_repair.proofs.books_are_within_limits.Goals as goal
+use Rattle.adr_model.proofs.Within.{edits_keep_limits, books_are_within}
+use Rattle.adr_model.proofs.laws.books_are_within_limits.Goals as goal
 
 pub returns-clause-any : goal.returns-clause-any
 returns-clause-any c = edits_keep_limits

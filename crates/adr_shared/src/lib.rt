@@ -1,0 +1,6 @@
+#![tactic(auto)]
+//! Values that several owners share.
+
+mod shared;
+
+pub use shared::Shared;
