@@ -1,38 +1,16 @@
 -- The edits of all batches, as the journal grows and as it is condensed.
-use Rattle.std.proofs.Common.{◌≡◌, ◌+◌, ◌≤◌, List, [], ◌∷◌, ◌++◌, length, Result, Ok, Err, append_assoc, length-append, refl, ap, sym, subst, ◌∙◌, arith}
-use Rattle.std.specs.Result.{result_unwrap_or}
+use Rattle.std.proofs.Common.{◌≡◌, List, [], ◌∷◌, ◌++◌, Ok, append_assoc, length-append, refl, ap, sym, subst, ◌∙◌, arith}
 use Rattle.std.proofs.lemmas.Grind.{flat_map-append}
 use Rattle.std.proofs.lemmas.List.{append-nil}
 use Rattle.std.proofs.lemmas.List.Concat.{flat_map-cons}
 use Rattle.adr_value.specs.declared.limits.TheConstants.{MOST_VERSION}
-use Rattle.adr_value.specs.declared.refusal.Refusal.{Refusal}
 use Rattle.adr_object.specs.declared.object.Edit.{Edit}
 use Rattle.adr_model.specs.Book.{Book, empty}
 use Rattle.adr_model.specs.Edits.{after_from, step}
-use Rattle.adr_model.proofs.EditLemmas.{accepted_edits_count, after_from_push, journals_go_on}
+use Rattle.adr_model.proofs.EditLemmas.{accepted_edits_count, after_from_push, after_from_versions, journals_go_on}
 use Rattle.adr_model.specs.Whole.{IsWhole}
-use Rattle.adr_model.proofs.Whole.{after_whole, step_whole}
+use Rattle.adr_model.proofs.Whole.{after_from_whole, after_whole}
 use Rattle.adr_book.specs.Ledger.{Leads, closed_edits, joined}
-
--- what edits leave of a whole book is whole
-whole_after : (edits : List Edit) (book : Book) → IsWhole book → IsWhole (after_from book edits)
-unfolding after_from
-whole_after [] book w = w
-whole_after (x ∷ xs) book w = whole_after xs (result_unwrap_or (step book x) book) (by (step book x) refl)
-  where
-    by : (r : Result Book Refusal) → step book x ≡ r → IsWhole (result_unwrap_or r book)
-    by (Ok new) e = step_whole book new x w e
-    by (Err f) e = w
-
--- no version is further above the first than there are edits
-within : (edits : List Edit) (book : Book) → (after_from book edits).version ≤ book.version + length edits
-unfolding after_from
-within [] book = omega arith
-within (x ∷ xs) book = let next = one (step book x) refl in let rest = within xs (result_unwrap_or (step book x) book) in omega (arith, next, rest)
-  where
-    one : (r : Result Book Refusal) → step book x ≡ r → (result_unwrap_or r book).version ≤ book.version + 1
-    one (Ok new) e = let more = (accepted_edits_count MOST_VERSION book new x e).0 in omega (arith, more)
-    one (Err f) e = omega arith
 
 -- once the open batch is closed too, the closed ones have all edits
 pub all_closed : (closed : List (List Edit)) (pending : List Edit) → closed_edits (closed ++ pending ∷ []) ≡ joined closed pending
@@ -45,7 +23,7 @@ from_nothing = record { whole = after_whole []; leads = refl; counted = refl }
 
 module _ (base : Book) where
   pub led_whole : (edits : List Edit) (objects : Book) → Leads base edits objects → IsWhole objects
-  led_whole edits objects l = subst (λ b. IsWhole b) l.leads (whole_after edits base l.whole)
+  led_whole edits objects l = subst (λ b. IsWhole b) l.leads (after_from_whole edits base l.whole)
 
   -- an accepted edit leads on
   pub led_on : (edits : List Edit) (x : Edit) (old new : Book) → Leads base edits old → step old x ≡ Ok new → Leads base (edits ++ x ∷ []) new
@@ -70,11 +48,11 @@ module _ (base : Book) where
       let goes_on : after_from at pending ≡ objects =
       ap (λ b. after_from b pending) e ∙ sym (journals_go_on base (closed_edits closed) pending) ∙ l.leads in
       let same = ap (λ (b : Book). b.version) e in
-      let above = within (closed_edits closed) base in
-      let below = within pending at in
+      let above = after_from_versions (closed_edits closed) base in
+      let below = after_from_versions pending at in
       let last = ap (λ (b : Book). b.version) goes_on in
       record {
-        whole = subst (λ b. IsWhole b) (sym e) (whole_after (closed_edits closed) base l.whole);
+        whole = subst (λ b. IsWhole b) (sym e) (after_from_whole (closed_edits closed) base l.whole);
         leads = goes_on;
         counted = omega (arith, same, above, below, last, l.counted, length-append (closed_edits closed) pending);
       }

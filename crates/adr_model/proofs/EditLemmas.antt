@@ -153,19 +153,21 @@ pub journals_go_on : JournalsGoOn
 unfolding after_from
 journals_go_on book edits more = fold-append (λ b x. result_unwrap_or (step b x) b) book edits more
 
-fold_version : (edits : List Edit) (book : Book) → (fold (λ b x. result_unwrap_or (step b x) b) book edits).version ≤ book.version + length edits
-fold_version [] book = omega arith
-fold_version (x ∷ xs) book = by (step book x) refl (fold_version xs)
+-- no version is further above the first than there are edits
+pub after_from_versions : (edits : List Edit) (book : Book) → (after_from book edits).version ≤ book.version + length edits
+unfolding after_from
+after_from_versions [] book = omega arith
+after_from_versions (x ∷ xs) book =
+    let next = one (step book x) refl in
+    let rest = after_from_versions xs (result_unwrap_or (step book x) book) in
+    omega (arith, next, rest)
   where
-    by : (r : Result Book Refusal) → step book x ≡ r
-        → ((b : Book) → (fold (λ c y. result_unwrap_or (step c y) c) b xs).version ≤ b.version + length xs)
-        → (fold (λ c y. result_unwrap_or (step c y) c) (result_unwrap_or r book) xs).version ≤ book.version + length (x ∷ xs)
-    by (Ok new) e rest = let more = (accepted_edits_count MOST_VERSION book new x e).0 in let h = rest new in omega (arith, more, h)
-    by (Err fault) e rest = let h = rest book in omega (arith, h)
+    one : (r : Result Book Refusal) → step book x ≡ r → (result_unwrap_or r book).version ≤ book.version + 1
+    one (Ok new) e = let more = (accepted_edits_count MOST_VERSION book new x e).0 in omega (arith, more)
+    one (Err f) e = omega arith
 
 pub versions_are_edits : VersionsAreEdits
-unfolding after_from
-versions_are_edits edits = let h = fold_version edits empty in omega (arith, h)
+versions_are_edits edits = let h = after_from_versions edits empty in omega (arith, h)
 
 -- a type's payloads are found under each name of it
 same_types : (p q k : PayloadType) → same_type q p ≡ true → same_type p k ≡ same_type q k

@@ -1,5 +1,5 @@
 -- An accepted edit keeps the whole book.
-use Rattle.std.proofs.Common.{◌≡◌, ℕ, ◌+◌, ◌||◌, nat_le, true, false, not, List, [], ◌∷◌, ◌++◌, map, is_some, refl, subst, Result, Ok, Err, IsOk, fold, find, rules}
+use Rattle.std.proofs.Common.{◌≡◌, ℕ, ◌+◌, ◌||◌, nat_le, true, false, not, List, [], ◌∷◌, ◌++◌, map, is_some, refl, subst, Result, Ok, Err, IsOk, find, rules}
 use Rattle.std.specs.List.{IsDistinct}
 use Rattle.std.specs.Str.{bytes_eq}
 use Rattle.std.specs.Option.{option_map_or}
@@ -225,14 +225,15 @@ empty_whole = record {
   layouts = λ w m. absurd m;
 }
 
-fold_whole : (edits : List Edit) (book : Book) → IsWhole book → IsWhole (fold (λ b edit. result_unwrap_or (step b edit) b) book edits)
-fold_whole [] book s = s
-fold_whole (x ∷ xs) book s = fold_whole xs (result_unwrap_or (step book x) book) (by (step book x) refl)
+-- what edits leave of a whole book is whole
+pub after_from_whole : (edits : List Edit) (book : Book) → IsWhole book → IsWhole (after_from book edits)
+unfolding after_from
+after_from_whole [] book s = s
+after_from_whole (x ∷ xs) book s = after_from_whole xs (result_unwrap_or (step book x) book) (by (step book x) refl)
   where
     by : (r : Result Book Refusal) → step book x ≡ r → IsWhole (result_unwrap_or r book)
     by (Ok new) e = step_whole book new x s e
     by (Err f) e = s
 
 pub after_whole : (edits : List Edit) → IsWhole (after edits)
-unfolding after_from
-after_whole edits = fold_whole edits empty empty_whole
+after_whole edits = after_from_whole edits empty empty_whole

@@ -1,12 +1,9 @@
 //! The entries of a payload type for a resource, found by going through all events.
-ghost use Rattle.std.specs.Prelude.{◌≡◌, ◌++◌, [], false, OnOk, IfOk};
-ghost use Rattle.std.specs.Option.{option_map_or};
+ghost use Rattle.std.specs.Prelude.{◌≡◌, ◌++◌, [], OnOk, IfOk};
 ghost use Rattle.std.specs.Result.{result_unwrap_or};
 ghost use Rattle.adr_value.specs.Answer.{OnlyNoMemory};
-ghost use Rattle.adr_model.specs.Book.{scene_of};
 ghost use Rattle.adr_model.specs.Governor.{entry_at, entries_of, entries_for as entries_of_type, ranked_entries as entries_by_rank};
 ghost use Rattle.adr_model.specs.Layout.{layout, placed_from};
-ghost use Rattle.adr_model.specs.Matching.{applies as applies_in};
 ghost use Rattle.adr_model.specs.Rank.{carries as has_type, late_of as lateness, priority_of as priority_number, ranked as ranked_by};
 ghost use Rattle.adr_plain.specs.Scan.{entries_at, placed_entries, written_event};
 ghost use Rattle.adr_value.specs.Same.{same_type as is_same_type};
@@ -15,8 +12,8 @@ use adr_book::Book;
 use adr_layout::{Placed, lay_out};
 use adr_model::{Entry, Rank, Tie};
 use adr_object::{Event, Id, Interval, Kind, Resource};
-use adr_rule::{Scene, applies};
 use adr_time::Moment;
+use adr_touches::is_applied;
 use adr_value::{PayloadType, Refusal};
 use std::alloc::Global;
 
@@ -59,24 +56,6 @@ fn entry(event: &Event, written: u64, placed: &Placed) -> Entry
         },
         span: placed.span,
     }
-}
-
-/// Whether the event applies to the resource.
-fn is_applied(book: &Book, resource: &Resource, event: &Event) -> bool
-    ensures { result ≡ option_map_or applies_in (scene_of book.now.objects event.now resource.now) false }
-{
-    let Some(program) = book.program(&event.program_id) else {
-        return false;
-    };
-    let Some(ven) = book.ven(&resource.ven_id) else {
-        return false;
-    };
-    applies(&Scene {
-        program,
-        event,
-        ven,
-        resource,
-    })
 }
 
 /// Where the intervals of an event lie; none where its layout has a fault.

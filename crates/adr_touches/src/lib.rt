@@ -8,3 +8,4 @@ mod matching;
 mod windows;
 
 pub use listing::touches;
+pub use matching::is_applied;

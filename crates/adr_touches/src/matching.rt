@@ -17,8 +17,9 @@ pub struct Applied<'a> {
     pub written: u64,
 }
 
-/// Whether the event applies to the resource.
-fn is_applied(book: &Book, resource: &Resource, event: &Event) -> bool
+/// Whether the event applies to the resource, by all targets of the event and its program against those of the
+/// resource and its ven. It doesn't where the book has no such program or ven. Cost: two look-ups, and the targets.
+pub fn is_applied(book: &Book, resource: &Resource, event: &Event) -> bool
     ensures { result ≡ option_map_or applies_in (scene_of book.now.objects event.now resource.now) false }
 {
     let Some(program) = book.program(&event.program_id) else {
