@@ -191,23 +191,8 @@ impl Book {
         ensures unchanged { OnErr result (self.new ≡ self.old) }
         ensures refusal { OnlyNoMemory result }
     {
-        let shared = Shared::new(self.alloc, edit)?;
-        self.record(shared)
-    }
-
-    /// Makes the edit, which the journal shares.
-    fn record(&mut self, edit: Shared<Edit>) -> Result<u64, Refusal>
-        requires { IsOk (step_to (full_at self.old.base.version) self.old.objects edit) }
-        ensures objects { OnOk result (step_to (full_at self.old.base.version) self.old.objects edit ≡ Ok self.new.objects) }
-        ensures pending { OnOk result (self.new.pending ≡ self.old.pending ++ edit ∷ []) }
-        ensures closed { self.new.closed ≡ self.old.closed }
-        ensures base { self.new.base ≡ self.old.base }
-        ensures version { IfOk result (λ version. version ≡ self.new.objects.version) }
-        ensures unchanged { OnErr result (self.new ≡ self.old) }
-        ensures refusal { OnlyNoMemory result }
-    {
         self.journal.reserve()?;
-        let copy = edit.get().copy()?;
+        let copy = edit.copy()?;
         self.objects.make(copy)?;
         self.journal.push(edit);
         Ok(self.objects.version())

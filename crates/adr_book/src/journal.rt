@@ -14,7 +14,7 @@ use std::mem;
 /// A closed list of accepted edits.
 #[derive(Drop)]
 pub struct Batch {
-    edits: Vec<Shared<Edit>>,
+    edits: Vec<Edit>,
 }
 
 impl Model for Batch {
@@ -28,7 +28,7 @@ impl Model for Batch {
 
 impl Batch {
     /// The edits, in order.
-    pub fn edits(&self) -> &[Shared<Edit>]
+    pub fn edits(&self) -> &[Edit]
         ensures { result.now ≡ self.now }
     {
         self.edits.as_slice()
@@ -38,7 +38,7 @@ impl Batch {
 /// The accepted edits in order: closed batches, one for each publication, and the edits since the last of them.
 pub struct Journal {
     closed: Vec<Shared<Batch>>,
-    pending: Vec<Shared<Edit>>,
+    pending: Vec<Edit>,
 }
 
 impl Drop for Journal {
@@ -77,7 +77,7 @@ impl Journal {
     }
 
     /// The edits since the last closed batch, in order.
-    pub fn pending(&self) -> &[Shared<Edit>]
+    pub fn pending(&self) -> &[Edit]
         ensures { result.now ≡ self.now.pending }
     {
         self.pending.as_slice()
@@ -94,7 +94,7 @@ impl Journal {
     }
 
     /// Adds the edit last.
-    pub(crate) fn push(&mut self, edit: Shared<Edit>)
+    pub(crate) fn push(&mut self, edit: Edit)
         requires { 0 < self.old.room }
         ensures closed { self.new.closed ≡ self.old.closed }
         ensures pending { self.new.pending ≡ self.old.pending ++ edit ∷ [] }

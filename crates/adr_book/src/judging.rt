@@ -28,7 +28,7 @@ fn layout_fault(alloc: Global, object: &Object) -> Result<(), Refusal>
     let Object::Event(event) = object else {
         return Ok(());
     };
-    match lay_out(alloc, event) {
+    match lay_out(alloc, event.get()) {
         Ok(_) => Ok(()),
         Err(refusal) => Err(refusal),
     }
@@ -53,12 +53,15 @@ fn reference_fault(objects: &Store, object: &Object) -> Result<(), Refusal>
     match object {
         Object::Event(event) => {
             fault_if(
-                objects.program(&event.program_id).is_none(),
+                objects.program(&event.get().program_id).is_none(),
                 Refusal::NoProgram,
             )
         }
         Object::Resource(resource) => {
-            fault_if(objects.ven(&resource.ven_id).is_none(), Refusal::NoVen)
+            fault_if(
+                objects.ven(&resource.get().ven_id).is_none(),
+                Refusal::NoVen,
+            )
         }
         _ => Ok(()),
     }
@@ -92,6 +95,7 @@ fn has_too_many_entries(objects: &Store, object: &Object) -> bool
 {
     match object {
         Object::Event(event) => {
+            let event = event.get();
             MOST_ENTRIES < objects.entries_beside(&event.id) + entry_count(event)
         }
         _ => false,

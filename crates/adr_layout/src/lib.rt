@@ -86,8 +86,11 @@ fn interval_span(
 ) -> Result<Span, Refusal>
     ensures { result ≡ interval_span default.now next interval.now.period }
 {
-    match interval.period {
-        Some(own) => span_from(own.duration.or(default_length(default)), own.start),
+    match &interval.period {
+        Some(own) => {
+            let own = own.get();
+            span_from(own.duration.or(default_length(default)), own.start)
+        }
         None => span_from(default_length(default), next?),
     }
 }

@@ -2,6 +2,7 @@
 ghost use Rattle.adr_value.specs.Copy.{IsCopyOf};
 
 use crate::id::Id;
+use adr_shared::Shared;
 use adr_time::{Length, Moment};
 use adr_value::limits::MOST_INTERVALS;
 use adr_value::{BoundedVec, Datum, Name, PayloadType, Refusal, Text, TryClone};
@@ -32,10 +33,12 @@ pub struct Period {
 
 /// A part of an event with its payloads (OpenADR 3.0 Definition, interval). Two intervals of one event may have one
 /// `id`.
+///
+/// Its period stands apart, since an event has many intervals and most have none.
 #[derive(Drop)]
 pub struct Interval {
     pub id: i64,
-    pub period: Option<Period>,
+    pub period: Option<Shared<Period>>,
     pub payloads: BoundedVec<Payload, 64>,
 }
 
@@ -95,7 +98,7 @@ impl Interval {
     {
         Ok(Interval {
             id: self.id,
-            period: self.period,
+            period: self.period.try_clone()?,
             payloads: self.payloads.copy()?,
         })
     }

@@ -6,6 +6,7 @@ ghost use Rattle.adr_object.specs.Object.{kind_of, id_of};
 use crate::event::Event;
 use crate::id::Id;
 use crate::party::{Program, Resource, Ven};
+use adr_shared::Shared;
 use adr_value::{Refusal, TryClone};
 
 /// The kinds of object that a server holds.
@@ -17,13 +18,13 @@ pub enum Kind {
     Resource,
 }
 
-/// An object of any kind.
+/// An object of any kind. All its copies are one object, which stands in memory once.
 #[derive(Drop)]
 pub enum Object {
-    Program(Program),
-    Event(Event),
-    Ven(Ven),
-    Resource(Resource),
+    Program(Shared<Program>),
+    Event(Shared<Event>),
+    Ven(Shared<Ven>),
+    Resource(Shared<Resource>),
 }
 
 /// One change of what the server holds. A change puts a whole object in the place of the one with its id.
@@ -52,14 +53,14 @@ impl Object {
         ensures { result.now ≡ id_of self.now }
     {
         match self {
-            Object::Program(program) => &program.id,
-            Object::Event(event) => &event.id,
-            Object::Ven(ven) => &ven.id,
-            Object::Resource(resource) => &resource.id,
+            Object::Program(program) => &program.get().id,
+            Object::Event(event) => &event.get().id,
+            Object::Ven(ven) => &ven.get().id,
+            Object::Resource(resource) => &resource.get().id,
         }
     }
 
-    /// An object equal to this one.
+    /// The same object, which takes no growth. `NoMemory` only where the count of its owners is full.
     pub fn copy(&self) -> Result<Object, Refusal>
         ensures { IsCopyOf result self.now }
     {
@@ -73,7 +74,8 @@ impl Object {
 }
 
 impl Edit {
-    /// An edit equal to this one.
+    /// The same edit, which shares its object or its id and takes no growth. `NoMemory` only where the count of their
+    /// owners is full.
     pub fn copy(&self) -> Result<Edit, Refusal>
         ensures { IsCopyOf result self.now }
     {

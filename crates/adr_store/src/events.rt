@@ -13,6 +13,7 @@ use crate::kept::Kept;
 use crate::numbers::Numbers;
 use crate::table::Table;
 use adr_object::{Event, Id};
+use adr_shared::Shared;
 use adr_value::limits::{MOST_ENTRIES, MOST_EVENTS};
 use adr_value::{Refusal, TryClone};
 use std::alloc::Global;
@@ -130,7 +131,7 @@ impl Events {
     }
 
     /// Adds the event last.
-    pub(crate) fn push(&mut self, event: Event, written: u64) -> Result<(), Refusal>
+    pub(crate) fn push(&mut self, event: Shared<Event>, written: u64) -> Result<(), Refusal>
         requires new { find_by (λ w. w.event.id) self.old event.id ≡ None }
         requires fresh { numbered self.old written ≡ None }
         requires few { length self.old < MOST_EVENTS }
@@ -139,8 +140,7 @@ impl Events {
         ensures err { OnErr result (self.new ≡ self.old) }
         ensures refusal { OnlyNoMemory result }
     {
-        let kept = Kept::new(self.alloc, event, written)?;
-        self.push_kept(kept)
+        self.push_kept(Kept::new(event, written))
     }
 
     fn push_kept(&mut self, kept: Kept) -> Result<(), Refusal>
@@ -175,7 +175,7 @@ impl Events {
     }
 
     /// Puts the event in the place of the one with its id.
-    pub(crate) fn replace(&mut self, event: Event, written: u64) -> Result<(), Refusal>
+    pub(crate) fn replace(&mut self, event: Shared<Event>, written: u64) -> Result<(), Refusal>
         requires there { IsSome (find_by (λ w. w.event.id) self.old event.id) }
         requires fresh { numbered self.old written ≡ None }
         requires apart { IsDistinct eqb (map (λ w. w.written) self.old) }
@@ -184,7 +184,7 @@ impl Events {
         ensures err { OnErr result (self.new ≡ self.old) }
         ensures refusal { OnlyNoMemory result }
     {
-        let kept = Kept::new(self.alloc, event, written)?;
+        let kept = Kept::new(event, written);
         let note = kept.note(self.alloc)?;
         self.numbers.reserve()?;
         let old = self.table.replace(kept);

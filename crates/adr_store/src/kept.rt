@@ -54,15 +54,15 @@ impl Model for Note {
 }
 
 impl Kept {
-    pub(crate) fn new(alloc: Global, event: Event, written: u64) -> Result<Kept, Refusal>
-        ensures { IsCopyOf result (record { event = event; written = written }) }
+    pub(crate) fn new(event: Shared<Event>, written: u64) -> Kept
+        ensures { result ≡ record { event = event; written = written } }
     {
-        let entries = entry_count(&event);
-        Ok(Kept {
-            event: Shared::new(alloc, event)?,
+        let entries = entry_count(event.get());
+        Kept {
+            event,
             written,
             entries,
-        })
+        }
     }
 
     pub(crate) fn event(&self) -> &Event

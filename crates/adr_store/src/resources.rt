@@ -91,18 +91,7 @@ impl Resources {
     }
 
     /// Adds the resource last.
-    pub(crate) fn push(&mut self, resource: Resource) -> Result<(), Refusal>
-        requires new { find_by (λ r. r.id) self.old resource.id ≡ None }
-        requires few { length self.old < MOST_RESOURCES }
-        ensures ok { OnOk result (self.new ≡ self.old ++ resource ∷ []) }
-        ensures err { OnErr result (self.new ≡ self.old) }
-        ensures refusal { OnlyNoMemory result }
-    {
-        let shared = Shared::new(self.alloc, resource)?;
-        self.push_shared(shared)
-    }
-
-    fn push_shared(&mut self, resource: Shared<Resource>) -> Result<(), Refusal>
+    pub(crate) fn push(&mut self, resource: Shared<Resource>) -> Result<(), Refusal>
         requires new { find_by (λ r. r.id) self.old resource.id ≡ None }
         requires few { length self.old < MOST_RESOURCES }
         ensures ok { OnOk result (self.new ≡ self.old ++ resource ∷ []) }
@@ -125,22 +114,21 @@ impl Resources {
             let Some(resource) = self.table.at(place) else {
                 unreachable!();
             };
-            copy.push_shared(resource.copy()?)?;
+            copy.push(resource.copy()?)?;
         }
         Ok(copy)
     }
 
     /// Puts the resource in the place of the one with its id.
-    pub(crate) fn replace(&mut self, resource: Resource) -> Result<(), Refusal>
+    pub(crate) fn replace(&mut self, resource: Shared<Resource>) -> Result<(), Refusal>
         requires there { IsSome (find_by (λ r. r.id) self.old resource.id) }
         ensures ok { OnOk result (self.new ≡ put_at (λ r. bytes_eq resource.id r.id) resource self.old) }
         ensures err { OnErr result (self.new ≡ self.old) }
         ensures refusal { OnlyNoMemory result }
     {
-        let shared = Shared::new(self.alloc, resource)?;
-        let ven = shared.get().ven_id.text().to_string(self.alloc)?;
+        let ven = resource.get().ven_id.text().to_string(self.alloc)?;
         self.owners.reserve()?;
-        let old = self.table.replace(shared);
+        let old = self.table.replace(resource);
         self.owners.take(old.get().ven_id.text());
         self.owners.add(ven);
         Ok(())

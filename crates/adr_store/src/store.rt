@@ -208,33 +208,31 @@ impl Store {
         self.events.entries_beside(id)
     }
 
-    fn create_program(&mut self, program: Program) -> Result<(), Refusal>
+    fn create_program(&mut self, program: Shared<Program>) -> Result<(), Refusal>
         requires new { program_by self.old program.id ≡ None }
         requires room { self.old.version < MOST_VERSION }
         ensures ok { OnOk result (self.new ≡ made self.old (Create (Object.Program program))) }
         ensures err { OnErr result (self.new ≡ self.old) }
         ensures refusal { OnlyNoMemory result }
     {
-        let shared = Shared::new(self.alloc, program)?;
-        self.programs.add(self.alloc, shared)?;
+        self.programs.add(self.alloc, program)?;
         self.version += 1;
         Ok(())
     }
 
-    fn create_ven(&mut self, ven: Ven) -> Result<(), Refusal>
+    fn create_ven(&mut self, ven: Shared<Ven>) -> Result<(), Refusal>
         requires new { ven_by self.old ven.id ≡ None }
         requires room { self.old.version < MOST_VERSION }
         ensures ok { OnOk result (self.new ≡ made self.old (Create (Object.Ven ven))) }
         ensures err { OnErr result (self.new ≡ self.old) }
         ensures refusal { OnlyNoMemory result }
     {
-        let shared = Shared::new(self.alloc, ven)?;
-        self.vens.add(self.alloc, shared)?;
+        self.vens.add(self.alloc, ven)?;
         self.version += 1;
         Ok(())
     }
 
-    fn create_resource(&mut self, resource: Resource) -> Result<(), Refusal>
+    fn create_resource(&mut self, resource: Shared<Resource>) -> Result<(), Refusal>
         requires new { resource_by self.old resource.id ≡ None }
         requires few { length self.old.resources < MOST_RESOURCES }
         requires room { self.old.version < MOST_VERSION }
@@ -247,7 +245,7 @@ impl Store {
         Ok(())
     }
 
-    fn create_event(&mut self, event: Event) -> Result<(), Refusal>
+    fn create_event(&mut self, event: Shared<Event>) -> Result<(), Refusal>
         requires new { event_by self.old event.id ≡ None }
         requires fresh { by_number self.old.events (self.old.version + 1) ≡ None }
         requires few { length self.old.events < MOST_EVENTS }
@@ -262,33 +260,31 @@ impl Store {
         Ok(())
     }
 
-    fn change_program(&mut self, program: Program) -> Result<(), Refusal>
+    fn change_program(&mut self, program: Shared<Program>) -> Result<(), Refusal>
         requires there { IsSome (program_by self.old program.id) }
         requires room { self.old.version < MOST_VERSION }
         ensures ok { OnOk result (self.new ≡ made self.old (Change (Object.Program program))) }
         ensures err { OnErr result (self.new ≡ self.old) }
         ensures refusal { OnlyNoMemory result }
     {
-        let shared = Shared::new(self.alloc, program)?;
-        let _old = self.programs.replace(shared);
+        let _old = self.programs.replace(program);
         self.version += 1;
         Ok(())
     }
 
-    fn change_ven(&mut self, ven: Ven) -> Result<(), Refusal>
+    fn change_ven(&mut self, ven: Shared<Ven>) -> Result<(), Refusal>
         requires there { IsSome (ven_by self.old ven.id) }
         requires room { self.old.version < MOST_VERSION }
         ensures ok { OnOk result (self.new ≡ made self.old (Change (Object.Ven ven))) }
         ensures err { OnErr result (self.new ≡ self.old) }
         ensures refusal { OnlyNoMemory result }
     {
-        let shared = Shared::new(self.alloc, ven)?;
-        let _old = self.vens.replace(shared);
+        let _old = self.vens.replace(ven);
         self.version += 1;
         Ok(())
     }
 
-    fn change_resource(&mut self, resource: Resource) -> Result<(), Refusal>
+    fn change_resource(&mut self, resource: Shared<Resource>) -> Result<(), Refusal>
         requires there { IsSome (resource_by self.old resource.id) }
         requires room { self.old.version < MOST_VERSION }
         ensures ok { OnOk result (self.new ≡ made self.old (Change (Object.Resource resource))) }
@@ -300,7 +296,7 @@ impl Store {
         Ok(())
     }
 
-    fn change_event(&mut self, event: Event) -> Result<(), Refusal>
+    fn change_event(&mut self, event: Shared<Event>) -> Result<(), Refusal>
         requires there { IsSome (event_by self.old event.id) }
         requires fresh { by_number self.old.events (self.old.version + 1) ≡ None }
         requires apart { IsDistinct eqb (map (λ w. w.written) self.old.events) }

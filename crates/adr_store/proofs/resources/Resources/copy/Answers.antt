@@ -7,8 +7,8 @@ use Rattle.adr_store.specs.Table.{find_by}
 use Rattle.adr_store.proofs.Copies.{take_new, take_next}
 use Rattle.adr_store.proofs.resources.Resources.copy.Goals as goal
 
-pub push_shared-requires-clause-new : goal.push_shared-requires-clause-new
-push_shared-requires-clause-new c =
+pub push-requires-clause-new : goal.push-requires-clause-new
+push-requires-clause-new c =
     let x = c.in_ok-copy.field-0 in
     let here : slice_get c.args.self.now c.loop-place.place ≡ Some x =
     ap (λ xs. slice_get xs c.loop-place.place) (sym c.self.view_is) ∙ sym c.at.ensures ∙ ap option_copied c.in-Some.is ∙ ap (λ y. Some y) (sym c.in_ok-copy.ensures) in
@@ -20,4 +20,4 @@ loop-place-preserved c =
     let x = c.in_ok-copy.field-0 in
     let here : slice_get c.args.self.now c.loop-place.place ≡ Some x =
     ap (λ xs. slice_get xs c.loop-place.place) (sym c.self.view_is) ∙ sym c.at.ensures ∙ ap option_copied c.in-Some.is ∙ ap (λ y. Some y) (sym c.in_ok-copy.ensures) in
-    c.in_ok-push_shared.ensures.ok ∙ ap (λ xs. xs ++ x ∷ []) c.loop-place.invariant ∙ sym (take_next c.args.self.now c.loop-place.place x here)
+    c.in_ok-push.ensures.ok ∙ ap (λ xs. xs ++ x ∷ []) c.loop-place.invariant ∙ sym (take_next c.args.self.now c.loop-place.place x here)

@@ -7,7 +7,7 @@ use Rattle.adr_store.proofs.resources.Resources.replace.Goals as goal
 
 pub take-requires : goal.take-requires
 take-requires c =
-    told_some resource_id (λ r. r.ven_id) c.reserve.new.self.counts c.self.inside.table.items (resource_id c.in_ok-shared.shared) c.replace-old.result
+    told_some resource_id (λ r. r.ven_id) c.reserve.new.self.counts c.self.inside.table.items (resource_id c.args.resource) c.replace-old.result
     (λ id. c.reserve.ensures.counts id ∙ c.self.invariant.owned id) c.replace-old.ensures.distinct c.replace-old.ensures.replaced
     c.text-2.result.now (c.text-2.ensures.value ∙ ap (λ r. r.ven_id) c.get-2.ensures)
 
@@ -21,15 +21,14 @@ add-requires-clause-bound c =
 pub invariant_of-self-2 : goal.invariant_of-self-2
 invariant_of-self-2 c = record {
   owned = rw c.replace-old.ensures.items (told_put resource_id (λ r. r.ven_id) c.reserve.new.self.counts c.take.new.self.counts c.add.new.self.counts
-      c.self.inside.table.items (resource_id c.in_ok-shared.shared) c.replace-old.result c.in_ok-shared.shared
+      c.self.inside.table.items (resource_id c.args.resource) c.replace-old.result c.args.resource
       (λ id. c.reserve.ensures.counts id ∙ c.self.invariant.owned id) c.replace-old.ensures.distinct c.replace-old.ensures.replaced
       c.text-2.result.now (c.text-2.ensures.value ∙ ap (λ r. r.ven_id) c.get-2.ensures) c.take.ensures.counts
       (Rattle.std.specs.String.string_bytes c.in_ok-ven.ven) (c.in_ok-ven.ensures.ok ∙ c.text.ensures.value ∙ ap (λ r. r.ven_id) c.get.ensures) c.add.ensures);
-  few = rw c.replace-old.ensures.items (few_put MOST_RESOURCES resource_id (resource_id c.in_ok-shared.shared) c.in_ok-shared.shared c.self.inside.table.items c.self.invariant.few);
+  few = rw c.replace-old.ensures.items (few_put MOST_RESOURCES resource_id (resource_id c.args.resource) c.args.resource c.self.inside.table.items c.self.invariant.few);
 }
 
 pub returns-clause-ok : goal.returns-clause-ok
 returns-clause-ok c =
     c.replace-old.ensures.items
-    ∙ ap (λ r. with_it resource_id (resource_id r) r c.self.inside.table.items) c.in_ok-shared.ensures
     ∙ ap (λ rs. with_it resource_id (resource_id c.args.resource) c.args.resource rs) c.self.view_is

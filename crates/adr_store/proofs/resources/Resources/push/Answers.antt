@@ -1,7 +1,7 @@
 use Rattle.std.proofs.Common.{◌∙◌, arith}
 use Rattle.adr_store.proofs.Counted.{told_small}
 use Rattle.adr_model.proofs.Keyed.{resource_id}
-use Rattle.adr_store.proofs.resources.Resources.push_shared.Goals as goal
+use Rattle.adr_store.proofs.resources.Resources.push.Goals as goal
 
 pub add-requires-2-clause-bound : goal.add-requires-2-clause-bound
 add-requires-2-clause-bound c =

@@ -3,11 +3,11 @@ use Rattle.adr_model.specs.Edits.{full_at, step, step_to}
 use Rattle.adr_book.specs.Ledger.{joined}
 use Rattle.adr_book.proofs.Bounds.{accepted_too, same_step}
 use Rattle.adr_book.proofs.Joined.{led_whole, led_by_one_more}
-use Rattle.adr_book.proofs.book.Book.record.Goals as goal
+use Rattle.adr_book.proofs.book.Book.commit.Goals as goal
 
 pub make-requires-clause-accepted : goal.make-requires-clause-accepted
 make-requires-clause-accepted c =
-    subst (λ x. IsOk (step c.self.inside.objects x)) (sym (c.in_ok-copy.ensures ∙ c.get.ensures))
+    subst (λ x. IsOk (step c.self.inside.objects x)) (sym (c.in_ok-copy.ensures))
     (accepted_too c.self.inside.base.version c.self.inside.objects c.args.edit
     (subst (λ b. IsOk (step_to (full_at b.base.version) b.objects c.args.edit)) (sym c.self.view_is) c.requires))
 
@@ -20,7 +20,7 @@ invariant_of-self-2 c =
     let pending = c.push.ensures.pending ∙ ap (λ ps. ps ++ c.args.edit ∷ []) c.reserve.ensures.pending in
     rw (closed, pending)
     (led_by_one_more c.self.inside.base c.self.inside.journal.closed c.self.inside.journal.pending c.args.edit c.self.inside.objects c.make.new.self c.self.invariant
-    (ap (step c.self.inside.objects) (sym (c.in_ok-copy.ensures ∙ c.get.ensures)) ∙ c.in_ok-make.ensures.ok))
+    (ap (step c.self.inside.objects) (sym (c.in_ok-copy.ensures)) ∙ c.in_ok-make.ensures.ok))
 
 pub returns-clause-objects : goal.returns-clause-objects
 returns-clause-objects c =
@@ -28,4 +28,4 @@ returns-clause-objects c =
     (same_step c.self.inside.base.version c.self.inside.objects c.args.edit
     (subst (λ b. IsOk (step_to (full_at b.base.version) b.objects c.args.edit)) (sym c.self.view_is) c.requires)
     c.make.new.self
-    (ap (step c.self.inside.objects) (sym (c.in_ok-copy.ensures ∙ c.get.ensures)) ∙ c.in_ok-make.ensures.ok))
+    (ap (step c.self.inside.objects) (sym (c.in_ok-copy.ensures)) ∙ c.in_ok-make.ensures.ok))
