@@ -1,7 +1,7 @@
 //! Objects and edits, and copies of them.
 use crate::reading::{edit, object, word};
 use adr_object::{
-    Edit, Event, Interval, Kind, Object, Payload, Period, Program, Resource, Target, Ven,
+    Edit, Event, Interval, Kind, Object, Payload, Period, Program, Resource, Shared, Target, Ven,
 };
 use adr_time::{Length, Moment, end_of};
 use adr_value::{Datum, Refusal, Text};
@@ -60,10 +60,14 @@ fn same_periods(a: Option<Period>, b: Option<Period>) -> bool {
     }
 }
 
+fn own_period(interval: &Interval) -> Option<Period> {
+    interval.period.as_ref().map(|period| *period.get())
+}
+
 fn same_intervals(a: &[Interval], b: &[Interval]) -> bool {
     for (a, b) in a.iter().zip(b) {
         if a.id != b.id
-            || !same_periods(a.period, b.period)
+            || !same_periods(own_period(a), own_period(b))
             || !same_payloads(a.payloads.as_slice(), b.payloads.as_slice())
         {
             return false;
@@ -111,10 +115,10 @@ fn same_resources(a: &Resource, b: &Resource) -> bool {
 
 fn same_objects(a: &Object, b: &Object) -> bool {
     match (a, b) {
-        (Object::Program(a), Object::Program(b)) => same_programs(a, b),
-        (Object::Event(a), Object::Event(b)) => same_events(a, b),
-        (Object::Ven(a), Object::Ven(b)) => same_vens(a, b),
-        (Object::Resource(a), Object::Resource(b)) => same_resources(a, b),
+        (Object::Program(a), Object::Program(b)) => same_programs(a.get(), b.get()),
+        (Object::Event(a), Object::Event(b)) => same_events(a.get(), b.get()),
+        (Object::Ven(a), Object::Ven(b)) => same_vens(a.get(), b.get()),
+        (Object::Resource(a), Object::Resource(b)) => same_resources(a.get(), b.get()),
         _ => false,
     }
 }
@@ -129,21 +133,33 @@ fn same_edits(a: &Edit, b: &Edit) -> bool {
     }
 }
 
-/// Whether the object has that kind, and its copy is equal.
-fn is_whole(object: &Object, kind: Kind) -> Result<bool, Refusal> {
-    let copy = object.copy()?;
+/// An object equal to this one, in memory of its own.
+fn renewed(alloc: Global, object: &Object) -> Result<Object, Refusal> {
+    match object {
+        Object::Program(program) => Ok(Object::Program(Shared::new(alloc, program.get().copy()?)?)),
+        Object::Event(event) => Ok(Object::Event(Shared::new(alloc, event.get().copy()?)?)),
+        Object::Ven(ven) => Ok(Object::Ven(Shared::new(alloc, ven.get().copy()?)?)),
+        Object::Resource(resource) => {
+            Ok(Object::Resource(Shared::new(alloc, resource.get().copy()?)?))
+        }
+    }
+}
+
+/// Whether the object has that kind, and its copy in memory of its own is equal.
+fn is_whole(alloc: Global, object: &Object, kind: Kind) -> Result<bool, Refusal> {
+    let copy = renewed(alloc, object)?;
     let is_copied = same_objects(object, &copy);
     drop(copy);
     Ok(is_copied && object.kind() == kind)
 }
 
-/// Whether the object of a line has that kind and its id, and its copy is equal.
+/// Whether the object of a line has that kind and its id, and its copy in memory of its own is equal.
 fn is_read_whole(alloc: Global, line: &str, kind: Kind) -> Result<bool, Refusal> {
     let (_, after_kind) = word(line)?;
     let (id, _) = word(after_kind)?;
     let object = object(alloc, line)?;
     let has_id = object.id().text() == id;
-    let is_whole = is_whole(&object, kind);
+    let is_whole = is_whole(alloc, &object, kind);
     drop(object);
     Ok(has_id && is_whole?)
 }

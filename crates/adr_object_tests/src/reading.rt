@@ -2,7 +2,7 @@
 //!
 //! What owns objects is let go by `drop` before a function returns: at the end of its scope it would be taken apart, field
 //! by field, in the proof of each function that has it.
-use adr_object::{Edit, Id, Kind, Object};
+use adr_object::{Edit, Id, Kind, Object, Shared};
 use adr_read::{read_event, read_program, read_resource, read_ven};
 use adr_time::Moment;
 use adr_value::Refusal;
@@ -15,10 +15,22 @@ pub(crate) fn word(line: &str) -> Result<(&str, &str), Refusal> {
 
 fn read_object(alloc: Global, kind: &str, id: &Id, body: &[u8]) -> Result<Object, Refusal> {
     match kind {
-        "program" => Ok(Object::Program(read_program(alloc, body, id, Moment::MIN)?)),
-        "ven" => Ok(Object::Ven(read_ven(alloc, body, id, Moment::MIN)?)),
-        "resource" => Ok(Object::Resource(read_resource(alloc, body, id, Moment::MIN)?)),
-        _ => Ok(Object::Event(read_event(alloc, body, id, Moment::MIN)?)),
+        "program" => {
+            let program = read_program(alloc, body, id, Moment::MIN)?;
+            Ok(Object::Program(Shared::new(alloc, program)?))
+        }
+        "ven" => {
+            let ven = read_ven(alloc, body, id, Moment::MIN)?;
+            Ok(Object::Ven(Shared::new(alloc, ven)?))
+        }
+        "resource" => {
+            let resource = read_resource(alloc, body, id, Moment::MIN)?;
+            Ok(Object::Resource(Shared::new(alloc, resource)?))
+        }
+        _ => {
+            let event = read_event(alloc, body, id, Moment::MIN)?;
+            Ok(Object::Event(Shared::new(alloc, event)?))
+        }
     }
 }
 

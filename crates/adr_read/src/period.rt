@@ -1,6 +1,7 @@
 //! Starts, lengths, periods and intervals.
 ghost use Rattle.std.specs.Prelude.{◌≡◌, ◌++◌, ℤ, Option, option_map, unwrap_or};
 ghost use Rattle.serde_json.specs.Data.{Data, null};
+ghost use Rattle.adr_value.specs.Copy.{IsCopyOf};
 ghost use Rattle.adr_value.specs.Faults.{Gives};
 ghost use Rattle.adr_read.specs.Members.{Holds};
 ghost use Rattle.adr_read.specs.Sets.{required, optional, list_faults, list_in};
@@ -11,7 +12,7 @@ use crate::element::{Context, Read, Reading};
 use crate::members::{Member, read_members};
 use crate::name::MemberName;
 use crate::text::text_of;
-use adr_object::{Interval, Payload, Period};
+use adr_object::{Interval, Payload, Period, Shared};
 use adr_time::{Length, Moment, read_length, read_start};
 use adr_value::{BoundedVec, Refusal, both};
 use json::{Reader, Token};
@@ -106,8 +107,22 @@ impl Read for Period {
 
 type IntervalMembers = ((Member<i64>, Member<Period>), Member<Payloads>);
 
+/// The period on the heap, where there is one.
+fn share<T: Drop>(alloc: Global, value: Option<T>) -> Result<Option<Shared<T>>, Refusal>
+    ensures { IsCopyOf result value }
+{
+    match value {
+        Some(value) => Ok(Some(Shared::new(alloc, value)?)),
+        None => Ok(None),
+    }
+}
+
 /// The interval that these members are.
-fn interval_of(context: &Context, members: IntervalMembers) -> Result<Interval, Refusal>
+fn interval_of(
+    alloc: Global,
+    context: &Context,
+    members: IntervalMembers,
+) -> Result<Interval, Refusal>
     ensures { (i p s : Option Data) → Holds interval_id_faults interval_id_in members.0.0.value i
         → Holds period_faults (period_in context.now.moment) members.0.1.value p
         → Holds (list_faults 64 payload_faults) (list_in (λ _. payload_in)) members.1.value s
@@ -123,6 +138,7 @@ fn interval_of(context: &Context, members: IntervalMembers) -> Result<Interval, 
         both(id.optional(), period.optional()),
         payloads.required(),
     )?;
+    let period = share(alloc, period)?;
     Ok(Interval {
         id: id.unwrap_or(context.place),
         period,
@@ -148,7 +164,7 @@ impl Read for Interval {
         let payloads = Member::named(MemberName::Payloads);
         let members = ((id, period), payloads);
         match read_members(alloc, context.moment, depth, reader, token, members)? {
-            Some(members) => Ok(interval_of(context, members)),
+            Some(members) => Ok(interval_of(alloc, context, members)),
             None => Ok(Err(Refusal::WrongType)),
         }
     }

@@ -9,7 +9,7 @@ use crate::fields::{
     AtLine, DeleteLine, ListLine, RollLine, Verb, WriteLine, at_line, delete_line, list_line,
     roll_line, types_line, write_line,
 };
-use adr_object::{Edit, Id, Kind, Object};
+use adr_object::{Edit, Id, Kind, Object, Shared};
 use adr_read::{read_event, read_program, read_resource, read_ven};
 use adr_time::{Moment, read_moment};
 use adr_value::{PayloadType, Refusal};
@@ -56,10 +56,22 @@ fn object_of(
     ensures { Answers result (object_of kind now id.now body.now) }
 {
     match kind {
-        Kind::Program => Ok(Object::Program(read_program(alloc, body, id, now)?)),
-        Kind::Event => Ok(Object::Event(read_event(alloc, body, id, now)?)),
-        Kind::Ven => Ok(Object::Ven(read_ven(alloc, body, id, now)?)),
-        Kind::Resource => Ok(Object::Resource(read_resource(alloc, body, id, now)?)),
+        Kind::Program => {
+            let program = read_program(alloc, body, id, now)?;
+            Ok(Object::Program(Shared::new(alloc, program)?))
+        }
+        Kind::Event => {
+            let event = read_event(alloc, body, id, now)?;
+            Ok(Object::Event(Shared::new(alloc, event)?))
+        }
+        Kind::Ven => {
+            let ven = read_ven(alloc, body, id, now)?;
+            Ok(Object::Ven(Shared::new(alloc, ven)?))
+        }
+        Kind::Resource => {
+            let resource = read_resource(alloc, body, id, now)?;
+            Ok(Object::Resource(Shared::new(alloc, resource)?))
+        }
     }
 }
 

@@ -23,8 +23,12 @@ returns c i p s hi hp hs =
     let payloads = list_in (λ _. payload_in) (unwrap_or s null) in
     let one = c.both.ensures (optional interval_id_faults i) (optional period_faults p) (option_map interval_id_in i) (option_map (period_in moment) p) (c.optional.ensures context i hi) (c.optional-2.ensures context p hp) in
     let two = c.in_ok-id.ensures (optional interval_id_faults i ++ optional period_faults p) (required (list_faults 64 payload_faults) s) (option_map interval_id_in i, option_map (period_in moment) p) payloads one (c.required.ensures context s hs) in
-    let id : to_z w64 (of_z w64 c.unwrap_or.result) ≡ unwrap_or c.in_ok-id.id c.args.context.now.place = search rules in
-    (two.0, ap (λ z. record { id = z; period = c.in_ok-id.period; payloads = c.in_ok-id.payloads }) id ∙ ap (made c.args.context.now.place) two.1)
+    let id : to_z w64 (of_z w64 c.unwrap_or.result) ≡ unwrap_or c.in_ok-id.id c.args.context.now.place = search rules in (
+      two.0,
+      ap (λ z. record { id = z; period = c.in_ok-period.period; payloads = c.in_ok-id.payloads }) id
+          ∙ ap (λ q. record { id = unwrap_or c.in_ok-id.id c.args.context.now.place; period = q; payloads = c.in_ok-id.payloads }) c.in_ok-period.ensures
+          ∙ ap (made c.args.context.now.place) two.1,
+    )
 
 pub returns-in_err-id : goal.returns-in_err-id
 returns-in_err-id c i p s hi hp hs =
