@@ -117,10 +117,12 @@ fn create(
 ) -> Result<(), Refusal> {
     match object {
         Object::Resource(resource) => {
+            let resource = resource.get();
             let ven = store.ven(&resource.ven_id).ok_or(Refusal::NoVen)?;
             audience.push(resource, ven)
         }
         Object::Event(event) => {
+            let event = event.get();
             let program = store.program(&event.program_id).ok_or(Refusal::NoProgram)?;
             targeting.push(event, program)
         }
@@ -136,10 +138,10 @@ fn change(
     place: usize,
 ) -> Result<(), Refusal> {
     match object {
-        Object::Resource(resource) => change_resource(audience, store, resource, place),
-        Object::Event(event) => change_event(targeting, store, event, place),
-        Object::Ven(ven) => change_ven(audience, store, ven),
-        Object::Program(program) => change_program(targeting, store, program),
+        Object::Resource(resource) => change_resource(audience, store, resource.get(), place),
+        Object::Event(event) => change_event(targeting, store, event.get(), place),
+        Object::Ven(ven) => change_ven(audience, store, ven.get()),
+        Object::Program(program) => change_program(targeting, store, program.get()),
     }
 }
 

@@ -1,5 +1,5 @@
 //! Edits from the words of a line and from bodies.
-use adr_object::{Edit, Id, Kind, Object};
+use adr_object::{Edit, Id, Kind, Object, Shared};
 use adr_read::{read_event, read_program, read_resource, read_ven};
 use adr_time::Moment;
 use adr_value::Refusal;
@@ -21,10 +21,22 @@ fn kind_of(word: &str) -> Kind {
 
 fn read_object(alloc: Global, kind: Kind, id: &Id, body: &[u8]) -> Result<Object, Refusal> {
     match kind {
-        Kind::Program => Ok(Object::Program(read_program(alloc, body, id, Moment::MIN)?)),
-        Kind::Ven => Ok(Object::Ven(read_ven(alloc, body, id, Moment::MIN)?)),
-        Kind::Resource => Ok(Object::Resource(read_resource(alloc, body, id, Moment::MIN)?)),
-        Kind::Event => Ok(Object::Event(read_event(alloc, body, id, Moment::MIN)?)),
+        Kind::Program => {
+            let program = read_program(alloc, body, id, Moment::MIN)?;
+            Ok(Object::Program(Shared::new(alloc, program)?))
+        }
+        Kind::Ven => {
+            let ven = read_ven(alloc, body, id, Moment::MIN)?;
+            Ok(Object::Ven(Shared::new(alloc, ven)?))
+        }
+        Kind::Resource => {
+            let resource = read_resource(alloc, body, id, Moment::MIN)?;
+            Ok(Object::Resource(Shared::new(alloc, resource)?))
+        }
+        Kind::Event => {
+            let event = read_event(alloc, body, id, Moment::MIN)?;
+            Ok(Object::Event(Shared::new(alloc, event)?))
+        }
     }
 }
 
