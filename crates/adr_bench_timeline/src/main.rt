@@ -7,8 +7,9 @@ ghost use Rattle.std.specs.Prelude.{◌<◌, ◌≤◌};
 mod measure;
 mod repair;
 mod shape;
+mod sweep;
 
-use crate::measure::{fastest_build, fastest_pass, measured};
+use crate::measure::{fastest_build, fastest_pass, fastest_sweep, measured};
 use crate::repair::Repair;
 use crate::shape::{Shape, entries};
 use std::rt::{Clock, Env};
@@ -19,8 +20,15 @@ fn print_microseconds(rt: &impl Print, nanoseconds: u128) -> io::Result<()> {
     print!(rt; " {}.{} |", nanoseconds / 1000, nanoseconds % 1000 / 100)
 }
 
+/// A ratio, with two places.
+fn print_ratio(rt: &impl Print, time: u128, other: u128) -> io::Result<()> {
+    let parts = time.saturating_mul(100) / other.max(1);
+    print!(rt; " {}.{:02} |", parts / 100, parts % 100)
+}
+
 /// A row of the table: how the entries lie, their number, the segments and the comparisons of a build, and where it is
-/// timed the microseconds of a build and of a plain pass over the entries, and their ratio.
+/// timed the microseconds of a build, of a plain sweep with a heap and of a plain pass over the entries, and the ratios
+/// of the build to both.
 fn print_row<R: AllocGlobal + Print + Clock>(
     rt: &R,
     shape: Shape,
@@ -34,8 +42,11 @@ fn print_row<R: AllocGlobal + Print + Clock>(
     print!(rt; "| {} | {count} | {segments} | {compares} |", shape.name())?;
     if is_timed {
         let build = fastest_build(rt, &entries)?;
+        let sweep = fastest_sweep(rt, &entries)?;
         let pass = fastest_pass(rt, &entries)?;
         print_microseconds(rt, build)?;
+        print_microseconds(rt, sweep)?;
+        print_ratio(rt, build, sweep)?;
         print_microseconds(rt, pass)?;
         print!(rt; " {} |", build / pass.max(1))?;
     }
@@ -45,9 +56,9 @@ fn print_row<R: AllocGlobal + Print + Clock>(
 fn print_heading(rt: &impl Print, is_timed: bool) -> io::Result<()> {
     if is_timed {
         println!(rt;
-            "| Entries lie | Entries | Segments | Comparisons | µs a build | µs a pass | Ratio |"
+            "| Entries lie | Entries | Segments | Comparisons | µs a build | µs a sweep | Ratio | µs a pass | Ratio |"
         )?;
-        println!(rt; "|---|---|---|---|---|---|---|")
+        println!(rt; "|---|---|---|---|---|---|---|---|---|")
     } else {
         println!(rt; "| Entries lie | Entries | Segments | Comparisons |")?;
         println!(rt; "|---|---|---|---|")

@@ -1,6 +1,7 @@
 //! What is measured: a build, and a plain pass over the same entries.
 ghost use Rattle.std.specs.Prelude.{◌<◌, ◌≤◌, length};
 
+use crate::sweep::sweep;
 use adr_rule::Meter;
 use adr_time::{End, Moment, Span, meets};
 use adr_timeline::{Entry, Timeline};
@@ -53,6 +54,30 @@ fn build_time<R: AllocGlobal + Clock>(rt: &R, entries: &[Entry]) -> io::Result<u
     }
     let passed = start.elapsed(rt)?;
     Ok(passed.as_nanos() / (times as u128))
+}
+
+/// The nanoseconds of a plain sweep, over some of them.
+fn sweep_time<R: AllocGlobal + Clock>(rt: &R, entries: &[Entry]) -> io::Result<u128>
+    requires { (0 < length entries.now) × (length entries.now ≤ 65536) }
+{
+    let times = MOST / entries.len();
+    let start = Instant::now(rt)?;
+    for _ in 0..times {
+        let _ = sweep(rt.alloc(), entries)?;
+    }
+    let passed = start.elapsed(rt)?;
+    Ok(passed.as_nanos() / (times as u128))
+}
+
+/// The nanoseconds of a plain sweep: the least of some times.
+pub(crate) fn fastest_sweep<R: AllocGlobal + Clock>(rt: &R, entries: &[Entry]) -> io::Result<u128>
+    requires { (0 < length entries.now) × (length entries.now ≤ 65536) }
+{
+    let mut least = sweep_time(rt, entries)?;
+    for _ in 1..ROUNDS {
+        least = least.min(sweep_time(rt, entries)?);
+    }
+    Ok(least)
 }
 
 /// How many of the entries meet the window.

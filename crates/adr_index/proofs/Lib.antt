@@ -3,8 +3,10 @@ pub mod Depth
 pub mod Found
 pub mod Fresh
 pub mod Grown
+pub mod Mended
 pub mod Ordered
 pub mod Placed
 pub mod Scanned
 pub mod Searched
 pub mod Sorted
+pub mod Taken

@@ -1,5 +1,5 @@
 -- Entries in order.
-use Rattle.std.proofs.Common.{◌≡◌, ℕ, zero, suc, ◌+◌, ◌-◌, ◌<◌, ◌≤◌, Bool, true, false, not, ◌&&◌, ◌||◌, ◌==◌, nat_lt, cond, List, [], ◌∷◌, ◌++◌, length, filter, slice_index_or, refl, sym, ◌∙◌, ap, arith, ℤ, ◌≤ℤ◌, int_lt, inl, inr}
+use Rattle.std.proofs.Common.{◌≡◌, ℕ, zero, suc, ◌+◌, ◌-◌, ◌<◌, ◌≤◌, Bool, true, false, not, ◌&&◌, ◌||◌, ◌==◌, nat_lt, cond, List, [], ◌∷◌, ◌++◌, length, filter, take, drop, slice_index_or, refl, sym, ◌∙◌, ap, arith, ℤ, ◌≤ℤ◌, int_lt, inl, inr}
 use Rattle.std.specs.Ordering.{int_eq}
 use Rattle.std.specs.List.{AllByRecursion, insert, list_any}
 use Rattle.std.specs.List.Sorted.{IsPartitionedBy, IsPartitionPoint}
@@ -84,7 +84,7 @@ listed_starts a b h = starts a.span.start b.span.start (later_write a b) h
       | inr same ↦ rw ((Decides-int_eq s t).0 (and_parts (int_eq s t) x same).0) (omega (arith, ints))
     ]
 
-all_more : (P Q : Entry → Type 0) → ((f : Entry) → P f → Q f) → (es : List Entry) → AllByRecursion P es → AllByRecursion Q es
+pub all_more : (P Q : Entry → Type 0) → ((f : Entry) → P f → Q f) → (es : List Entry) → AllByRecursion P es → AllByRecursion Q es
 all_more P Q f [] h = tt
 all_more P Q f (e ∷ es) h = (f e h.0, all_more P Q f es h.1)
 
@@ -193,6 +193,23 @@ pub place_found : (e : Entry) (es : List Entry) (i : ℕ) → IsOrdered es → i
 place_found e es i o le found =
     let point = found (first_stand e es o) in
     inserted_at (λ x. is_listed_before x e) e es i le (λ k d lt. point.0 k d (omega arith) lt) point.1
+
+all_taken : (p : Entry → Bool) (es : List Entry) (i : ℕ) → i ≤ length es → ((k : ℕ) (d : Entry) → k < i → p (slice_index_or es k d) ≡ true) → AllByRecursion (λ x. p x ≡ true) (take i es)
+all_taken p es zero le f = tt
+all_taken p [] (suc i) le f = absurd (omega arith)
+all_taken p (x ∷ xs) (suc i) le f = (f 0 x (omega arith), all_taken p xs i (omega arith) (λ k d lt. f (suc k) d (omega arith)))
+
+all_past : (p : Entry → Bool) (es : List Entry) (i : ℕ) → ((k : ℕ) (d : Entry) → i ≤ k → k < length es → p (slice_index_or es k d) ≡ false) → AllByRecursion (λ x. p x ≡ false) (drop i es)
+all_past p [] zero r = tt
+all_past p [] (suc i) r = tt
+all_past p (x ∷ xs) zero r = (r 0 x (omega arith) (omega arith), all_past p xs zero (λ k d le lt. r (suc k) d (omega arith) (omega arith)))
+all_past p (x ∷ xs) (suc i) r = all_past p xs i (λ k d le lt. r (suc k) d (omega arith) (omega arith))
+
+-- what comes before the entry, and what does not
+pub place_parts : (e : Entry) (es : List Entry) (i : ℕ) → IsOrdered es → i ≤ length es → (IsPartitionedBy (λ x. is_listed_before x e) es → IsPartitionPoint (λ x. is_listed_before x e ≡ true) (λ x. is_listed_before x e ≡ false) es i) → AllByRecursion (λ x. is_listed_before x e ≡ true) (take i es) × AllByRecursion (λ x. is_listed_before x e ≡ false) (drop i es)
+place_parts e es i o le found =
+    let point = found (first_stand e es o) in
+    (all_taken (λ x. is_listed_before x e) es i le (λ k d lt. point.0 k d (omega arith) lt), all_past (λ x. is_listed_before x e) es i point.1)
 
 -- ---- entries between others
 
@@ -311,7 +328,7 @@ module _ (front middle back : List Entry) (x e : Entry) (o : IsOrdered (front ++
 
 -- ---- edits between what comes before and what comes after
 
-filter_all : (p : Entry → Bool) (es : List Entry) → AllByRecursion (λ f. p f ≡ true) es → filter p es ≡ es
+pub filter_all : (p : Entry → Bool) (es : List Entry) → AllByRecursion (λ f. p f ≡ true) es → filter p es ≡ es
 filter_all p [] h = refl
 filter_all p (e ∷ es) h = rw h.0 (ap (λ (xs : List Entry). e ∷ xs) (filter_all p es h.1))
 

@@ -1,5 +1,5 @@
 -- The chunks of an index with their pool.
-use Rattle.std.specs.Prelude.{◌≡◌, ℕ, ◌-◌, ◌^◌, ◌<◌, ◌≤◌, true, List, Option, length, min, vec_len, vec_capacity}
+use Rattle.std.specs.Prelude.{◌≡◌, ℕ, ◌-◌, ◌^◌, ◌<◌, ◌≤◌, true, List, Option, length, min, vec_len, vec_capacity, slice_set}
 use Rattle.std.specs.List.{list_any}
 use Rattle.adr_model.specs.declared.entry.Entry.{Entry}
 use Rattle.adr_index.specs.declared.table.Table.{Table}
@@ -31,6 +31,18 @@ pub record HasTops (cs : List Chunk) (gs : List (Option End)) : Type 0 where
   pub levels : ℕ
   pub enough : length cs ≤ 2 ^ levels
   pub tree : IsTree listed levels cs gs
+
+-- one chunk stands in the place of another
+pub record IsChangedAt (place : ℕ) (old new : List Chunk) : Type 0 where
+  pub inside : place < length old
+  pub chunk : Chunk
+  pub is : new ≡ slice_set old place chunk
+
+-- the tree of the chunks before one of them was changed
+pub record HasTopsBut (place : ℕ) (cs : List Chunk) (gs : List (Option End)) : Type 0 where
+  pub before : List Chunk
+  pub tops : HasTops before gs
+  pub changed : IsChangedAt place before cs
 
 -- chunks in order, with the tree of their ends
 pub record IsIndex (t : Table) (gs : List (Option End)) : Type 0 where

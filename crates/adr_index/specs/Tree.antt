@@ -1,5 +1,5 @@
 -- A tree of greatest ends over parts of a list of entries in order of their starts.
-use Rattle.std.specs.Prelude.{◌≡◌, ℕ, zero, suc, ◌-◌, ◌<◌, ◌/◌, ⊤, Bool, false, ◌||◌, List, [], ◌∷◌, length, take, drop, Option, Some, None, if◌then◌else◌, ℤ, ◌≤ℤ◌, slice_index_or}
+use Rattle.std.specs.Prelude.{◌≡◌, ℕ, zero, suc, ◌-◌, ◌<◌, ◌≤◌, ◌/◌, min, ⊤, Bool, false, ◌||◌, List, [], ◌∷◌, length, take, drop, Option, Some, None, if◌then◌else◌, ℤ, ◌≤ℤ◌, slice_index_or}
 use Rattle.std.specs.List.{AllByRecursion, flat_map}
 use Rattle.std.specs.Int.{int_max}
 use Rattle.adr_time.specs.Spans.{is_before}
@@ -39,6 +39,13 @@ IsTree f (suc h) xs gs =
     1 < length xs →
     IsGreatest (slice_index_or gs (length xs / 2 - 1) None) (flat_map f xs)
     × (4 < length xs → IsTree f h (take (length xs / 2) xs) (take (length xs / 2 - 1) gs) × IsTree f h (drop (length xs / 2) xs) (drop (length xs / 2) gs))
+
+-- a tree but for what it has of the parts from a place up to another
+abbrev pub IsTreeBut : {A : Type 0} → (A → List Entry) → ℕ → ℕ → ℕ → List A → List (Option End) → Type 0
+IsTreeBut f zero from to xs gs = ⊤
+IsTreeBut f (suc h) from to xs gs =
+    (to ≤ from → IsTree f (suc h) xs gs)
+    × (4 < length xs → IsTreeBut f h (min from (length xs / 2)) (min to (length xs / 2)) (take (length xs / 2) xs) (take (length xs / 2 - 1) gs) × IsTreeBut f h (from - length xs / 2) (to - length xs / 2) (drop (length xs / 2) xs) (drop (length xs / 2) gs))
 
 -- the later of two ends
 abbrev pub end_max : End → End → End

@@ -103,13 +103,18 @@ impl Chunk {
 
     /// Takes out the entry that stands in the same place, if there is one.
     pub(crate) fn take(&mut self, entry: &Entry)
-        requires { IsChunk self.old }
+        requires chunk { IsChunk self.old }
+        requires order { IsOrdered self.old.entries.items }
         ensures entries { self.new.entries.items ≡ others entry.now self.old.entries.items }
         ensures fewer { length self.new.entries.items ≤ length self.old.entries.items }
         ensures room { IsRoomy self.new }
         ensures chunk { 0 < length self.new.entries.items → IsChunk self.new }
     {
-        self.entries.retain(|other| comes_before(other, entry) || comes_before(entry, other));
+        let place = place_of(&self.entries, entry);
+        if place == self.entries.len() || comes_before(entry, &self.entries[place]) {
+            return;
+        }
+        let _ = self.entries.remove(place);
         self.refresh();
     }
 

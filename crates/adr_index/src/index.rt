@@ -1,13 +1,13 @@
 //! Entries in order, found by the moments and windows that they cover.
-ghost use Rattle.std.specs.Prelude.{◌≡◌, ◌+◌, ◌*◌, ◌<◌, ◌≤◌, ◌^◌, [], false, length, IfOk, IsOk, OnOk, OnErr};
+ghost use Rattle.std.specs.Prelude.{◌≡◌, ◌+◌, ◌*◌, ◌<◌, ◌≤◌, ◌^◌, [], true, false, length, IfOk, IfSome, IsOk, OnOk, OnErr};
 ghost use Rattle.std.specs.List.{list_any};
 ghost use Rattle.std.specs.List.Sorted.{IsPermutation};
 ghost use Rattle.adr_value.specs.Answer.{OnlyNoMemory};
 ghost use Rattle.adr_model.specs.Entries.{covering, meeting, IsListed};
-ghost use Rattle.adr_index.specs.Chunks.{listed, AreChunks};
+ghost use Rattle.adr_index.specs.Chunks.{all_listed, listed, AreChunks};
 ghost use Rattle.adr_index.specs.Index.{inserted, inserted_all, is_entry, most_probes, others_all, without, AreDistinct, AreNew, IsOrdered};
 ghost use Rattle.adr_index.specs.Query.{hits};
-ghost use Rattle.adr_index.specs.Tables.{HasTops};
+ghost use Rattle.adr_index.specs.Tables.{free, HasTops, HasTopsBut, IsTable};
 
 use crate::chunk::Chunk;
 use crate::order::sort;
@@ -55,7 +55,79 @@ fn refresh(chunks: &[Chunk], tops: &mut [Option<End>])
     ensures { HasTops chunks.now tops.new }
 {
     let levels = digits(chunks.len());
-    let _ = rebuild_chunks(levels, chunks, tops);
+    let _ = rebuild_chunks(levels, 0, chunks.len(), chunks, tops);
+}
+
+/// Writes the ends over one chunk anew, where the tree is that of the others. Answers whether it is that of them all.
+fn update(chunks: &[Chunk], tops: &mut [Option<End>], changed: Option<usize>, is_kept: bool) -> bool
+    requires chunks { AreChunks chunks.now }
+    requires lengths { length chunks.now ≤ length tops.old + 1 }
+    requires tops { is_kept ≡ true → IfSome changed (λ place. HasTopsBut place chunks.now tops.old) }
+    ensures { result ≡ true → HasTops chunks.now tops.new }
+{
+    let Some(place) = changed else {
+        return false;
+    };
+    if !is_kept {
+        return false;
+    }
+    let levels = digits(chunks.len());
+    let _ = rebuild_chunks(levels, place, place + 1, chunks, tops);
+    true
+}
+
+/// Writes the tree over the chunks anew, where it is not theirs.
+fn settle(chunks: &[Chunk], tops: &mut [Option<End>], is_kept: bool)
+    requires chunks { AreChunks chunks.now }
+    requires lengths { length chunks.now ≤ length tops.old + 1 }
+    requires tops { is_kept ≡ true → HasTops chunks.now tops.old }
+    ensures { HasTops chunks.now tops.new }
+{
+    if !is_kept {
+        refresh(chunks, tops);
+    }
+}
+
+/// Takes out what stands in the places of the old entries, and answers whether the tree over the chunks is kept.
+fn take_all(table: &mut Table, tops: &mut [Option<End>], old: &[Entry]) -> bool
+    requires table { IsTable table.old }
+    requires lengths { length table.old.chunks.items ≤ length tops.old }
+    requires tops { HasTops table.old.chunks.items tops.old }
+    ensures table { IsTable table.new }
+    ensures entries { all_listed table.new.chunks.items ≡ others_all old.now (all_listed table.old.chunks.items) }
+    ensures free { free table.old ≤ free table.new }
+    ensures length { length table.new.chunks.items ≤ length table.old.chunks.items }
+    ensures nodes { length tops.new ≡ length tops.old }
+    ensures tops { result ≡ true → HasTops table.new.chunks.items tops.new }
+{
+    let mut is_kept = true;
+    for entry in old {
+        let changed = table.take(entry);
+        is_kept = update(&table.chunks, tops, changed, is_kept);
+    }
+    is_kept
+}
+
+/// Adds the entries, one after the other, and answers whether the tree over the chunks is kept.
+fn put_all(table: &mut Table, tops: &mut [Option<End>], new: &[Entry], was_kept: bool) -> bool
+    requires table { IsTable table.old }
+    requires free { length new.now ≤ free table.old }
+    requires fresh { AreNew new.now (all_listed table.old.chunks.items) }
+    requires lengths { length table.old.chunks.items + length new.now ≤ length tops.old }
+    requires tops { was_kept ≡ true → HasTops table.old.chunks.items tops.old }
+    ensures table { IsTable table.new }
+    ensures entries { all_listed table.new.chunks.items ≡ inserted_all new.now (all_listed table.old.chunks.items) }
+    ensures free { free table.old ≤ free table.new + length new.now }
+    ensures length { length table.new.chunks.items ≤ length table.old.chunks.items + length new.now }
+    ensures nodes { length tops.new ≡ length tops.old }
+    ensures tops { result ≡ true → HasTops table.new.chunks.items tops.new }
+{
+    let mut is_kept = was_kept;
+    for entry in new {
+        let changed = table.put(*entry);
+        is_kept = update(&table.chunks, tops, changed, is_kept);
+    }
+    is_kept
 }
 
 /// Makes room for the ends of that many chunks.
@@ -177,8 +249,9 @@ impl Index {
         ensures refused { OnlyNoMemory result }
     {
         self.make_room()?;
-        self.table.put(entry);
-        refresh(&self.table.chunks, &mut self.tops);
+        let changed = self.table.put(entry);
+        let is_kept = update(&self.table.chunks, &mut self.tops, changed, true);
+        settle(&self.table.chunks, &mut self.tops, is_kept);
         Ok(())
     }
 
@@ -191,9 +264,9 @@ impl Index {
         ensures entries { self.new.entries ≡ inserted_all new.now (others_all old.now self.old.entries) }
         ensures spare { self.old.spare ≤ self.new.spare + length new.now }
     {
-        self.table.take_all(old);
-        self.table.put_all(new);
-        refresh(&self.table.chunks, &mut self.tops);
+        let was_kept = take_all(&mut self.table, &mut self.tops, old);
+        let is_kept = put_all(&mut self.table, &mut self.tops, new, was_kept);
+        settle(&self.table.chunks, &mut self.tops, is_kept);
     }
 
     /// Takes out the entry of that written number and place, and answers whether it was there. It takes no memory.

@@ -1,6 +1,6 @@
 //! The order in which an index lists its entries.
-ghost use Rattle.std.specs.Prelude.{◌≡◌, ◌≤◌, ◌<◌, ℕ, false, length};
-ghost use Rattle.std.specs.List.{insert, list_any};
+ghost use Rattle.std.specs.Prelude.{◌≡◌, ◌≤◌, ◌<◌, ℕ, true, false, length, take, drop};
+ghost use Rattle.std.specs.List.{insert, list_any, AllByRecursion};
 ghost use Rattle.std.specs.List.Sorted.{IsPermutation};
 ghost use Rattle.std.specs.Ordering.{is_lt};
 ghost use Rattle.adr_model.specs.Entries.{is_listed_before};
@@ -32,6 +32,8 @@ pub(crate) fn place_of(entries: &[Entry], entry: &Entry) -> usize
     requires { IsOrdered entries.now }
     ensures within { result ≤ length entries.now }
     ensures place { insert entries.now result entry.now ≡ inserted entry.now entries.now }
+    ensures before { AllByRecursion (λ x. is_listed_before x entry.now ≡ true) (take result entries.now) }
+    ensures after { AllByRecursion (λ x. is_listed_before x entry.now ≡ false) (drop result entries.now) }
 {
     entries.partition_point(
         |other: &Entry| -> bool

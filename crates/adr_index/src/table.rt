@@ -3,8 +3,8 @@ ghost use Rattle.std.specs.Prelude.{◌≡◌, ◌+◌, ◌-◌, ◌<◌, ◌≤
 ghost use Rattle.std.specs.List.{AllByRecursion, list_any};
 ghost use Rattle.adr_model.specs.Entries.{is_listed_before};
 ghost use Rattle.adr_index.specs.Chunks.{all_listed, AreChunks, ArePooled, EndsBefore, IsChunk, IsPooled};
-ghost use Rattle.adr_index.specs.Tables.{free, IsFound, IsTable};
-ghost use Rattle.adr_index.specs.Index.{inserted, inserted_all, is_entry, others, others_all, without, AreNew, IsOrdered};
+ghost use Rattle.adr_index.specs.Tables.{free, IsChangedAt, IsFound, IsTable};
+ghost use Rattle.adr_index.specs.Index.{inserted, is_entry, others, without, IsOrdered};
 
 use crate::chunk::Chunk;
 use crate::order::{comes_before, is_entry};
@@ -61,8 +61,13 @@ pub(crate) fn put_first(chunks: &mut Vec<Chunk>, pool: &mut Vec<Chunk>, entry: E
     let _ = chunks.insert(0, chunk);
 }
 
-/// Adds an entry to one of the chunks. It takes a chunk of the pool at most.
-pub(crate) fn put_among(chunks: &mut Vec<Chunk>, pool: &mut Vec<Chunk>, entry: Entry)
+/// Adds an entry to one of the chunks. It takes a chunk of the pool at most. Answers the place of that chunk, where no
+/// other was changed.
+pub(crate) fn put_among(
+    chunks: &mut Vec<Chunk>,
+    pool: &mut Vec<Chunk>,
+    entry: Entry,
+) -> Option<usize>
     requires some { 0 < length chunks.old.items }
     requires chunks { AreChunks chunks.old.items }
     requires order { IsOrdered (all_listed chunks.old.items) }
@@ -75,12 +80,15 @@ pub(crate) fn put_among(chunks: &mut Vec<Chunk>, pool: &mut Vec<Chunk>, entry: E
     ensures taken { length pool.old.items ≤ length pool.new.items + 1 }
     ensures room { vec_capacity chunks.old - vec_len chunks.old ≤ (vec_capacity chunks.new - vec_len chunks.new) + 1 }
     ensures length { length chunks.new.items ≤ length chunks.old.items + 1 }
+    ensures changed { IfSome result (λ place. IsChangedAt place chunks.old.items chunks.new.items) }
 {
     let place = home(chunks, &entry);
     let later = chunks[place].put(entry, pool);
     if let Some(later) = later {
         let _ = chunks.insert(place + 1, later);
+        return None;
     }
+    Some(place)
 }
 
 /// Keeps the empty chunk for later, where there is a place for it.
@@ -93,35 +101,40 @@ fn lay_by(pool: &mut Vec<Chunk>, chunk: Chunk)
     let _ = pool.push(chunk);
 }
 
-/// Takes out the entry that stands in the same place, and answers how many that were. A chunk that it leaves empty
-/// goes to the pool.
-pub(crate) fn take_among(chunks: &mut Vec<Chunk>, pool: &mut Vec<Chunk>, entry: &Entry) -> usize
+/// Takes out the entry that stands in the same place, and answers how many that were and the place of its chunk, where
+/// no other was changed. A chunk that it leaves empty goes to the pool.
+pub(crate) fn take_among(
+    chunks: &mut Vec<Chunk>,
+    pool: &mut Vec<Chunk>,
+    entry: &Entry,
+) -> (usize, Option<usize>)
     requires some { 0 < length chunks.old.items }
     requires chunks { AreChunks chunks.old.items }
     requires order { IsOrdered (all_listed chunks.old.items) }
     requires pool { ArePooled pool.old.items }
     ensures chunks { AreChunks chunks.new.items }
     ensures entries { all_listed chunks.new.items ≡ others entry.now (all_listed chunks.old.items) }
-    ensures count { length (all_listed chunks.new.items) + result ≡ length (all_listed chunks.old.items) }
+    ensures count { length (all_listed chunks.new.items) + result.0 ≡ length (all_listed chunks.old.items) }
     ensures pool { ArePooled pool.new.items }
     ensures kept { length pool.old.items ≤ length pool.new.items }
     ensures room { vec_capacity chunks.old - vec_len chunks.old ≤ vec_capacity chunks.new - vec_len chunks.new }
     ensures length { length chunks.new.items ≤ length chunks.old.items }
+    ensures changed { IfSome result.1 (λ place. IsChangedAt place chunks.old.items chunks.new.items) }
 {
     let place = home(chunks, entry);
     let count = chunks[place].entries.len();
     chunks[place].take(entry);
     let left = chunks[place].entries.len();
     if left > 0 {
-        return count - left;
+        return (count - left, Some(place));
     }
     let chunk = chunks.remove(place);
     lay_by(pool, chunk);
-    count
+    (count, None)
 }
 
-/// Adds an entry. It takes a chunk of the pool at most.
-fn put_any(chunks: &mut Vec<Chunk>, pool: &mut Vec<Chunk>, entry: Entry)
+/// Adds an entry. It takes a chunk of the pool at most. Answers the place of its chunk, where no other was changed.
+fn put_any(chunks: &mut Vec<Chunk>, pool: &mut Vec<Chunk>, entry: Entry) -> Option<usize>
     requires chunks { AreChunks chunks.old.items }
     requires order { IsOrdered (all_listed chunks.old.items) }
     requires pool { ArePooled pool.old.items }
@@ -133,12 +146,13 @@ fn put_any(chunks: &mut Vec<Chunk>, pool: &mut Vec<Chunk>, entry: Entry)
     ensures taken { length pool.old.items ≤ length pool.new.items + 1 }
     ensures room { vec_capacity chunks.old - vec_len chunks.old ≤ (vec_capacity chunks.new - vec_len chunks.new) + 1 }
     ensures length { length chunks.new.items ≤ length chunks.old.items + 1 }
+    ensures changed { IfSome result (λ place. IsChangedAt place chunks.old.items chunks.new.items) }
 {
     if chunks.is_empty() {
         put_first(chunks, pool, entry);
-        return;
+        return None;
     }
-    put_among(chunks, pool, entry);
+    put_among(chunks, pool, entry)
 }
 
 /// The chunks of an index, empty ones for later, and how many entries there are.
@@ -184,8 +198,8 @@ impl Table {
         chunks.min(self.pool.len()).min(usize::MAX - self.count)
     }
 
-    /// Adds an entry.
-    pub(crate) fn put(&mut self, entry: Entry)
+    /// Adds an entry, and answers the place of its chunk, where no other was changed.
+    pub(crate) fn put(&mut self, entry: Entry) -> Option<usize>
         requires table { IsTable self.old }
         requires free { 0 < free self.old }
         requires fresh { list_any (is_entry entry.rank.written entry.rank.place) (all_listed self.old.chunks.items) ≡ false }
@@ -193,52 +207,29 @@ impl Table {
         ensures entries { all_listed self.new.chunks.items ≡ inserted entry (all_listed self.old.chunks.items) }
         ensures free { free self.old ≤ free self.new + 1 }
         ensures length { length self.new.chunks.items ≤ length self.old.chunks.items + 1 }
+        ensures changed { IfSome result (λ place. IsChangedAt place self.old.chunks.items self.new.chunks.items) }
     {
-        put_any(&mut self.chunks, &mut self.pool, entry);
+        let changed = put_any(&mut self.chunks, &mut self.pool, entry);
         self.count += 1;
+        changed
     }
 
-    /// Takes out the entry that stands in the same place, if there is one.
-    pub(crate) fn take(&mut self, entry: &Entry)
+    /// Takes out the entry that stands in the same place, if there is one, and answers the place of its chunk, where no
+    /// other was changed.
+    pub(crate) fn take(&mut self, entry: &Entry) -> Option<usize>
         requires { IsTable self.old }
         ensures table { IsTable self.new }
         ensures entries { all_listed self.new.chunks.items ≡ others entry.now (all_listed self.old.chunks.items) }
         ensures free { free self.old ≤ free self.new }
         ensures length { length self.new.chunks.items ≤ length self.old.chunks.items }
+        ensures changed { IfSome result (λ place. IsChangedAt place self.old.chunks.items self.new.chunks.items) }
     {
         if self.chunks.is_empty() {
-            return;
+            return None;
         }
-        let count = take_among(&mut self.chunks, &mut self.pool, entry);
+        let (count, changed) = take_among(&mut self.chunks, &mut self.pool, entry);
         self.count -= count;
-    }
-
-    /// Adds the entries, one after the other.
-    pub(crate) fn put_all(&mut self, new: &[Entry])
-        requires table { IsTable self.old }
-        requires free { length new.now ≤ free self.old }
-        requires fresh { AreNew new.now (all_listed self.old.chunks.items) }
-        ensures table { IsTable self.new }
-        ensures entries { all_listed self.new.chunks.items ≡ inserted_all new.now (all_listed self.old.chunks.items) }
-        ensures free { free self.old ≤ free self.new + length new.now }
-        ensures length { length self.new.chunks.items ≤ length self.old.chunks.items + length new.now }
-    {
-        for entry in new {
-            self.put(*entry);
-        }
-    }
-
-    /// Takes out what stands in the places of the old entries.
-    pub(crate) fn take_all(&mut self, old: &[Entry])
-        requires { IsTable self.old }
-        ensures table { IsTable self.new }
-        ensures entries { all_listed self.new.chunks.items ≡ others_all old.now (all_listed self.old.chunks.items) }
-        ensures free { free self.old ≤ free self.new }
-        ensures length { length self.new.chunks.items ≤ length self.old.chunks.items }
-    {
-        for entry in old {
-            self.take(entry);
-        }
+        changed
     }
 
     /// Takes out the entries of that written number and place, and answers whether there were any.
@@ -252,7 +243,7 @@ impl Table {
     {
         let mut is_found = false;
         while let Some(entry) = find(&self.chunks, written, place) {
-            self.take(&entry);
+            let _ = self.take(&entry);
             is_found = true;
         }
         is_found

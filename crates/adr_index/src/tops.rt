@@ -3,7 +3,8 @@ ghost use Rattle.std.specs.Prelude.{◌≡◌, ◌+◌, ◌*◌, ◌<◌, ◌≤
 ghost use Rattle.std.specs.List.{AllByRecursion};
 ghost use Rattle.adr_index.specs.Chunks.{all_listed, listed, AreChunks};
 ghost use Rattle.adr_index.specs.Query.{any_late, hits, looks, reached};
-ghost use Rattle.adr_index.specs.Tree.{IsByStart, IsGreatest, IsTree};
+ghost use Rattle.adr_index.specs.Tables.{HasTops};
+ghost use Rattle.adr_index.specs.Tree.{IsByStart, IsGreatest, IsTree, IsTreeBut};
 
 use crate::chunk::Chunk;
 use crate::query::Query;
@@ -94,14 +95,39 @@ fn greatest_of_chunks(chunks: &[Chunk]) -> Option<End>
     greatest
 }
 
-/// Writes the tree of greatest ends anew, in place, and answers the greatest of all.
-pub(crate) fn rebuild_chunks(levels: u32, chunks: &[Chunk], tops: &mut [Option<End>]) -> Option<End>
+/// The greatest end of the chunks, as their tree has it.
+fn top_of(chunks: &[Chunk], tops: &[Option<End>]) -> Option<End>
+    requires chunks { AreChunks chunks.now }
+    requires lengths { length chunks.now ≤ length tops.now + 1 }
+    requires tops { HasTops chunks.now tops.now }
+    ensures { IsGreatest result (all_listed chunks.now) }
+{
+    let count = chunks.len();
+    if count < 2 {
+        return greatest_of_chunks(chunks);
+    }
+    tops[count / 2 - 1]
+}
+
+/// Writes what the tree of greatest ends has of the chunks from a place up to another anew, in place, and answers the
+/// greatest of all.
+pub(crate) fn rebuild_chunks(
+    levels: u32,
+    from: usize,
+    to: usize,
+    chunks: &[Chunk],
+    tops: &mut [Option<End>],
+) -> Option<End>
     requires chunks { AreChunks chunks.now }
     requires levels { length chunks.now ≤ 2 ^ levels }
     requires lengths { length chunks.now ≤ length tops.old + 1 }
+    requires rest { IsTreeBut listed levels from to chunks.now tops.old }
     ensures tree { IsTree listed levels chunks.now tops.new }
     ensures greatest { IsGreatest result (all_listed chunks.now) }
 {
+    if to <= from {
+        return top_of(chunks, tops);
+    }
     let count = chunks.len();
     if count < 2 {
         return greatest_of_chunks(chunks);
@@ -114,8 +140,9 @@ pub(crate) fn rebuild_chunks(levels: u32, chunks: &[Chunk], tops: &mut [Option<E
     let (left, right) = chunks.split_at(middle);
     let (front, back) = tops.split_at_mut(middle - 1);
     let (here, back) = back.split_at_mut(1);
-    let left_greatest = rebuild_chunks(levels - 1, left, front);
-    let right_greatest = rebuild_chunks(levels - 1, right, back);
+    let left_greatest = rebuild_chunks(levels - 1, from.min(middle), to.min(middle), left, front);
+    let (from, to) = (from.saturating_sub(middle), to.saturating_sub(middle));
+    let right_greatest = rebuild_chunks(levels - 1, from, to, right, back);
     here[0] = later(left_greatest, right_greatest);
     here[0]
 }

@@ -1,9 +1,9 @@
-use Rattle.std.proofs.Common.{rules, ◌≡◌, ◌<◌, length, get_or, slice_set, arith, sym, ◌∙◌, ap}
+use Rattle.std.proofs.Common.{rules, ◌≡◌, ◌<◌, length, get_or, slice_set, arith, sym, ◌∙◌, ap, refl}
 use Rattle.std.proofs.lemmas.List.{get_or_read}
 use Rattle.adr_index.specs.declared.chunk.Chunk.{Chunk}
 use Rattle.std.specs.List.{remove}
 use Rattle.adr_index.specs.Chunks.{listed}
-use Rattle.adr_index.proofs.Placed.{take_one, take_gone, take_count}
+use Rattle.adr_index.proofs.Placed.{chunk_ordered, take_one, take_gone, take_count}
 use Rattle.adr_index.proofs.table.take_among.Goals as goal
 
 pub returns-then-left-gt0-clause-entries : goal.returns-then-left-gt0-clause-entries
@@ -47,3 +47,12 @@ returns-clause-count c =
     let entries = take_gone c.args.chunks.now.items c.home-place.result c.index_mut.result.now c.take.new.self c.args.entry.now inside read (rw c.deref.ensures.value at c.home-place.ensures.before) (rw c.deref.ensures.value at c.home-place.ensures.after) c.take.ensures.entries none in
     let total = take_count c.args.chunks.now.items c.home-place.result c.index_mut.result.now c.take.new.self c.args.entry.now inside read (rw c.deref.ensures.value at c.home-place.ensures.before) (rw c.deref.ensures.value at c.home-place.ensures.after) c.take.ensures.entries in
     rw (new, entries, count) (omega (arith, total, none))
+
+pub take-requires-clause-order : goal.take-requires-clause-order
+take-requires-clause-order c =
+    let inside : c.home-place.result < length c.args.chunks.now.items = search rules in
+    let read : c.index_mut.result.now ≡ get_or c.args.chunks.now.items c.home-place.result c.index_mut.result.now = search rules in
+    chunk_ordered c.args.chunks.now.items c.home-place.result c.index_mut.result.now c.index_mut.result.now c.args.entry.now inside read c.requires.order
+
+pub returns-then-left-gt0-clause-changed : goal.returns-then-left-gt0-clause-changed
+returns-then-left-gt0-clause-changed c = record { inside = search rules; chunk = c.take.new.self; is = refl }

@@ -5,8 +5,8 @@ use Rattle.adr_index.proofs.table.Table.put.Goals as goal
 
 pub returns-clause-table : goal.returns-clause-table
 returns-clause-table c = record {
-  chunks = c.put_any.ensures.chunks;
-  order = rw c.put_any.ensures.entries (ordered_inserted c.args.entry (all_listed c.args.self.now.chunks.items) c.requires.table.order c.requires.fresh);
-  pool = c.put_any.ensures.pool;
-  count = rw (c.put_any.ensures.entries, length_inserted c.args.entry (all_listed c.args.self.now.chunks.items)) (omega (arith, c.requires.table.count));
+  chunks = c.put_any-changed.ensures.chunks;
+  order = rw c.put_any-changed.ensures.entries (ordered_inserted c.args.entry (all_listed c.args.self.now.chunks.items) c.requires.table.order c.requires.fresh);
+  pool = c.put_any-changed.ensures.pool;
+  count = rw (c.put_any-changed.ensures.entries, length_inserted c.args.entry (all_listed c.args.self.now.chunks.items)) (omega (arith, c.requires.table.count));
 }

@@ -1,0 +1,109 @@
+//! A plain sweep over the same entries: their starts and ends in order, and a heap of the ranks of those that cover.
+ghost use Rattle.std.specs.Prelude.{◌<◌, ◌≤◌, length};
+
+use adr_time::{End, Moment};
+use adr_timeline::{Entry, Segment, Winner};
+use std::alloc::{AllocError, Global};
+use std::cmp::Reverse;
+use std::collections::BinaryHeap;
+
+/// A rank as its fields are compared, and the place of its entry: the greatest goes first.
+type Key = Reverse<(u64, i128, Reverse<u64>, u32, usize)>;
+
+fn key_of(entry: &Entry, place: usize) -> Key {
+    let rank = entry.rank;
+    Reverse((
+        rank.priority,
+        rank.late,
+        Reverse(rank.written),
+        rank.place,
+        place,
+    ))
+}
+
+/// The starts and ends, each with the place of its entry.
+fn points(alloc: Global, entries: &[Entry]) -> Result<Vec<(Moment, usize)>, AllocError> {
+    let mut points = Vec::with_capacity(alloc, entries.len().saturating_mul(2))?;
+    for (place, entry) in entries.iter().enumerate() {
+        points.push((entry.span.start, place))?;
+        if let End::At(end) = entry.span.end {
+            points.push((end, place))?;
+        }
+    }
+    points.sort_unstable();
+    Ok(points)
+}
+
+/// The place of the entry that comes first in the heap and has not ended by the moment; those that have leave it.
+fn least(heap: &mut BinaryHeap<Key>, entries: &[Entry], moment: Moment) -> Option<usize> {
+    for _ in 0..heap.len() {
+        let Reverse((_, _, _, _, place)) = heap.peek()?;
+        match entries.get(*place) {
+            Some(entry) if moment.is_before(entry.span.end) => return Some(*place),
+            _ => {
+                let _ = heap.pop();
+            }
+        }
+    }
+    None
+}
+
+/// What is shown from a moment on.
+#[derive(Clone, Copy)]
+struct Open {
+    start: Moment,
+    winner: Option<Winner>,
+}
+
+fn is_same(first: &Option<Winner>, second: &Option<Winner>) -> bool {
+    match (first, second) {
+        (Some(one), Some(other)) => one.written == other.written && one.place == other.place,
+        (None, None) => true,
+        _ => false,
+    }
+}
+
+fn close(line: &mut Vec<Segment>, open: &Open, end: End) -> Result<(), AllocError> {
+    if let Some(winner) = open.winner && open.start.is_before(end) {
+        line.push(Segment {
+            start: open.start,
+            end,
+            winner,
+        })?;
+    }
+    Ok(())
+}
+
+fn winner_of(entry: &Entry) -> Winner {
+    Winner {
+        written: entry.rank.written,
+        place: entry.rank.place,
+    }
+}
+
+/// The segments of the least entry at each instant.
+pub(crate) fn sweep(alloc: Global, entries: &[Entry]) -> Result<Vec<Segment>, AllocError> {
+    let points = points(alloc, entries)?;
+    let mut heap: BinaryHeap<Key> = BinaryHeap::new(alloc);
+    let mut line = Vec::new(alloc);
+    let mut open = Open {
+        start: Moment::MIN,
+        winner: None,
+    };
+    for (moment, place) in &points {
+        let entry = &entries[*place];
+        if entry.span.start == *moment {
+            heap.push(key_of(entry, *place))?;
+        }
+        let winner = least(&mut heap, entries, *moment).map(|place| winner_of(&entries[place]));
+        if !is_same(&open.winner, &winner) {
+            close(&mut line, &open, End::At(*moment))?;
+            open = Open {
+                start: *moment,
+                winner,
+            };
+        }
+    }
+    close(&mut line, &open, End::Endless)?;
+    Ok(line)
+}
