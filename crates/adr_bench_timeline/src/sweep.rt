@@ -34,12 +34,12 @@ fn points(alloc: Global, entries: &[Entry]) -> Result<Vec<(Moment, usize)>, Allo
     Ok(points)
 }
 
-/// The place of the entry that comes first in the heap and has not ended by the moment; those that have leave it.
-fn least(heap: &mut BinaryHeap<Key>, entries: &[Entry], moment: Moment) -> Option<usize> {
+/// The entry that comes first in the heap and has not ended by the moment; those that have leave it.
+fn least(heap: &mut BinaryHeap<Key>, entries: &[Entry], moment: Moment) -> Option<Winner> {
     for _ in 0..heap.len() {
         let Reverse((_, _, _, _, place)) = heap.peek()?;
         match entries.get(*place) {
-            Some(entry) if moment.is_before(entry.span.end) => return Some(*place),
+            Some(entry) if moment.is_before(entry.span.end) => return Some(winner_of(entry)),
             _ => {
                 let _ = heap.pop();
             }
@@ -64,12 +64,16 @@ fn is_same(first: &Option<Winner>, second: &Option<Winner>) -> bool {
 }
 
 fn close(line: &mut Vec<Segment>, open: &Open, end: End) -> Result<(), AllocError> {
-    if let Some(winner) = open.winner && open.start.is_before(end) {
-        line.push(Segment {
-            start: open.start,
-            end,
-            winner,
-        })?;
+    let Some(winner) = open.winner else {
+        return Ok(());
+    };
+    let segment = Segment {
+        start: open.start,
+        end,
+        winner,
+    };
+    if segment.start.is_before(segment.end) {
+        line.push(segment)?;
     }
     Ok(())
 }
@@ -91,11 +95,13 @@ pub(crate) fn sweep(alloc: Global, entries: &[Entry]) -> Result<Vec<Segment>, Al
         winner: None,
     };
     for (moment, place) in &points {
-        let entry = &entries[*place];
+        let Some(entry) = entries.get(*place) else {
+            return Ok(line);
+        };
         if entry.span.start == *moment {
             heap.push(key_of(entry, *place))?;
         }
-        let winner = least(&mut heap, entries, *moment).map(|place| winner_of(&entries[place]));
+        let winner = least(&mut heap, entries, *moment);
         if !is_same(&open.winner, &winner) {
             close(&mut line, &open, End::At(*moment))?;
             open = Open {

@@ -2,7 +2,6 @@
 use Rattle.std.proofs.Common.{◌≡◌, ℕ, zero, suc, ◌+◌, ◌-◌, ◌<◌, ◌≤◌, Bool, true, false, not, ◌&&◌, ◌||◌, ◌==◌, nat_lt, cond, List, [], ◌∷◌, ◌++◌, length, filter, take, drop, slice_index_or, refl, sym, ◌∙◌, ap, arith, ℤ, ◌≤ℤ◌, int_lt, inl, inr}
 use Rattle.std.specs.Ordering.{int_eq}
 use Rattle.std.specs.List.{AllByRecursion, insert, list_any}
-use Rattle.std.specs.List.Sorted.{IsPartitionedBy, IsPartitionPoint}
 use Rattle.std.proofs.lemmas.Int.{ints}
 use Rattle.std.proofs.lemmas.List.{append-nil, append_assoc, length-append}
 use Rattle.std.proofs.lemmas.List.Elements.{filter-append}
@@ -161,55 +160,21 @@ ordered_inserted e es o new =
 
 -- ---- the place of a new entry
 
--- those that come before an entry stand first
-all_at : (P : Entry → Type 0) (es : List Entry) (j : ℕ) (d : Entry) → AllByRecursion P es → j < length es → P (slice_index_or es j d)
-all_at P [] j d h lt = absurd (omega arith)
-all_at P (e ∷ es) zero d h lt = h.0
-all_at P (e ∷ es) (suc j) d h lt = all_at P es j d h.1 (omega arith)
+-- where one does not come before an entry, no later one does
+none_later : (e : Entry) (es : List Entry) (i : ℕ) → IsOrdered es → i < length es → ((d : Entry) → is_listed_before (slice_index_or es i d) e ≡ false) → AllByRecursion (λ x. is_listed_before x e ≡ false) (drop i es)
+none_later e [] i o lt h = absurd (omega arith)
+none_later e (x ∷ xs) zero o lt h = (h x, all_more (λ f. is_listed_before x f ≡ true) (λ f. is_listed_before f e ≡ false) (λ f k. either f k (is_listed_before f e) refl) xs o.0)
+  where
+    either : (f : Entry) → is_listed_before x f ≡ true → (b : Bool) → is_listed_before f e ≡ b → is_listed_before f e ≡ false
+    either f k true earlier = absurd (false≢true (sym (h x) ∙ listed_trans x f e k earlier))
+    either f k false later = later
+none_later e (x ∷ xs) (suc i) o lt h = none_later e xs i o.1 (omega arith) h
 
-pub first_stand : (e : Entry) (es : List Entry) → IsOrdered es → IsPartitionedBy (λ x. is_listed_before x e) es
-first_stand e [] o i j d le lt h = absurd (omega arith)
-first_stand e (x ∷ xs) o zero zero d le lt h = h
-first_stand e (x ∷ xs) o zero (suc j) d le lt h = listed_trans x (slice_index_or xs j d) e (all_at (λ f. is_listed_before x f ≡ true) xs j d o.0 (omega arith)) h
-first_stand e (x ∷ xs) o (suc i) zero d le lt h = absurd (omega arith)
-first_stand e (x ∷ xs) o (suc i) (suc j) d le lt h = first_stand e xs o.1 i j d (omega arith) (omega arith) h
-
-filter_none : (p : Entry → Bool) (es : List Entry) → ((k : ℕ) (d : Entry) → k < length es → p (slice_index_or es k d) ≡ false) → filter p es ≡ []
-filter_none p [] h = refl
-filter_none p (e ∷ es) h = rw (h 0 e (omega arith)) (filter_none p es (λ k d lt. h (suc k) d (omega arith)))
-
-filter_every : (p : Entry → Bool) (es : List Entry) → ((k : ℕ) (d : Entry) → k < length es → p (slice_index_or es k d) ≡ false) → filter (λ x. not (p x)) es ≡ es
-filter_every p [] h = refl
-filter_every p (e ∷ es) h = rw (h 0 e (omega arith)) (ap (λ (xs : List Entry). e ∷ xs) (filter_every p es (λ k d lt. h (suc k) d (omega arith))))
-
-pub inserted_at : (p : Entry → Bool) (e : Entry) (es : List Entry) (i : ℕ) → i ≤ length es → ((k : ℕ) (d : Entry) → k < i → p (slice_index_or es k d) ≡ true) → ((k : ℕ) (d : Entry) → i ≤ k → k < length es → p (slice_index_or es k d) ≡ false) → insert es i e ≡ filter p es ++ e ∷ filter (λ x. not (p x)) es
-inserted_at p e [] zero le f r = refl
-inserted_at p e [] (suc i) le f r = absurd (omega arith)
-inserted_at p e (x ∷ xs) zero le f r = rw (filter_none p (x ∷ xs) (λ k d lt. r k d (omega arith) lt), filter_every p (x ∷ xs) (λ k d lt. r k d (omega arith) lt))
-inserted_at p e (x ∷ xs) (suc i) le f r =
-    rw (f 0 x (omega arith)) (ap (λ (ys : List Entry). x ∷ ys) (inserted_at p e xs i (omega arith) (λ k d lt. f (suc k) d (omega arith)) (λ k d h lt. r (suc k) d (omega arith) (omega arith))))
-
-pub place_found : (e : Entry) (es : List Entry) (i : ℕ) → IsOrdered es → i ≤ length es → (IsPartitionedBy (λ x. is_listed_before x e) es → IsPartitionPoint (λ x. is_listed_before x e ≡ true) (λ x. is_listed_before x e ≡ false) es i) → insert es i e ≡ inserted e es
-place_found e es i o le found =
-    let point = found (first_stand e es o) in
-    inserted_at (λ x. is_listed_before x e) e es i le (λ k d lt. point.0 k d (omega arith) lt) point.1
-
-all_taken : (p : Entry → Bool) (es : List Entry) (i : ℕ) → i ≤ length es → ((k : ℕ) (d : Entry) → k < i → p (slice_index_or es k d) ≡ true) → AllByRecursion (λ x. p x ≡ true) (take i es)
-all_taken p es zero le f = tt
-all_taken p [] (suc i) le f = absurd (omega arith)
-all_taken p (x ∷ xs) (suc i) le f = (f 0 x (omega arith), all_taken p xs i (omega arith) (λ k d lt. f (suc k) d (omega arith)))
-
-all_past : (p : Entry → Bool) (es : List Entry) (i : ℕ) → ((k : ℕ) (d : Entry) → i ≤ k → k < length es → p (slice_index_or es k d) ≡ false) → AllByRecursion (λ x. p x ≡ false) (drop i es)
-all_past p [] zero r = tt
-all_past p [] (suc i) r = tt
-all_past p (x ∷ xs) zero r = (r 0 x (omega arith) (omega arith), all_past p xs zero (λ k d le lt. r (suc k) d (omega arith) (omega arith)))
-all_past p (x ∷ xs) (suc i) r = all_past p xs i (λ k d le lt. r (suc k) d (omega arith) (omega arith))
-
--- what comes before the entry, and what does not
-pub place_parts : (e : Entry) (es : List Entry) (i : ℕ) → IsOrdered es → i ≤ length es → (IsPartitionedBy (λ x. is_listed_before x e) es → IsPartitionPoint (λ x. is_listed_before x e ≡ true) (λ x. is_listed_before x e ≡ false) es i) → AllByRecursion (λ x. is_listed_before x e ≡ true) (take i es) × AllByRecursion (λ x. is_listed_before x e ≡ false) (drop i es)
-place_parts e es i o le found =
-    let point = found (first_stand e es o) in
-    (all_taken (λ x. is_listed_before x e) es i le (λ k d lt. point.0 k d (omega arith) lt), all_past (λ x. is_listed_before x e) es i point.1)
+pub past_place : (e : Entry) (es : List Entry) (i : ℕ) → IsOrdered es → i ≤ length es → (i < length es → (d : Entry) → is_listed_before (slice_index_or es i d) e ≡ false) → AllByRecursion (λ x. is_listed_before x e ≡ false) (drop i es)
+past_place e [] zero o le h = tt
+past_place e [] (suc i) o le h = tt
+past_place e (x ∷ xs) zero o le h = none_later e (x ∷ xs) zero o (omega arith) (h (omega arith))
+past_place e (x ∷ xs) (suc i) o le h = past_place e xs i o.1 (omega arith) (λ lt. h (omega (arith, lt)))
 
 -- ---- entries between others
 
@@ -335,6 +300,16 @@ filter_all p (e ∷ es) h = rw h.0 (ap (λ (xs : List Entry). e ∷ xs) (filter_
 filter_out : (p : Entry → Bool) (es : List Entry) → AllByRecursion (λ f. p f ≡ false) es → filter p es ≡ []
 filter_out p [] h = refl
 filter_out p (e ∷ es) h = rw h.0 (filter_out p es h.1)
+
+-- an entry put between those that come before it and the others
+pub place_found : (e : Entry) (es : List Entry) (i : ℕ) → i ≤ length es → AllByRecursion (λ x. is_listed_before x e ≡ true) (take i es) → AllByRecursion (λ x. is_listed_before x e ≡ false) (drop i es) → insert es i e ≡ inserted e es
+place_found e es zero le f r = rw (filter_out (λ x. is_listed_before x e) es r, filter_all (λ x. not (is_listed_before x e)) es (all_more (λ x. is_listed_before x e ≡ false) (λ x. not (is_listed_before x e) ≡ true) (λ x h. ap not h) es r)) (put_first e es)
+  where
+    put_first : (e : Entry) (es : List Entry) → insert es 0 e ≡ e ∷ es
+    put_first e [] = refl
+    put_first e (x ∷ xs) = refl
+place_found e [] (suc i) le f r = absurd (omega arith)
+place_found e (x ∷ xs) (suc i) le f r = rw f.0 (ap (λ (ys : List Entry). x ∷ ys) (place_found e xs i (omega arith) f.1 r))
 
 module _ (front middle back : List Entry) (e : Entry) (before : AllByRecursion (λ f. is_listed_before f e ≡ true) front) (after : AllByRecursion (λ f. is_listed_before e f ≡ true) back) where
   behind : AllByRecursion (λ f. is_listed_before f e ≡ false) back

@@ -1,5 +1,5 @@
 -- The chunks of an index.
-use Rattle.std.specs.Prelude.{◌≡◌, ℕ, ◌^◌, ◌-◌, ◌<◌, ◌≤◌, Bool, List, [], length, slice_index_or, Option, Some, None, vec_capacity}
+use Rattle.std.specs.Prelude.{◌≡◌, ℕ, ℤ, ◌^◌, ◌-◌, ◌<◌, ◌≤◌, Bool, List, [], length, slice_index_or, Option, Some, None, vec_capacity}
 use Rattle.std.specs.List.{AllByRecursion, flat_map}
 use Rattle.adr_time.specs.declared.span.End.{End}
 use Rattle.adr_model.specs.declared.entry.Entry.{Entry}
@@ -32,12 +32,17 @@ pub record HasEnds (es : List Entry) (gs : List (Option End)) (end : Option End)
   pub tree : IsTree only levels es gs
   pub greatest : IsGreatest end es
 
+-- the last of the entries starts then
+abbrev pub StartsLast : ℤ → List Entry → Type 0
+StartsLast t es = (d : Entry) → (slice_index_or es (length es - 1) d).span.start ≡ t
+
 -- some entries, at most 128, with the tree of their ends
 pub record IsChunk (c : Chunk) : Type 0 where
   pub roomy : IsRoomy c
   pub some : 0 < length (listed c)
   pub few : length (listed c) ≤ 128
   pub ends : HasEnds (listed c) c.greatest.items c.end
+  pub last : StartsLast c.last (listed c)
 
 -- room for a chunk
 abbrev pub IsPooled : Chunk → Type 0

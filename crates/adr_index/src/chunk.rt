@@ -1,6 +1,6 @@
 //! A chunk of an index: some entries in order, under a tree of their ends.
 ghost use Rattle.std.specs.Prelude.{◌≡◌, ◌+◌, ◌<◌, ◌≤◌, ◌++◌, ◌∷◌, [], ◌^◌, IfOk, IfSome, OnOk, length};
-ghost use Rattle.adr_index.specs.Chunks.{listed, listed_too, ArePooled, HasEnds, IsChunk, IsPooled, IsRoomy};
+ghost use Rattle.adr_index.specs.Chunks.{listed, listed_too, ArePooled, HasEnds, IsChunk, IsPooled, IsRoomy, StartsLast};
 ghost use Rattle.adr_index.specs.Query.{any_late, hits, looks};
 ghost use Rattle.adr_index.specs.Tree.{IsByStart};
 ghost use Rattle.adr_index.specs.Index.{inserted, others, IsOrdered};
@@ -10,18 +10,30 @@ use crate::query::Query;
 use crate::tree::{digits, rebuild, search};
 use adr_model::Entry;
 use adr_rule::Meter;
-use adr_time::End;
+use adr_time::{End, Moment};
 use std::alloc::{AllocError, Global};
 
 /// How many entries a chunk has at most.
 const MOST: usize = 128;
 
-/// Some entries in order, with the tree of their ends, and the greatest of these. Its room is taken at once.
+/// Some entries in order, with the tree of their ends, the greatest of these, and when the last entry starts. Its room
+/// is taken at once.
 #[derive(Drop)]
 pub(crate) struct Chunk {
     pub(crate) entries: Vec<Entry>,
     pub(crate) greatest: Vec<Option<End>>,
     pub(crate) end: Option<End>,
+    pub(crate) last: Moment,
+}
+
+/// When the last of the entries starts, where there is one.
+fn last_start(entries: &[Entry]) -> Moment
+    ensures { 0 < length entries.now → StartsLast result entries.now }
+{
+    match entries.last() {
+        Some(entry) => entry.span.start,
+        None => Moment::MIN,
+    }
 }
 
 impl Chunk {
@@ -35,18 +47,21 @@ impl Chunk {
             entries,
             greatest,
             end: None,
+            last: Moment::MIN,
         })
     }
 
-    /// Writes the tree anew.
+    /// Writes the tree anew, and when the last entry starts.
     fn refresh(&mut self)
         requires { length self.old.entries.items ≤ length self.old.greatest.items + 1 }
         ensures entries { self.new.entries ≡ self.old.entries }
         ensures nodes { length self.new.greatest.items ≡ length self.old.greatest.items }
         ensures ends { HasEnds self.new.entries.items self.new.greatest.items self.new.end }
+        ensures last { 0 < length self.new.entries.items → StartsLast self.new.last self.new.entries.items }
     {
         let levels = digits(self.entries.len());
         self.end = rebuild(levels, &self.entries, &mut self.greatest);
+        self.last = last_start(&self.entries);
     }
 
     /// Adds the first entry.

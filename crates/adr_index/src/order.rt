@@ -27,7 +27,8 @@ pub(crate) fn is_entry(entry: &Entry, written: u64, place: u32) -> bool
     entry.rank.written == written && entry.rank.place == place
 }
 
-/// How many of the entries come before the new one.
+/// How many of the entries come before the new one. They are gone through in turn, which for those of a chunk is
+/// faster than to halve them: they are read from far memory, and in order that is foreseen.
 pub(crate) fn place_of(entries: &[Entry], entry: &Entry) -> usize
     requires { IsOrdered entries.now }
     ensures within { result ≤ length entries.now }
@@ -35,11 +36,11 @@ pub(crate) fn place_of(entries: &[Entry], entry: &Entry) -> usize
     ensures before { AllByRecursion (λ x. is_listed_before x entry.now ≡ true) (take result entries.now) }
     ensures after { AllByRecursion (λ x. is_listed_before x entry.now ≡ false) (drop result entries.now) }
 {
-    entries.partition_point(
-        |other: &Entry| -> bool
-            ensures { result ≡ is_listed_before other.now entry.entry.now }
-        { comes_before(other, entry) },
-    )
+    let mut place = 0;
+    while place < entries.len() && comes_before(&entries[place], entry) {
+        place += 1;
+    }
+    place
 }
 
 /// How the first entry stands to the second in an index.

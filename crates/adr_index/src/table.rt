@@ -38,6 +38,9 @@ fn ends_before(chunk: &Chunk, entry: &Entry) -> bool
     requires { IsChunk chunk.now }
     ensures { EndsBefore chunk.now entry.now result }
 {
+    if chunk.last != entry.span.start {
+        return chunk.last < entry.span.start;
+    }
     comes_before(&chunk.entries[chunk.entries.len() - 1], entry)
 }
 
