@@ -22,8 +22,8 @@ all_listed cs = flat_map listed cs
 
 -- its room is taken at once, for one more than it keeps
 pub record IsRoomy (c : Chunk) : Type 0 where
-  pub room : 128 < vec_capacity c.entries
-  pub nodes : 128 ≤ length c.greatest.items
+  pub room : 64 < vec_capacity c.entries
+  pub nodes : 64 ≤ length c.greatest.items
 
 -- the greatest end of entries, over the tree of their ends
 pub record HasEnds (es : List Entry) (gs : List (Option End)) (end : Option End) : Type 0 where
@@ -36,11 +36,11 @@ pub record HasEnds (es : List Entry) (gs : List (Option End)) (end : Option End)
 abbrev pub StartsLast : ℤ → List Entry → Type 0
 StartsLast t es = (d : Entry) → (slice_index_or es (length es - 1) d).span.start ≡ t
 
--- some entries, at most 128, with the tree of their ends
+-- some entries, at most 64, with the tree of their ends
 pub record IsChunk (c : Chunk) : Type 0 where
   pub roomy : IsRoomy c
   pub some : 0 < length (listed c)
-  pub few : length (listed c) ≤ 128
+  pub few : length (listed c) ≤ 64
   pub ends : HasEnds (listed c) c.greatest.items c.end
   pub last : StartsLast c.last (listed c)
 

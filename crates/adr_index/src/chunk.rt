@@ -14,7 +14,7 @@ use adr_time::{End, Moment};
 use std::alloc::{AllocError, Global};
 
 /// How many entries a chunk has at most.
-const MOST: usize = 128;
+const MOST: usize = 64;
 
 /// Some entries in order, with the tree of their ends, the greatest of these, and when the last entry starts. Its room
 /// is taken at once.
@@ -77,7 +77,7 @@ impl Chunk {
 
     /// Hands its later half on.
     fn move_half(&mut self, other: &mut Chunk)
-        requires length { length self.old.entries.items ≡ 129 }
+        requires length { length self.old.entries.items ≡ 65 }
         requires room { IsRoomy self.old }
         requires other { IsPooled other.old }
         ensures entries { self.old.entries.items ≡ self.new.entries.items ++ other.new.entries.items }
@@ -136,7 +136,7 @@ impl Chunk {
     /// A chunk of the entries.
     pub(crate) fn of(alloc: Global, entries: &[Entry]) -> Result<Chunk, AllocError>
         requires some { 0 < length entries.now }
-        requires few { length entries.now ≤ 128 }
+        requires few { length entries.now ≤ 64 }
         ensures { IfOk result (λ chunk. IsChunk chunk × (chunk.entries.items ≡ entries.now)) }
     {
         let mut chunk = Chunk::empty(alloc)?;

@@ -27,7 +27,7 @@ use std::marker::Model;
 ///
 /// No two entries have one written number and place. An entry whose span covers no moment is kept, and never found.
 ///
-/// They lie in chunks of at most 128. An edit goes to one chunk, found by halving, and writes the tree of greatest ends
+/// They lie in chunks of at most 64. An edit goes to one chunk, found by halving, and writes the tree of greatest ends
 /// over the chunks anew: with n entries a step for each of some n/64 chunks.
 #[derive(Drop)]
 pub struct Index {
@@ -239,7 +239,7 @@ impl Index {
     }
 
     /// Adds an entry in its place. `NoMemory` where there is no room; then the list is as it was. With room to spare
-    /// it is never refused. Cost: some 128 steps in its chunk, and a step for each chunk.
+    /// it is never refused. Cost: some 64 steps in its chunk, and a step for each chunk.
     pub fn insert(&mut self, entry: Entry) -> Result<(), Refusal>
         requires { list_any (is_entry entry.rank.written entry.rank.place) self.old.entries ≡ false }
         ensures ok { OnOk result (self.new.entries ≡ inserted entry self.old.entries) }
@@ -256,7 +256,7 @@ impl Index {
     }
 
     /// Takes out what stands in the place of an old entry, with its start, written number and place, and adds the new
-    /// ones, as when an event is written again. It takes no memory. Cost: for each entry of both some 128 steps in its
+    /// ones, as when an event is written again. It takes no memory. Cost: for each entry of both some 64 steps in its
     /// chunk, and once a step for each chunk.
     pub fn replace(&mut self, old: &[Entry], new: &[Entry])
         requires room { length new.now ≤ self.old.spare }

@@ -315,7 +315,7 @@ fn copy_chunks(alloc: Global, chunks: &[Chunk]) -> Result<Vec<Chunk>, AllocError
 }
 
 /// How many entries a chunk has where chunks are made at once, so that edits don't part each soon.
-const FILLED: usize = 96;
+const FILLED: usize = 48;
 
 /// Chunks of the entries, each of as many but for the last.
 fn cut(alloc: Global, entries: &[Entry]) -> Result<Vec<Chunk>, AllocError>
