@@ -166,8 +166,8 @@ pub record IsHalved (front back all : List Entry) : Type 0 where
   pub front_some : 1 ≤ length front
   pub back_some : 1 ≤ length back
 
-pub halved : (front back all : List Entry) (half : ℕ) → half ≡ length all / 2 → 2 ≤ length all → front ≡ take half all → back ≡ drop half all → IsHalved front back all
-halved front back all half h n f b =
+pub halved : (front back all : List Entry) (half : ℕ) → 0 < half → half < length all → front ≡ take half all → back ≡ drop half all → IsHalved front back all
+halved front back all half some inside f b =
     let lengths : length front ≡ half = ap length f ∙ length-take-le half all (omega arith) in
     let rest : length back ≡ length all - half = ap length b ∙ length-drop half all in
     record {

@@ -139,8 +139,21 @@ fn add_run(steps: &mut Vec<Step>, entries: &[Entry]) -> Result<(), AllocError>
     Ok(())
 }
 
-/// Puts the steps of the least rank among the entries at the end of others. They are halved, and the steps of the
-/// halves are merged from the end of the other list: for k entries about k log k steps.
+/// Where the entries are parted: after the first, where the others come in turn, else in their middle.
+fn cut(entries: &[Entry]) -> usize
+    requires { 2 ≤ length entries.now }
+    ensures some { 0 < result }
+    ensures rest { result < length entries.now }
+{
+    if is_run(&entries[1..]) {
+        1
+    } else {
+        entries.len() / 2
+    }
+}
+
+/// Puts the steps of the least rank among the entries at the end of others. They are parted, and the steps of the
+/// parts are merged from the end of the other list: for k entries about k log k steps.
 fn rank(
     steps: &mut Vec<Step>,
     other: &mut Vec<Step>,
@@ -158,8 +171,8 @@ fn rank(
     match entries.len() {
         0 => Ok(()),
         1 => add_steps_of(steps, &entries[0]),
-        count => {
-            let (front, back) = entries.split_at(count / 2);
+        _ => {
+            let (front, back) = entries.split_at(cut(entries));
             let start = other.len();
             rank(other, steps, front, meter)?;
             let middle = other.len();
@@ -173,7 +186,8 @@ fn rank(
     }
 }
 
-/// The steps of the least rank among the entries, in two lists that are taken once.
+/// The steps of the least rank among the entries, in two lists that are taken once, the second where there is something
+/// to merge.
 #[tactic(auto, using(crate::proofs::Stepped::from_none))]
 pub(crate) fn ranked(
     alloc: Global,
@@ -188,7 +202,10 @@ pub(crate) fn ranked(
 {
     let room = entries.len().saturating_mul(2);
     let mut steps = Vec::with_capacity(alloc, room)?;
-    let mut other = Vec::with_capacity(alloc, room)?;
+    let mut other = Vec::new(alloc);
+    if !is_run(entries) {
+        other.reserve(room)?;
+    }
     rank(&mut steps, &mut other, entries, meter)?;
     drop(other);
     Ok(steps)

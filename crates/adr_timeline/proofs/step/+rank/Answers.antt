@@ -7,20 +7,17 @@ use Rattle.adr_timeline.proofs.step.+rank.Goals as goal
 
 pub rank-requires-in_default : goal.rank-requires-in_default
 rank-requires-in_default t c =
-    let some : 2 ≤ length c.args.entries.now = search rules in
-    let h = halved c.split_at.result.0.now c.split_at.result.1.now c.args.entries.now (length c.args.entries.now / 2) refl some c.split_at.ensures.front c.split_at.ensures.back in
+    let h = halved c.split_at.result.0.now c.split_at.result.1.now c.args.entries.now c.cut.result c.cut.ensures.some c.cut.ensures.rest c.split_at.ensures.front c.split_at.ensures.back in
     ((search rules), back_room c.split_at.result.0.now c.split_at.result.1.now c.args.entries.now c.args.meter.now c.rank.new.meter (2 ^ 128) h c.requires c.rank.ensures.compared)
 
 pub returns-in_err-rank-in_default-2-clause-compared : goal.returns-in_err-rank-in_default-2-clause-compared
 returns-in_err-rank-in_default-2-clause-compared t c =
-    let some : 2 ≤ length c.args.entries.now = search rules in
-    let h = halved c.split_at.result.0.now c.split_at.result.1.now c.args.entries.now (length c.args.entries.now / 2) refl some c.split_at.ensures.front c.split_at.ensures.back in
+    let h = halved c.split_at.result.0.now c.split_at.result.1.now c.args.entries.now c.cut.result c.cut.ensures.some c.cut.ensures.rest c.split_at.ensures.front c.split_at.ensures.back in
     both_within c.split_at.result.0.now c.split_at.result.1.now c.args.entries.now c.args.meter.now c.rank.new.meter c.rank-in_default.new.meter h c.rank.ensures.compared c.rank-in_default.ensures.compared
 
 pub merge-requires-clause-room : goal.merge-requires-clause-room
 merge-requires-clause-room t c =
-    let some : 2 ≤ length c.args.entries.now = search rules in
-    let h = halved c.split_at.result.0.now c.split_at.result.1.now c.args.entries.now (length c.args.entries.now / 2) refl some c.split_at.ensures.front c.split_at.ensures.back in
+    let h = halved c.split_at.result.0.now c.split_at.result.1.now c.args.entries.now c.cut.result c.cut.ensures.some c.cut.ensures.rest c.split_at.ensures.front c.split_at.ensures.back in
     let first = c.in_ok-rank-in_default.ensures.ranked in
     let second = c.in_ok-rank-in_default-2.ensures.ranked in
     let left = left_part c.args.other.now.items c.rank.new.steps.items c.rank-in_default.new.steps.items c.deref.result.now first.0 second.0 c.split_at-in_default.result.0.now c.split_at-in_default-2.result.1.now c.len-start.result c.len-middle.result first.1 second.1 (search rules) (search rules) c.deref.ensures.value c.split_at-in_default.ensures.front c.split_at-in_default-2.ensures.back in
@@ -29,8 +26,7 @@ merge-requires-clause-room t c =
 
 pub returns-in_err-merge-in_default-clause-compared : goal.returns-in_err-merge-in_default-clause-compared
 returns-in_err-merge-in_default-clause-compared t c =
-    let some : 2 ≤ length c.args.entries.now = search rules in
-    let h = halved c.split_at.result.0.now c.split_at.result.1.now c.args.entries.now (length c.args.entries.now / 2) refl some c.split_at.ensures.front c.split_at.ensures.back in
+    let h = halved c.split_at.result.0.now c.split_at.result.1.now c.args.entries.now c.cut.result c.cut.ensures.some c.cut.ensures.rest c.split_at.ensures.front c.split_at.ensures.back in
     let first = c.in_ok-rank-in_default.ensures.ranked in
     let second = c.in_ok-rank-in_default-2.ensures.ranked in
     let left = left_part c.args.other.now.items c.rank.new.steps.items c.rank-in_default.new.steps.items c.deref.result.now first.0 second.0 c.split_at-in_default.result.0.now c.split_at-in_default-2.result.1.now c.len-start.result c.len-middle.result first.1 second.1 (search rules) (search rules) c.deref.ensures.value c.split_at-in_default.ensures.front c.split_at-in_default-2.ensures.back in
@@ -39,8 +35,7 @@ returns-in_err-merge-in_default-clause-compared t c =
 
 pub returns-in_ok-merge-in_default-clause-compared : goal.returns-in_ok-merge-in_default-clause-compared
 returns-in_ok-merge-in_default-clause-compared t c =
-    let some : 2 ≤ length c.args.entries.now = search rules in
-    let h = halved c.split_at.result.0.now c.split_at.result.1.now c.args.entries.now (length c.args.entries.now / 2) refl some c.split_at.ensures.front c.split_at.ensures.back in
+    let h = halved c.split_at.result.0.now c.split_at.result.1.now c.args.entries.now c.cut.result c.cut.ensures.some c.cut.ensures.rest c.split_at.ensures.front c.split_at.ensures.back in
     let first = c.in_ok-rank-in_default.ensures.ranked in
     let second = c.in_ok-rank-in_default-2.ensures.ranked in
     let left = left_part c.args.other.now.items c.rank.new.steps.items c.rank-in_default.new.steps.items c.deref.result.now first.0 second.0 c.split_at-in_default.result.0.now c.split_at-in_default-2.result.1.now c.len-start.result c.len-middle.result first.1 second.1 (search rules) (search rules) c.deref.ensures.value c.split_at-in_default.ensures.front c.split_at-in_default-2.ensures.back in
@@ -49,8 +44,7 @@ returns-in_ok-merge-in_default-clause-compared t c =
 
 pub returns-in_ok-merge-in_default-clause-ranked : goal.returns-in_ok-merge-in_default-clause-ranked
 returns-in_ok-merge-in_default-clause-ranked t c =
-    let some : 2 ≤ length c.args.entries.now = search rules in
-    let h = halved c.split_at.result.0.now c.split_at.result.1.now c.args.entries.now (length c.args.entries.now / 2) refl some c.split_at.ensures.front c.split_at.ensures.back in
+    let h = halved c.split_at.result.0.now c.split_at.result.1.now c.args.entries.now c.cut.result c.cut.ensures.some c.cut.ensures.rest c.split_at.ensures.front c.split_at.ensures.back in
     let first = c.in_ok-rank-in_default.ensures.ranked in
     let second = c.in_ok-rank-in_default-2.ensures.ranked in
     let merged = c.in_ok-merge-in_default.ensures.merged in
