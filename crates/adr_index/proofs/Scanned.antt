@@ -1,5 +1,5 @@
 -- One chunk after the other.
-use Rattle.std.proofs.Common.{◌≡◌, ℕ, zero, suc, ◌+◌, ◌*◌, ◌<◌, ◌≤◌, Bool, true, false, ◌||◌, List, [], ◌∷◌, ◌++◌, length, take, drop, get_or, Option, refl, sym, ◌∙◌, ap, arith, ℤ}
+use Rattle.std.proofs.Common.{◌≡◌, ℕ, zero, suc, ◌+◌, ◌-◌, ◌*◌, ◌<◌, ◌≤◌, Bool, true, false, ◌||◌, List, [], ◌∷◌, ◌++◌, length, take, drop, get_or, Option, refl, sym, ◌∙◌, ap, arith, ℤ}
 use Rattle.std.specs.List.{AllByRecursion}
 use Rattle.std.proofs.Math.Nat.{mul-le-mul_left}
 use Rattle.std.proofs.lemmas.List.{append_assoc, drop_more}
@@ -11,7 +11,7 @@ use Rattle.adr_index.specs.Chunks.{all_listed, listed}
 use Rattle.adr_index.specs.Query.{any_late, hits, looks, reached}
 use Rattle.adr_index.specs.Tree.{any_lasts, comes_after, later_end, IsByStart}
 use Rattle.adr_index.proofs.Grown.{lasts_append, later_after, parted}
-use Rattle.adr_index.proofs.Searched.{found_left, grows, hits_append, late_append, reached_left, reached_parts, starts_left, starts_right}
+use Rattle.adr_index.proofs.Searched.{found_left, grows, hits_append, late_append, looks_both, looks_left, reached_left, reached_parts, starts_left, starts_right}
 
 pub each_taken : (P : Chunk → Type 0) (m : ℕ) (cs : List Chunk) → AllByRecursion P cs → AllByRecursion P (take m cs)
 each_taken P zero cs h = tt
@@ -92,3 +92,14 @@ few_chunks_paid n k c r some h = omega (arith, mul-le-mul_left (2 * n) some)
 
 pub both_halves : (cs left right : List Chunk) (m : ℕ) → left ≡ take m cs → right ≡ drop m cs → all_listed cs ≡ all_listed left ++ all_listed right
 both_halves cs left right m h k = rw (h, k) (parted listed m cs)
+
+-- what a search of two halves pays
+module _ (cs xs ys : List Chunk) (q : Query) (levels depth : ℕ) (whole : all_listed cs ≡ all_listed xs ++ all_listed ys) (level : 0 < levels) (last : any_lasts (all_listed cs) q.from ≡ true) where
+  lower : levels + depth - 1 ≡ levels - 1 + depth
+  lower = omega (arith, level)
+
+  pub left_paid : 1 + looks (levels - 1 + depth) (all_listed xs) q ≤ looks (levels + depth) (all_listed cs) q
+  left_paid = rw lower at (looks_left (all_listed cs) (all_listed xs) (all_listed ys) q whole (levels + depth) (omega (arith, level)) last)
+
+  pub both_paid : any_late (all_listed xs) q ≡ false → 1 + looks (levels - 1 + depth) (all_listed xs) q + looks (levels - 1 + depth) (all_listed ys) q ≤ looks (levels + depth) (all_listed cs) q
+  both_paid early = rw lower at (looks_both (all_listed cs) (all_listed xs) (all_listed ys) q whole (levels + depth) (omega (arith, level)) last early)

@@ -1,5 +1,5 @@
 -- A tree of greatest ends over parts of a list of entries in order of their starts.
-use Rattle.std.specs.Prelude.{◌≡◌, ℕ, zero, suc, ◌-◌, ◌<◌, ◌≤◌, ◌/◌, min, ⊤, Bool, false, ◌||◌, List, [], ◌∷◌, length, take, drop, Option, Some, None, if◌then◌else◌, ℤ, ◌≤ℤ◌, slice_index_or}
+use Rattle.std.specs.Prelude.{◌≡◌, ℕ, zero, suc, ◌-◌, ◌<◌, ◌≤◌, ◌/◌, ◌^◌, min, ⊤, Bool, false, ◌||◌, List, [], ◌∷◌, length, take, drop, Option, Some, None, if◌then◌else◌, ℤ, ◌≤ℤ◌, slice_index_or}
 use Rattle.std.specs.List.{AllByRecursion, flat_map}
 use Rattle.std.specs.Int.{int_max}
 use Rattle.adr_time.specs.Spans.{is_before}
@@ -39,6 +39,12 @@ IsTree f (suc h) xs gs =
     1 < length xs →
     IsGreatest (slice_index_or gs (length xs / 2 - 1) None) (flat_map f xs)
     × (4 < length xs → IsTree f h (take (length xs / 2) xs) (take (length xs / 2 - 1) gs) × IsTree f h (drop (length xs / 2) xs) (drop (length xs / 2) gs))
+
+-- a tree of enough levels
+pub record HasTree {A : Type 0} (f : A → List Entry) (xs : List A) (gs : List (Option End)) : Type 0 where
+  pub levels : ℕ
+  pub enough : length xs ≤ 2 ^ levels
+  pub tree : IsTree f levels xs gs
 
 -- a tree but for what it has of the parts from a place up to another
 abbrev pub IsTreeBut : {A : Type 0} → (A → List Entry) → ℕ → ℕ → ℕ → List A → List (Option End) → Type 0

@@ -4,7 +4,7 @@ ghost use Rattle.std.specs.List.{AllByRecursion};
 ghost use Rattle.adr_index.specs.Chunks.{all_listed, listed, AreChunks};
 ghost use Rattle.adr_index.specs.Query.{any_late, hits, looks, reached};
 ghost use Rattle.adr_index.specs.Tables.{HasTops};
-ghost use Rattle.adr_index.specs.Tree.{IsByStart, IsGreatest, IsTree, IsTreeBut};
+ghost use Rattle.adr_index.specs.Tree.{any_lasts, IsByStart, IsGreatest, IsTree, IsTreeBut};
 
 use crate::chunk::Chunk;
 use crate::query::Query;
@@ -41,6 +41,16 @@ fn scan_chunks(
     Ok(false)
 }
 
+/// Whether an entry of the chunks ends after what is asked for begins, as their tree has it.
+fn any_chunk_reaches(chunks: &[Chunk], tops: &[Option<End>], query: &Query) -> bool
+    requires some { 1 < length chunks.now }
+    requires lengths { length chunks.now ≤ length tops.now + 1 }
+    requires tops { HasTops chunks.now tops.now }
+    ensures { result ≡ any_lasts (all_listed chunks.now) query.now.from }
+{
+    reaches(&tops[chunks.len() / 2 - 1], query)
+}
+
 /// Adds the entries of the chunks that are asked for, as the search of a chunk does, which takes `depth` levels.
 pub(crate) fn search_chunks(
     levels: u32,
@@ -68,7 +78,7 @@ pub(crate) fn search_chunks(
     }
     let middle = count / 2;
     meter.tick();
-    if !reaches(&tops[middle - 1], query) {
+    if !any_chunk_reaches(chunks, tops, query) {
         return Ok(false);
     }
     if count <= FEW {

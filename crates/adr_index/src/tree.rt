@@ -3,7 +3,7 @@
 ghost use Rattle.std.specs.Prelude.{◌≡◌, ◌+◌, ◌*◌, ◌<◌, ◌≤◌, ◌^◌, ◌++◌, IfOk, OnOk, length};
 ghost use Rattle.adr_index.specs.Index.{digits as digits_of};
 ghost use Rattle.adr_index.specs.Query.{any_late, hits, if_hit, looks};
-ghost use Rattle.adr_index.specs.Tree.{comes_after, end_max, later_end, only, own_end as end_of, IsByStart, IsGreatest, IsTree};
+ghost use Rattle.adr_index.specs.Tree.{any_lasts, comes_after, end_max, later_end, only, own_end as end_of, IsByStart, HasTree, IsGreatest, IsTree};
 
 use crate::query::{Query, is_hit, is_late};
 use adr_model::Entry;
@@ -75,6 +75,16 @@ fn scan(
     Ok(false)
 }
 
+/// Whether an entry ends after what is asked for begins, as their tree has it.
+fn any_reaches(entries: &[Entry], greatest: &[Option<End>], query: &Query) -> bool
+    requires some { 1 < length entries.now }
+    requires lengths { length entries.now ≤ length greatest.now + 1 }
+    requires tree { HasTree only entries.now greatest.now }
+    ensures { result ≡ any_lasts entries.now query.now.from }
+{
+    reaches(&greatest[entries.len() / 2 - 1], query)
+}
+
 /// Adds the entries that are asked for, in order, and answers whether it came to one that lasts and starts too late.
 /// Each look at an entry or at an end is a tick.
 pub(crate) fn search(
@@ -100,7 +110,7 @@ pub(crate) fn search(
     }
     let middle = count / 2;
     meter.tick();
-    if !reaches(&greatest[middle - 1], query) {
+    if !any_reaches(entries, greatest, query) {
         return Ok(false);
     }
     if count <= FEW {

@@ -1,39 +1,36 @@
-use Rattle.std.proofs.Common.{rules, ◌≡◌, ◌+◌, ◌-◌, ◌/◌, ◌<◌, length, true, false, sym, ◌∙◌, arith}
+use Rattle.std.proofs.Common.{rules, ◌≡◌, ◌/◌, ◌<◌, length, true, false, sym, arith}
 use Rattle.std.proofs.lemmas.List.{append-nil}
 use Rattle.adr_index.specs.Chunks.{all_listed, listed, IsChunk}
 use Rattle.adr_index.specs.Query.{any_late, reached}
-use Rattle.adr_index.proofs.Grown.{few_levels, root_read, level_some, left_short, right_short, tree_at}
-use Rattle.adr_index.proofs.Searched.{none_last, none_late_last, found_left, looks_left, looks_both, reached_some, starts_left, starts_right}
-use Rattle.adr_index.proofs.Scanned.{both_halves, each_left, each_taken, few_chunks_paid}
+use Rattle.adr_index.specs.Tree.{any_lasts}
+use Rattle.adr_index.proofs.Grown.{few_levels, level_some, left_short, right_short, tree_at}
+use Rattle.adr_index.proofs.Searched.{none_last, none_late_last, found_left, reached_some, starts_left, starts_right}
+use Rattle.adr_index.proofs.Scanned.{both_halves, each_left, each_taken, few_chunks_paid, left_paid, both_paid}
 use Rattle.adr_index.proofs.tops.+search_chunks.Goals as goal
 
-pub returns-then-not-reaches-clause-found : goal.returns-then-not-reaches-clause-found
-returns-then-not-reaches-clause-found t c =
+pub returns-then-not-any_chunk_reaches-clause-found : goal.returns-then-not-any_chunk_reaches-clause-found
+returns-then-not-any_chunk_reaches-clause-found t c =
     let two : 1 < length c.args.chunks.now = search rules in
-    let out : c.reaches.result ≡ false = search rules in
-    let none = root_read listed c.args.levels c.args.chunks.now c.args.tops.now (level_some c.args.levels (length c.args.chunks.now) two c.requires.levels) c.args.query.now.from c.index-tops-middle.result false two c.requires.lengths c.requires.tree c.index-tops-middle.is (sym c.reaches.ensures ∙ out) in
+    let none : any_lasts (all_listed c.args.chunks.now) c.args.query.now.from ≡ false = search rules in
     rw (none_last (all_listed c.args.chunks.now) c.args.query.now none) (sym (append-nil c.args.found.now.items))
 
-pub returns-then-not-reaches-clause-late : goal.returns-then-not-reaches-clause-late
-returns-then-not-reaches-clause-late t c =
+pub returns-then-not-any_chunk_reaches-clause-late : goal.returns-then-not-any_chunk_reaches-clause-late
+returns-then-not-any_chunk_reaches-clause-late t c =
     let two : 1 < length c.args.chunks.now = search rules in
-    let out : c.reaches.result ≡ false = search rules in
-    let none = root_read listed c.args.levels c.args.chunks.now c.args.tops.now (level_some c.args.levels (length c.args.chunks.now) two c.requires.levels) c.args.query.now.from c.index-tops-middle.result false two c.requires.lengths c.requires.tree c.index-tops-middle.is (sym c.reaches.ensures ∙ out) in
+    let none : any_lasts (all_listed c.args.chunks.now) c.args.query.now.from ≡ false = search rules in
     sym (none_late_last (all_listed c.args.chunks.now) c.args.query.now none)
 
 pub scan_chunks-requires-then-count-le-FEW-clause-room : goal.scan_chunks-requires-then-count-le-FEW-clause-room
 scan_chunks-requires-then-count-le-FEW-clause-room t c =
     let two : 1 < length c.args.chunks.now = search rules in
-    let goes : c.reaches.result ≡ true = search rules in
-    let last = root_read listed c.args.levels c.args.chunks.now c.args.tops.now (level_some c.args.levels (length c.args.chunks.now) two c.requires.levels) c.args.query.now.from c.index-tops-middle.result true two c.requires.lengths c.requires.tree c.index-tops-middle.is (sym c.reaches.ensures ∙ goes) in
+    let last : any_lasts (all_listed c.args.chunks.now) c.args.query.now.from ≡ true = search rules in
     let cost = few_chunks_paid c.args.levels c.args.depth (length c.args.chunks.now) (reached (all_listed c.args.chunks.now) c.args.query.now) (reached_some (all_listed c.args.chunks.now) c.args.query.now last) (few_levels c.args.levels (length c.args.chunks.now) two (search rules) c.requires.levels) in
     omega (arith, cost, c.tick.ensures, c.requires.room)
 
 pub returns-then-count-le-FEW-clause-looks : goal.returns-then-count-le-FEW-clause-looks
 returns-then-count-le-FEW-clause-looks t c =
     let two : 1 < length c.args.chunks.now = search rules in
-    let goes : c.reaches.result ≡ true = search rules in
-    let last = root_read listed c.args.levels c.args.chunks.now c.args.tops.now (level_some c.args.levels (length c.args.chunks.now) two c.requires.levels) c.args.query.now.from c.index-tops-middle.result true two c.requires.lengths c.requires.tree c.index-tops-middle.is (sym c.reaches.ensures ∙ goes) in
+    let last : any_lasts (all_listed c.args.chunks.now) c.args.query.now.from ≡ true = search rules in
     let cost = few_chunks_paid c.args.levels c.args.depth (length c.args.chunks.now) (reached (all_listed c.args.chunks.now) c.args.query.now) (reached_some (all_listed c.args.chunks.now) c.args.query.now last) (few_levels c.args.levels (length c.args.chunks.now) two (search rules) c.requires.levels) in
     omega (arith, cost, c.tick.ensures, c.scan_chunks-then-count-le-FEW.ensures.looks)
 
@@ -42,11 +39,9 @@ search_chunks-requires t c =
     let two : 1 < length c.args.chunks.now = search rules in
     let more : 4 < length c.args.chunks.now = search rules in
     let level : 0 < c.args.levels = level_some c.args.levels (length c.args.chunks.now) two c.requires.levels in
-    let lower : c.args.levels + c.args.depth - 1 ≡ c.args.levels - 1 + c.args.depth = omega (arith, level) in
-    let goes : c.reaches.result ≡ true = search rules in
-    let last = root_read listed c.args.levels c.args.chunks.now c.args.tops.now level c.args.query.now.from c.index-tops-middle.result true two c.requires.lengths c.requires.tree c.index-tops-middle.is (sym c.reaches.ensures ∙ goes) in
+    let last : any_lasts (all_listed c.args.chunks.now) c.args.query.now.from ≡ true = search rules in
     let whole = both_halves c.args.chunks.now c.split_at.result.0.now c.split_at.result.1.now (length c.args.chunks.now / 2) c.split_at.ensures.front c.split_at.ensures.back in
-    let cost = rw lower at (looks_left (all_listed c.args.chunks.now) (all_listed c.split_at.result.0.now) (all_listed c.split_at.result.1.now) c.args.query.now whole (c.args.levels + c.args.depth) (omega (arith, level)) last) in (
+    let cost = left_paid c.args.chunks.now c.split_at.result.0.now c.split_at.result.1.now c.args.query.now c.args.levels c.args.depth whole level last in (
       search rules,
       (
         rw c.split_at.ensures.front (each_taken IsChunk (length c.args.chunks.now / 2) c.args.chunks.now c.requires.chunks),
@@ -70,10 +65,9 @@ pub returns-in_err-search_chunks-clause-looks : goal.returns-in_err-search_chunk
 returns-in_err-search_chunks-clause-looks t c =
     let two : 1 < length c.args.chunks.now = search rules in
     let level : 0 < c.args.levels = level_some c.args.levels (length c.args.chunks.now) two c.requires.levels in
-    let lower : c.args.levels + c.args.depth - 1 ≡ c.args.levels - 1 + c.args.depth = omega (arith, level) in
-    let goes : c.reaches.result ≡ true = search rules in
-    let last = root_read listed c.args.levels c.args.chunks.now c.args.tops.now level c.args.query.now.from c.index-tops-middle.result true two c.requires.lengths c.requires.tree c.index-tops-middle.is (sym c.reaches.ensures ∙ goes) in
-    let cost = rw lower at (looks_left (all_listed c.args.chunks.now) (all_listed c.split_at.result.0.now) (all_listed c.split_at.result.1.now) c.args.query.now (both_halves c.args.chunks.now c.split_at.result.0.now c.split_at.result.1.now (length c.args.chunks.now / 2) c.split_at.ensures.front c.split_at.ensures.back) (c.args.levels + c.args.depth) (omega (arith, level)) last) in
+    let last : any_lasts (all_listed c.args.chunks.now) c.args.query.now.from ≡ true = search rules in
+    let whole = both_halves c.args.chunks.now c.split_at.result.0.now c.split_at.result.1.now (length c.args.chunks.now / 2) c.split_at.ensures.front c.split_at.ensures.back in
+    let cost = left_paid c.args.chunks.now c.split_at.result.0.now c.split_at.result.1.now c.args.query.now c.args.levels c.args.depth whole level last in
     omega (arith, cost, c.tick.ensures, c.search_chunks.ensures.looks)
 
 pub returns-then-branch-clause-found : goal.returns-then-branch-clause-found
@@ -85,10 +79,9 @@ pub returns-then-branch-clause-looks : goal.returns-then-branch-clause-looks
 returns-then-branch-clause-looks t c =
     let two : 1 < length c.args.chunks.now = search rules in
     let level : 0 < c.args.levels = level_some c.args.levels (length c.args.chunks.now) two c.requires.levels in
-    let lower : c.args.levels + c.args.depth - 1 ≡ c.args.levels - 1 + c.args.depth = omega (arith, level) in
-    let goes : c.reaches.result ≡ true = search rules in
-    let last = root_read listed c.args.levels c.args.chunks.now c.args.tops.now level c.args.query.now.from c.index-tops-middle.result true two c.requires.lengths c.requires.tree c.index-tops-middle.is (sym c.reaches.ensures ∙ goes) in
-    let cost = rw lower at (looks_left (all_listed c.args.chunks.now) (all_listed c.split_at.result.0.now) (all_listed c.split_at.result.1.now) c.args.query.now (both_halves c.args.chunks.now c.split_at.result.0.now c.split_at.result.1.now (length c.args.chunks.now / 2) c.split_at.ensures.front c.split_at.ensures.back) (c.args.levels + c.args.depth) (omega (arith, level)) last) in
+    let last : any_lasts (all_listed c.args.chunks.now) c.args.query.now.from ≡ true = search rules in
+    let whole = both_halves c.args.chunks.now c.split_at.result.0.now c.split_at.result.1.now (length c.args.chunks.now / 2) c.split_at.ensures.front c.split_at.ensures.back in
+    let cost = left_paid c.args.chunks.now c.split_at.result.0.now c.split_at.result.1.now c.args.query.now c.args.levels c.args.depth whole level last in
     omega (arith, cost, c.tick.ensures, c.search_chunks.ensures.looks)
 
 pub search_chunks-requires-2 : goal.search_chunks-requires-2
@@ -96,12 +89,10 @@ search_chunks-requires-2 t c =
     let two : 1 < length c.args.chunks.now = search rules in
     let more : 4 < length c.args.chunks.now = search rules in
     let level : 0 < c.args.levels = level_some c.args.levels (length c.args.chunks.now) two c.requires.levels in
-    let lower : c.args.levels + c.args.depth - 1 ≡ c.args.levels - 1 + c.args.depth = omega (arith, level) in
-    let goes : c.reaches.result ≡ true = search rules in
-    let last = root_read listed c.args.levels c.args.chunks.now c.args.tops.now level c.args.query.now.from c.index-tops-middle.result true two c.requires.lengths c.requires.tree c.index-tops-middle.is (sym c.reaches.ensures ∙ goes) in
+    let last : any_lasts (all_listed c.args.chunks.now) c.args.query.now.from ≡ true = search rules in
     let whole = both_halves c.args.chunks.now c.split_at.result.0.now c.split_at.result.1.now (length c.args.chunks.now / 2) c.split_at.ensures.front c.split_at.ensures.back in
     let early : any_late (all_listed c.split_at.result.0.now) c.args.query.now ≡ false = search rules in
-    let cost = rw lower at (looks_both (all_listed c.args.chunks.now) (all_listed c.split_at.result.0.now) (all_listed c.split_at.result.1.now) c.args.query.now whole (c.args.levels + c.args.depth) (omega (arith, level)) last early) in (
+    let cost = both_paid c.args.chunks.now c.split_at.result.0.now c.split_at.result.1.now c.args.query.now c.args.levels c.args.depth whole level last early in (
       search rules,
       (
         rw c.split_at.ensures.back (each_left IsChunk (length c.args.chunks.now / 2) c.args.chunks.now c.requires.chunks),
@@ -125,9 +116,8 @@ pub returns-clause-looks : goal.returns-clause-looks
 returns-clause-looks t c =
     let two : 1 < length c.args.chunks.now = search rules in
     let level : 0 < c.args.levels = level_some c.args.levels (length c.args.chunks.now) two c.requires.levels in
-    let lower : c.args.levels + c.args.depth - 1 ≡ c.args.levels - 1 + c.args.depth = omega (arith, level) in
-    let goes : c.reaches.result ≡ true = search rules in
-    let last = root_read listed c.args.levels c.args.chunks.now c.args.tops.now level c.args.query.now.from c.index-tops-middle.result true two c.requires.lengths c.requires.tree c.index-tops-middle.is (sym c.reaches.ensures ∙ goes) in
+    let last : any_lasts (all_listed c.args.chunks.now) c.args.query.now.from ≡ true = search rules in
     let early : any_late (all_listed c.split_at.result.0.now) c.args.query.now ≡ false = search rules in
-    let cost = rw lower at (looks_both (all_listed c.args.chunks.now) (all_listed c.split_at.result.0.now) (all_listed c.split_at.result.1.now) c.args.query.now (both_halves c.args.chunks.now c.split_at.result.0.now c.split_at.result.1.now (length c.args.chunks.now / 2) c.split_at.ensures.front c.split_at.ensures.back) (c.args.levels + c.args.depth) (omega (arith, level)) last early) in
+    let whole = both_halves c.args.chunks.now c.split_at.result.0.now c.split_at.result.1.now (length c.args.chunks.now / 2) c.split_at.ensures.front c.split_at.ensures.back in
+    let cost = both_paid c.args.chunks.now c.split_at.result.0.now c.split_at.result.1.now c.args.query.now c.args.levels c.args.depth whole level last early in
     omega (arith, cost, c.tick.ensures, c.search_chunks.ensures.looks, c.search_chunks-2.ensures.looks)

@@ -1,38 +1,35 @@
-use Rattle.std.proofs.Common.{rules, ◌≡◌, ◌<◌, length, true, false, sym, ◌∙◌, arith}
+use Rattle.std.proofs.Common.{rules, ◌≡◌, ◌<◌, length, true, false, sym, arith}
 use Rattle.std.proofs.lemmas.List.{append-nil}
 use Rattle.adr_index.specs.Query.{any_late}
+use Rattle.adr_index.specs.Tree.{any_lasts}
 use Rattle.adr_index.specs.Tree.{only}
-use Rattle.adr_index.proofs.Grown.{entries_read, few_levels, level_some, left_short, right_short, tree_at}
+use Rattle.adr_index.proofs.Grown.{few_levels, level_some, left_short, right_short, tree_at}
 use Rattle.adr_index.proofs.Searched.{none_last, none_late_last, found_left, looks_left, looks_both, looks_few, starts_left, starts_right}
 use Rattle.adr_index.proofs.tree.+search.Goals as goal
 
-pub returns-then-not-reaches-clause-found : goal.returns-then-not-reaches-clause-found
-returns-then-not-reaches-clause-found t c =
+pub returns-then-not-any_reaches-clause-found : goal.returns-then-not-any_reaches-clause-found
+returns-then-not-any_reaches-clause-found t c =
     let two : 1 < length c.args.entries.now = search rules in
-    let out : c.reaches.result ≡ false = search rules in
-    let none = entries_read c.args.levels c.args.entries.now c.args.greatest.now c.args.query.now.from c.index-greatest-middle.result false (level_some c.args.levels (length c.args.entries.now) two c.requires.levels) two c.requires.lengths c.requires.tree c.index-greatest-middle.is (sym c.reaches.ensures ∙ out) in
+    let none : any_lasts c.args.entries.now c.args.query.now.from ≡ false = search rules in
     rw (none_last c.args.entries.now c.args.query.now none) (sym (append-nil c.args.found.now.items))
 
-pub returns-then-not-reaches-clause-late : goal.returns-then-not-reaches-clause-late
-returns-then-not-reaches-clause-late t c =
+pub returns-then-not-any_reaches-clause-late : goal.returns-then-not-any_reaches-clause-late
+returns-then-not-any_reaches-clause-late t c =
     let two : 1 < length c.args.entries.now = search rules in
-    let out : c.reaches.result ≡ false = search rules in
-    let none = entries_read c.args.levels c.args.entries.now c.args.greatest.now c.args.query.now.from c.index-greatest-middle.result false (level_some c.args.levels (length c.args.entries.now) two c.requires.levels) two c.requires.lengths c.requires.tree c.index-greatest-middle.is (sym c.reaches.ensures ∙ out) in
+    let none : any_lasts c.args.entries.now c.args.query.now.from ≡ false = search rules in
     sym (none_late_last c.args.entries.now c.args.query.now none)
 
 pub scan-requires-then-count-le-FEW-clause-room : goal.scan-requires-then-count-le-FEW-clause-room
 scan-requires-then-count-le-FEW-clause-room t c =
     let two : 1 < length c.args.entries.now = search rules in
-    let goes : c.reaches.result ≡ true = search rules in
-    let last = entries_read c.args.levels c.args.entries.now c.args.greatest.now c.args.query.now.from c.index-greatest-middle.result true (level_some c.args.levels (length c.args.entries.now) two c.requires.levels) two c.requires.lengths c.requires.tree c.index-greatest-middle.is (sym c.reaches.ensures ∙ goes) in
+    let last : any_lasts c.args.entries.now c.args.query.now.from ≡ true = search rules in
     let cost = looks_few c.args.levels (length c.args.entries.now) c.args.entries.now c.args.query.now last (few_levels c.args.levels (length c.args.entries.now) two (search rules) c.requires.levels) in
     omega (arith, cost, c.tick.ensures, c.requires.room)
 
 pub returns-then-count-le-FEW-clause-looks : goal.returns-then-count-le-FEW-clause-looks
 returns-then-count-le-FEW-clause-looks t c =
     let two : 1 < length c.args.entries.now = search rules in
-    let goes : c.reaches.result ≡ true = search rules in
-    let last = entries_read c.args.levels c.args.entries.now c.args.greatest.now c.args.query.now.from c.index-greatest-middle.result true (level_some c.args.levels (length c.args.entries.now) two c.requires.levels) two c.requires.lengths c.requires.tree c.index-greatest-middle.is (sym c.reaches.ensures ∙ goes) in
+    let last : any_lasts c.args.entries.now c.args.query.now.from ≡ true = search rules in
     let cost = looks_few c.args.levels (length c.args.entries.now) c.args.entries.now c.args.query.now last (few_levels c.args.levels (length c.args.entries.now) two (search rules) c.requires.levels) in
     omega (arith, cost, c.tick.ensures, c.scan-then-count-le-FEW.ensures.looks)
 
@@ -41,8 +38,7 @@ search-requires t c =
     let two : 1 < length c.args.entries.now = search rules in
     let more : 4 < length c.args.entries.now = search rules in
     let level : 0 < c.args.levels = level_some c.args.levels (length c.args.entries.now) two c.requires.levels in
-    let goes : c.reaches.result ≡ true = search rules in
-    let last = entries_read c.args.levels c.args.entries.now c.args.greatest.now c.args.query.now.from c.index-greatest-middle.result true level two c.requires.lengths c.requires.tree c.index-greatest-middle.is (sym c.reaches.ensures ∙ goes) in
+    let last : any_lasts c.args.entries.now c.args.query.now.from ≡ true = search rules in
     let whole = c.split_at.ensures.by_index.0 in
     let cost = looks_left c.args.entries.now c.split_at.result.0.now c.split_at.result.1.now c.args.query.now whole c.args.levels level last in (
       search rules,
@@ -62,8 +58,7 @@ pub returns-in_err-search-clause-looks : goal.returns-in_err-search-clause-looks
 returns-in_err-search-clause-looks t c =
     let two : 1 < length c.args.entries.now = search rules in
     let level : 0 < c.args.levels = level_some c.args.levels (length c.args.entries.now) two c.requires.levels in
-    let goes : c.reaches.result ≡ true = search rules in
-    let last = entries_read c.args.levels c.args.entries.now c.args.greatest.now c.args.query.now.from c.index-greatest-middle.result true level two c.requires.lengths c.requires.tree c.index-greatest-middle.is (sym c.reaches.ensures ∙ goes) in
+    let last : any_lasts c.args.entries.now c.args.query.now.from ≡ true = search rules in
     let cost = looks_left c.args.entries.now c.split_at.result.0.now c.split_at.result.1.now c.args.query.now c.split_at.ensures.by_index.0 c.args.levels level last in
     omega (arith, cost, c.tick.ensures, c.search.ensures.looks)
 
@@ -76,8 +71,7 @@ pub returns-then-branch-clause-looks : goal.returns-then-branch-clause-looks
 returns-then-branch-clause-looks t c =
     let two : 1 < length c.args.entries.now = search rules in
     let level : 0 < c.args.levels = level_some c.args.levels (length c.args.entries.now) two c.requires.levels in
-    let goes : c.reaches.result ≡ true = search rules in
-    let last = entries_read c.args.levels c.args.entries.now c.args.greatest.now c.args.query.now.from c.index-greatest-middle.result true level two c.requires.lengths c.requires.tree c.index-greatest-middle.is (sym c.reaches.ensures ∙ goes) in
+    let last : any_lasts c.args.entries.now c.args.query.now.from ≡ true = search rules in
     let cost = looks_left c.args.entries.now c.split_at.result.0.now c.split_at.result.1.now c.args.query.now c.split_at.ensures.by_index.0 c.args.levels level last in
     omega (arith, cost, c.tick.ensures, c.search.ensures.looks)
 
@@ -86,8 +80,7 @@ search-requires-2 t c =
     let two : 1 < length c.args.entries.now = search rules in
     let more : 4 < length c.args.entries.now = search rules in
     let level : 0 < c.args.levels = level_some c.args.levels (length c.args.entries.now) two c.requires.levels in
-    let goes : c.reaches.result ≡ true = search rules in
-    let last = entries_read c.args.levels c.args.entries.now c.args.greatest.now c.args.query.now.from c.index-greatest-middle.result true level two c.requires.lengths c.requires.tree c.index-greatest-middle.is (sym c.reaches.ensures ∙ goes) in
+    let last : any_lasts c.args.entries.now c.args.query.now.from ≡ true = search rules in
     let whole = c.split_at.ensures.by_index.0 in
     let early : any_late c.split_at.result.0.now c.args.query.now ≡ false = search rules in
     let cost = looks_both c.args.entries.now c.split_at.result.0.now c.split_at.result.1.now c.args.query.now whole c.args.levels level last early in (
@@ -108,8 +101,7 @@ pub returns-clause-looks : goal.returns-clause-looks
 returns-clause-looks t c =
     let two : 1 < length c.args.entries.now = search rules in
     let level : 0 < c.args.levels = level_some c.args.levels (length c.args.entries.now) two c.requires.levels in
-    let goes : c.reaches.result ≡ true = search rules in
-    let last = entries_read c.args.levels c.args.entries.now c.args.greatest.now c.args.query.now.from c.index-greatest-middle.result true level two c.requires.lengths c.requires.tree c.index-greatest-middle.is (sym c.reaches.ensures ∙ goes) in
+    let last : any_lasts c.args.entries.now c.args.query.now.from ≡ true = search rules in
     let early : any_late c.split_at.result.0.now c.args.query.now ≡ false = search rules in
     let cost = looks_both c.args.entries.now c.split_at.result.0.now c.split_at.result.1.now c.args.query.now c.split_at.ensures.by_index.0 c.args.levels level last early in
     omega (arith, cost, c.tick.ensures, c.search.ensures.looks, c.search-2.ensures.looks)
