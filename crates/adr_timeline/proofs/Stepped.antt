@@ -1,5 +1,5 @@
 -- Steps of one entry, and the segments of a list of steps.
-use Rattle.std.proofs.Common.{◌≡◌, ℕ, ◌+◌, ◌*◌, ◌-◌, ◌/◌, ◌<◌, ◌≤◌, not, ◌&&◌, Bool, true, false, List, [], ◌∷◌, ◌++◌, length, take, drop, Option, Some, None, filter, inl, inr, if◌then◌else◌, refl, sym, ◌∙◌, ap, arith, ℤ, ◌≤ℤ◌, int_le, int_lt}
+use Rattle.std.proofs.Common.{◌≡◌, ℕ, ◌+◌, ◌*◌, ◌-◌, ◌<◌, ◌≤◌, not, ◌&&◌, Bool, true, false, List, [], ◌∷◌, ◌++◌, length, take, drop, Option, Some, None, filter, inl, inr, if◌then◌else◌, refl, sym, ◌∙◌, ap, arith, ℤ, ◌≤ℤ◌, int_le, int_lt}
 use Rattle.std.specs.Option.{option_map}
 use Rattle.std.proofs.Math.Nat.{mul-le-mul_left}
 use Rattle.std.proofs.lemmas.List.{length-take-le, length-drop, take-append-drop}
@@ -213,7 +213,7 @@ covering_meeting (e ∷ es) w t c =
     ∙ ap (λ (fs : List Entry). if covers e.span t then e ∷ fs else fs) (covering_meeting es w t c)
 
 -- inside the window they win as all entries do
-winner_meeting : (es : List Entry) (w : Span) (t : ℤ) → (if covers w t then winner_at (meeting es w) t else None) ≡ (if covers w t then winner_at es t else None)
+pub winner_meeting : (es : List Entry) (w : Span) (t : ℤ) → (if covers w t then winner_at (meeting es w) t else None) ≡ (if covers w t then winner_at es t else None)
 winner_meeting es w t = elim (cases_Bool (covers w t)) [
   | inl c ↦ rw (c, covering_meeting es w t c)
   | inr c ↦ rw c
@@ -224,11 +224,11 @@ winner_meeting es w t = elim (cases_Bool (covers w t)) [
 pub build_canonical : (steps : List Step) (new : List Segment) (w : Span) → IsInOrder steps → new ≡ joined_all [] (part (Some w.start) w.end (pieces steps)) → IsCanonical new
 build_canonical steps new w o n = (clip_made (pieces steps) new w (pieces_spread steps o) n).canonical
 
-pub build_shows : (es found : List Entry) (steps : List Step) (new : List Segment) (w : Span) → found ≡ meeting es w → IsInOrder steps → ((t : ℤ) → rank_from None steps t ≡ rank_at found t) → new ≡ joined_all [] (part (Some w.start) w.end (pieces steps)) → (t : ℤ) → shows new t ≡ (if covers w t then winner_at es t else None)
-build_shows es found steps new w f o r n t =
+pub build_shows : (es : List Entry) (steps : List Step) (new : List Segment) (w : Span) → IsInOrder steps → ((t : ℤ) → rank_from None steps t ≡ rank_at es t) → new ≡ joined_all [] (part (Some w.start) w.end (pieces steps)) → (t : ℤ) → shows new t ≡ (if covers w t then winner_at es t else None)
+build_shows es steps new w o r n t =
     let made = clip_made (pieces steps) new w (pieces_spread steps o) n in
-    let wins : winner_in (pieces steps) t ≡ winner_at (meeting es w) t = pieces_show steps t o ∙ (ap (option_map winner_of_rank) (r t) ∙ (winner_rank found t ∙ ap (λ (xs : List Entry). winner_at xs t) f)) in
-    made.shown t ∙ (rw wins (winner_meeting es w t))
+    let wins : winner_in (pieces steps) t ≡ winner_at es t = pieces_show steps t o ∙ (ap (option_map winner_of_rank) (r t) ∙ winner_rank es t) in
+    made.shown t ∙ (rw wins refl)
 
 -- ---- the steps of both halves, one after the other
 

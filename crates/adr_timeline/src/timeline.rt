@@ -1,5 +1,5 @@
 //! Timelines.
-ghost use Rattle.std.specs.Prelude.{◌≡◌, ◌&&◌, ◌++◌, List, length, IsTrue, true, drop, ◌+◌, ◌<◌, ◌≤◌, ◌^◌, ℤ, [], if◌then◌else◌, None, IfOk};
+ghost use Rattle.std.specs.Prelude.{◌≡◌, ◌&&◌, ◌++◌, List, length, IsTrue, true, drop, ◌+◌, ◌*◌, ◌<◌, ◌≤◌, ◌^◌, ℤ, [], if◌then◌else◌, None, IfOk};
 ghost use Rattle.std.specs.Option.{option_map};
 ghost use Rattle.adr_value.specs.Answer.{OnlyNoMemory};
 ghost use Rattle.adr_value.specs.Copy.{IsCopyOf};
@@ -65,6 +65,18 @@ fn meeting(alloc: Global, entries: &[Entry], window: &Span) -> Result<Vec<Entry>
         .collect(alloc)
 }
 
+/// Whether every entry meets the window.
+fn all_meet(entries: &[Entry], window: &Span) -> bool
+    ensures { result ≡ true → meeting entries.now window.now ≡ entries.now }
+{
+    for entry in entries {
+        if !meets(&entry.span, window) {
+            return false;
+        }
+    }
+    true
+}
+
 /// The timeline of a canonical line.
 fn timeline_of(most: usize, line: Line) -> Result<Timeline, Refusal>
     requires { IsCanonical line }
@@ -109,7 +121,7 @@ impl Timeline {
     ///
     /// Ranks are compared by `before` alone, which counts each comparison. `NoMemory` where there is no room. Cost:
     /// for k entries that meet the window at most about k log k steps, in two lists that are taken once, and about k
-    /// where each entry ends before the next one starts.
+    /// where each entry ends before the next one starts. They are copied where some entry does not meet it.
     pub fn build(
         alloc: Global,
         entries: &[Entry],
@@ -122,8 +134,27 @@ impl Timeline {
         ensures compared { meter.new ≤ meter.old + most_compared entries.now window }
         ensures refused { OnlyNoMemory result }
     {
+        if all_meet(entries, &window) {
+            return Timeline::of(alloc, entries, window, meter);
+        }
         let found = meeting(alloc, entries, &window)?;
-        let steps = ranked(alloc, &found, meter)?;
+        Timeline::of(alloc, &found, window, meter)
+    }
+
+    /// The timeline of the least of the entries at each instant inside the window, whether they meet it or not.
+    fn of(
+        alloc: Global,
+        entries: &[Entry],
+        window: Span,
+        meter: &mut Meter,
+    ) -> Result<Timeline, Refusal>
+        requires { meter.old + length entries.now * (2 * length entries.now + 1) < 2 ^ 128 }
+        ensures canonical { IfOk result (λ timeline. IsCanonical timeline) }
+        ensures shows { IfOk result (λ timeline. (t : ℤ) → shows timeline t ≡ (if covers window t then winner_at entries.now t else None)) }
+        ensures compared { meter.new ≤ meter.old + length entries.now * (2 * length entries.now + 1) }
+        ensures refused { OnlyNoMemory result }
+    {
+        let steps = ranked(alloc, entries, meter)?;
         let mut line = Line::new(alloc, MOST_IN_CHUNK);
         join_steps(&mut line, &steps, window)?;
         timeline_of(MOST_IN_CHUNK, line)

@@ -1,4 +1,4 @@
-use Rattle.std.proofs.Common.{rules, ◌++◌, ◌∙◌, ◌≤◌, ◌/◌, ◌^◌, List, length, refl, ap, sym}
+use Rattle.std.proofs.Common.{rules, ◌++◌, ◌∙◌, ◌^◌, List, length, ap, sym}
 use Rattle.adr_timeline.specs.declared.step.Step.{Step}
 use Rattle.std.proofs.lemmas.Result.{on_ok_weaker}
 use Rattle.adr_timeline.proofs.Runs.{run_added}
