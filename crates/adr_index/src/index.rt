@@ -27,8 +27,9 @@ use std::marker::Model;
 ///
 /// No two entries have one written number and place. An entry whose span covers no moment is kept, and never found.
 ///
-/// They lie in chunks of at most 64. An edit goes to one chunk, found by halving, and writes the tree of greatest ends
-/// over the chunks anew: with n entries a step for each of some n/64 chunks.
+/// They lie in chunks of at most 64. An edit goes to one chunk, found by halving, and writes what the tree of greatest
+/// ends has over that chunk. Where a chunk is parted or emptied, all of the tree is written anew: with n entries a step
+/// for each of some n/48 chunks.
 #[derive(Drop)]
 pub struct Index {
     table: Table,
@@ -210,7 +211,7 @@ impl Index {
     }
 
     /// Makes room for that many more entries. `NoMemory` where it isn't there; then nothing is changed. As each new
-    /// entry may part a full chunk, it keeps an empty chunk ready for each, of some 16 KiB; those that were not used
+    /// entry may part a full chunk, it keeps an empty chunk ready for each, of some 8 KiB; those that were not used
     /// serve the next call.
     pub fn reserve(&mut self, more: usize) -> Result<(), Refusal>
         ensures entries { self.new.entries ≡ self.old.entries }
@@ -239,7 +240,7 @@ impl Index {
     }
 
     /// Adds an entry in its place. `NoMemory` where there is no room; then the list is as it was. With room to spare
-    /// it is never refused. Cost: some 64 steps in its chunk, and a step for each chunk.
+    /// it is never refused. Cost: some 64 steps in its chunk, and where that is parted a step for each chunk.
     pub fn insert(&mut self, entry: Entry) -> Result<(), Refusal>
         requires { list_any (is_entry entry.rank.written entry.rank.place) self.old.entries ≡ false }
         ensures ok { OnOk result (self.new.entries ≡ inserted entry self.old.entries) }
@@ -257,7 +258,7 @@ impl Index {
 
     /// Takes out what stands in the place of an old entry, with its start, written number and place, and adds the new
     /// ones, as when an event is written again. It takes no memory. Cost: for each entry of both some 64 steps in its
-    /// chunk, and once a step for each chunk.
+    /// chunk, and once a step for each chunk where one is parted or emptied.
     pub fn replace(&mut self, old: &[Entry], new: &[Entry])
         requires room { length new.now ≤ self.old.spare }
         requires fresh { AreNew new.now (others_all old.now self.old.entries) }

@@ -1,11 +1,12 @@
 //! An index over few entries, and over many.
-ghost use Rattle.std.specs.Prelude.{◌≡◌, length};
+ghost use Rattle.std.specs.Prelude.{◌≡◌, length, IfOk};
+ghost use Rattle.adr_part_tests.specs.Numbers.{AreRising};
 
 use crate::moments::at;
 use crate::spans::{endless, entry, span, tell_span};
 use adr_index::{Entry, Index};
 use adr_rule::Meter;
-use adr_time::{Moment, Span, covers as covers_moment, meets};
+use adr_time::{End, Moment, Span, covers as covers_moment, meets};
 use adr_value::Refusal;
 use std::alloc::Global;
 use std::test::Fail;
@@ -298,5 +299,75 @@ fn many_edits_are_answered_as_by_a_plain_list(rt: HostRuntime) -> Result<(), Fai
     drop(plain);
     drop(index);
     assert!(rt; are_alike? && is_empty);
+    Ok(())
+}
+
+/// So many entries in no order, each with a written number of its own, over so many moments.
+fn random_entries(alloc: Global, count: u32, among: u64) -> Result<Vec<Entry>, Refusal>
+    ensures { IfOk result (λ entries. AreRising 0 entries.items) }
+{
+    let mut entries = Vec::new(alloc);
+    let mut seed = 7;
+    for number in 0..count {
+        let start = i128::from(next(&mut seed) % among.max(1));
+        let length = i128::from(next(&mut seed) % 30);
+        let window = Span {
+            start: at(start),
+            end: End::At(at(start + length)),
+        };
+        let added = entry(0, u64::from(number), window);
+        entries.push(added)?;
+    }
+    Ok(entries)
+}
+
+/// The same in a plain list, each put in its place.
+fn listed(alloc: Global, entries: &[Entry]) -> Result<Vec<Entry>, Refusal> {
+    let mut plain = Vec::new(alloc);
+    for entry in entries {
+        let place = plain.partition_point(|other| comes_before(other, entry));
+        plain.insert(place, *entry)?;
+    }
+    Ok(plain)
+}
+
+/// Whether the index has as many entries as the plain list, and answers alike many times.
+fn is_alike(alloc: Global, index: &Index, plain: &[Entry]) -> Result<bool, Refusal> {
+    let mut seed = 3;
+    for _ in 0..40 {
+        if !answers_alike(alloc, index, plain, &mut seed)? {
+            return Ok(false);
+        }
+    }
+    Ok(index.len() == plain.len())
+}
+
+/// Whether an index that is filled at once answers as the plain list does.
+fn fills_alike(alloc: Global, count: u32, among: u64) -> Result<bool, Refusal> {
+    let entries = random_entries(alloc, count, among)?;
+    let plain = listed(alloc, &entries)?;
+    let index = Index::of(alloc, entries)?;
+    let is_alike = is_alike(alloc, &index, &plain);
+    drop(index);
+    drop(plain);
+    is_alike
+}
+
+/// Of fewer entries than a chunk takes, of as many and more, and of entries that start together.
+#[test]
+fn entries_that_fill_an_index_are_answered_as_by_a_plain_list(rt: HostRuntime) -> Result<(), Fail> {
+    let sizes = [
+        (0, 1),
+        (1, 1),
+        (47, 20),
+        (48, 20),
+        (49, 500),
+        (130, 3),
+        (1000, 500),
+        (1000, 5),
+    ];
+    for (count, among) in sizes {
+        assert!(rt; fills_alike(rt.alloc(), count, among)?);
+    }
     Ok(())
 }

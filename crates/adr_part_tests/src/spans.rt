@@ -1,4 +1,6 @@
 //! Spans and entries: how they are told, which moments a span covers, and which spans meet.
+ghost use Rattle.std.specs.Prelude.{◌≡◌};
+
 use crate::moments::{LAST, at};
 use adr_model::{Entry, Rank};
 use adr_time::{End, Moment, Span, covers, meets};
@@ -19,7 +21,9 @@ pub(crate) fn endless(start: i128) -> Span {
 }
 
 /// An entry at place 0.
-pub(crate) fn entry(priority: u64, written: u64, span: Span) -> Entry {
+pub(crate) fn entry(priority: u64, written: u64, span: Span) -> Entry
+    ensures { result.rank.written ≡ written }
+{
     let rank = Rank {
         priority,
         late: 0,
