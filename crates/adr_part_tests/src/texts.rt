@@ -64,9 +64,16 @@ fn has(list: &BoundedVec<Text, 2>, first: &str, second: &str) -> bool {
     }
 }
 
+fn has_one(list: &BoundedVec<Text, 2>, only: &str) -> bool {
+    match list.as_slice() {
+        [a] => a.as_str() == only && list.len() == 1,
+        _ => false,
+    }
+}
+
 fn is_list_copied(list: &BoundedVec<Text, 2>) -> Result<bool, Refusal> {
     let copy = list.copy()?;
-    Ok(copy.len() == 2 && has(&copy, "a", "b") && copy.into_vec().len() == 2)
+    Ok(copy.len() == 2 && has(&copy, "a", "b"))
 }
 
 fn are_listed(alloc: Global) -> Result<bool, Refusal> {
@@ -80,10 +87,22 @@ fn are_listed(alloc: Global) -> Result<bool, Refusal> {
     is_copied
 }
 
+/// Whether a list of one has its element, and its copy too.
+fn is_one_listed(alloc: Global) -> Result<bool, Refusal> {
+    let texts = vec![in alloc; Text::new(alloc, "a")?]?;
+    if texts.len() > 2 {
+        return Ok(false);
+    }
+    let list: BoundedVec<Text, 2> = BoundedVec::from_vec(texts);
+    let copy = list.copy()?;
+    Ok(has_one(&list, "a") && has_one(&copy, "a"))
+}
+
 #[test]
 fn lists_are_copied_in_order(rt: HostRuntime) -> Result<(), Fail> {
     let empty: BoundedVec<Text, 2> = BoundedVec::new(rt.alloc());
     assert!(rt; empty.is_empty());
+    assert!(rt; is_one_listed(rt.alloc())?);
     assert!(rt; are_listed(rt.alloc())?);
     Ok(())
 }

@@ -4,6 +4,7 @@ pub mod Body
 pub mod Copy
 pub mod Digits
 pub mod Faults
+pub mod Items
 pub mod Limits
 pub mod Names
 pub mod Number

@@ -1,44 +1,66 @@
 //! Lists with a limit on their length.
-ghost use Rattle.std.specs.Prelude.{◌≡◌, ◌≤◌, ◌==◌, [], length};
+ghost use Rattle.std.specs.Prelude.{◌≡◌, ◌≤◌, ◌==◌, [], length, IfOk};
+ghost use Rattle.adr_value.specs.Answer.{OnlyNoMemory};
 ghost use Rattle.adr_value.specs.Copy.{IsCopyOf};
 
 use crate::refusal::Refusal;
 use crate::try_clone::TryClone;
 use std::alloc::Global;
 use std::marker::Model;
+use std::slice;
 
-/// A list of at most `LIMIT` elements, which contracts see as its elements in order.
+/// One element in place, as most lists of payloads and values have it, or any number in a vector.
+#[derive(Drop, Debug)]
+pub(crate) enum Items<T> {
+    One(T),
+    Many(Vec<T>),
+}
+
+/// A list of at most `LIMIT` elements, which contracts see as its elements in order. A list of one takes no memory of its
+/// own.
 #[derive(Drop, Debug)]
 pub struct BoundedVec<T, const LIMIT: usize> {
-    items: Vec<T>,
+    items: Items<T>,
 }
 
 impl<T, const LIMIT: usize> Model for BoundedVec<T, LIMIT> {
     ghost use Rattle.std.specs.Prelude.{List, length, ◌≤◌};
+    ghost use Rattle.adr_value.specs.Items.{items_of};
 
     ghost Value = { List T };
 
-    ghost view = { λ l. l.items.items };
+    ghost view = { λ l. items_of l.items };
 
-    ghost invariant = { λ l. length l.items.items ≤ LIMIT };
+    ghost invariant = { λ l. length (items_of l.items) ≤ LIMIT };
 }
 
-impl<T, const LIMIT: usize> BoundedVec<T, LIMIT> {
+impl<T: Drop, const LIMIT: usize> BoundedVec<T, LIMIT> {
     /// The empty list. It takes no memory before it is added to.
     pub fn new(alloc: Global) -> BoundedVec<T, LIMIT>
         ensures { result ≡ [] }
     {
         BoundedVec {
-            items: Vec::new(alloc),
+            items: Items::Many(Vec::new(alloc)),
         }
     }
 
-    /// The list of these elements, with no memory taken.
-    pub fn from_vec(items: Vec<T>) -> BoundedVec<T, LIMIT>
+    /// The list of these elements, with no memory taken and no room to spare.
+    pub fn from_vec(mut items: Vec<T>) -> BoundedVec<T, LIMIT>
         requires { length items.items ≤ LIMIT }
         ensures { result ≡ items.items }
     {
-        BoundedVec { items }
+        if items.len() != 1 {
+            items.shrink_to_fit();
+            return BoundedVec {
+                items: Items::Many(items),
+            };
+        }
+        match items.pop() {
+            Some(item) => BoundedVec {
+                items: Items::One(item),
+            },
+            None => unreachable!(),
+        }
     }
 
     /// The elements, in order.
@@ -46,7 +68,10 @@ impl<T, const LIMIT: usize> BoundedVec<T, LIMIT> {
         ensures value { result.now ≡ self.now }
         ensures limit { length self.now ≤ LIMIT }
     {
-        self.items.as_slice()
+        match &self.items {
+            Items::One(item) => slice::from_ref(item),
+            Items::Many(items) => items.as_slice(),
+        }
     }
 
     /// How many elements there are.
@@ -54,36 +79,41 @@ impl<T, const LIMIT: usize> BoundedVec<T, LIMIT> {
         ensures value { result ≡ length self.now }
         ensures limit { result ≤ LIMIT }
     {
-        self.items.len()
+        self.as_slice().len()
     }
 
     /// Whether there are no elements.
     pub fn is_empty(&self) -> bool
         ensures { result ≡ (length self.now == 0) }
     {
-        self.items.is_empty()
-    }
-
-    /// The vector of the elements, with no memory taken.
-    pub fn into_vec(self) -> Vec<T>
-        ensures { result.items ≡ self }
-    {
-        self.items
+        self.as_slice().is_empty()
     }
 }
 
 impl<T: TryClone, const LIMIT: usize> BoundedVec<T, LIMIT> {
     /// A list equal to this one, with a copy of each element. `NoMemory` where there is no room for it: one
-    /// growth for the list, and what the copies of the elements take.
+    /// growth for a list of more than one element, and what the copies of the elements take.
     pub fn copy(&self) -> Result<BoundedVec<T, LIMIT>, Refusal>
         ensures { IsCopyOf result self.now }
     {
-        let mut items = Vec::with_capacity(*self.items.allocator(), self.items.len())?;
-        for item in self.items.as_slice() {
-            items.push(item.try_clone()?)?;
-        }
+        let items = match &self.items {
+            Items::One(item) => Items::One(item.try_clone()?),
+            Items::Many(items) => Items::Many(copy_all(items)?),
+        };
         Ok(BoundedVec { items })
     }
+}
+
+/// A vector of copies of the elements, with no room to spare.
+fn copy_all<T: TryClone>(items: &Vec<T>) -> Result<Vec<T>, Refusal>
+    ensures items { IfOk result (λ copies. copies.items ≡ items.now.items) }
+    ensures refusal { OnlyNoMemory result }
+{
+    let mut copies = Vec::with_capacity(*items.allocator(), items.len())?;
+    for item in items.as_slice() {
+        copies.push(item.try_clone()?)?;
+    }
+    Ok(copies)
 }
 
 impl<T: TryClone, const LIMIT: usize> TryClone for BoundedVec<T, LIMIT> {
