@@ -226,7 +226,7 @@ impl Book {
     {
         let base = Base::of(self.alloc, at.objects.copy()?)?;
         self.base = base;
-        self.journal.condense(self.alloc);
+        self.journal.condense();
         Ok(self.base.version())
     }
 

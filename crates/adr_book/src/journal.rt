@@ -5,7 +5,7 @@ ghost use Rattle.adr_value.specs.Copy.{IsCopyOf};
 
 use crate::reserved::{make_room, push_within};
 use adr_object::Edit;
-use adr_store::Shared;
+use adr_shared::{Shared, SharedList};
 use adr_value::{Refusal, TryClone};
 use std::alloc::Global;
 use std::marker::Model;
@@ -37,7 +37,7 @@ impl Batch {
 
 /// The accepted edits in order: closed batches, one for each publication, and the edits since the last of them.
 pub struct Journal {
-    closed: Vec<Shared<Batch>>,
+    closed: SharedList<Shared<Batch>>,
     pending: Vec<Edit>,
 }
 
@@ -55,7 +55,7 @@ impl Model for Journal {
 
     ghost Value = { Batches };
 
-    ghost view = { λ j. record { closed = j.closed.items; pending = j.pending.items; room = vec_capacity j.pending - vec_len j.pending } };
+    ghost view = { λ j. record { closed = j.closed; pending = j.pending.items; room = vec_capacity j.pending - vec_len j.pending } };
 }
 
 impl Journal {
@@ -64,16 +64,16 @@ impl Journal {
         ensures pending { result.pending ≡ [] }
     {
         Journal {
-            closed: Vec::new(alloc),
+            closed: SharedList::new(),
             pending: Vec::new(alloc),
         }
     }
 
     /// The closed batches, the earliest first.
-    pub fn closed(&self) -> &[Shared<Batch>]
+    pub fn closed(&self) -> &SharedList<Shared<Batch>>
         ensures { result.now ≡ self.now.closed }
     {
-        self.closed.as_slice()
+        &self.closed
     }
 
     /// The edits since the last closed batch, in order.
@@ -102,7 +102,8 @@ impl Journal {
         push_within(&mut self.pending, edit);
     }
 
-    /// Closes the open batch. `NoMemory` leaves all as it was.
+    /// Closes the open batch. `NoMemory` leaves all as it was. Cost: an owner for each edit of the batch, and a path in
+    /// the tree of the batches.
     pub(crate) fn seal(&mut self, alloc: Global) -> Result<(), Refusal>
         ensures closed { OnOk result (self.new.closed ≡ self.old.closed ++ self.old.pending ∷ []) }
         ensures pending { OnOk result (self.new.pending ≡ []) }
@@ -110,36 +111,30 @@ impl Journal {
         ensures still_open { OnErr result (self.new.pending ≡ self.old.pending) }
         ensures refusal { OnlyNoMemory result }
     {
-        make_room(&mut self.closed)?;
-        let edits = mem::replace(&mut self.pending, Vec::new(alloc));
-        match Shared::share(alloc, Batch { edits }) {
-            Ok(batch) => {
-                push_within(&mut self.closed, batch);
-                Ok(())
-            }
-            Err(batch) => {
-                self.pending = batch.edits;
-                Err(Refusal::NoMemory)
-            }
-        }
+        let edits = copy_all(&self.pending)?;
+        let batch = Shared::new(alloc, Batch { edits })?;
+        let closed = self.closed.with(alloc, batch)?;
+        drop(mem::replace(&mut self.closed, closed));
+        drop(mem::replace(&mut self.pending, Vec::new(alloc)));
+        Ok(())
     }
 
     /// Lets the closed batches go.
-    pub(crate) fn condense(&mut self, alloc: Global)
+    pub(crate) fn condense(&mut self)
         ensures closed { self.new.closed ≡ [] }
         ensures pending { self.new.pending ≡ self.old.pending }
     {
-        self.closed = Vec::new(alloc);
+        drop(mem::replace(&mut self.closed, SharedList::new()));
     }
 
-    /// A journal of the same batches, which shares their edits.
+    /// A journal of the same batches, which shares their memory, and of the same open edits, one owner more for each.
     pub(crate) fn copy(&self) -> Result<Journal, Refusal>
         ensures closed { IfOk result (λ copy. copy.closed ≡ self.now.closed) }
         ensures pending { IfOk result (λ copy. copy.pending ≡ self.now.pending) }
         ensures refusal { OnlyNoMemory result }
     {
         Ok(Journal {
-            closed: copy_all(&self.closed)?,
+            closed: self.closed.copy()?,
             pending: copy_all(&self.pending)?,
         })
     }

@@ -7,7 +7,8 @@ mod journal;
 mod judging;
 mod reserved;
 
-pub use adr_store::{Shared, Store};
+pub use adr_shared::{Shared, SharedList};
+pub use adr_store::Store;
 pub use base::Base;
 pub use book::{Book, judge};
 pub use journal::{Batch, Journal};

@@ -5,8 +5,10 @@ ghost use Rattle.adr_value.specs.Answer.{Answers};
 ghost use Rattle.adr_value.specs.Copy.{IsCopyOf};
 ghost use Rattle.adr_object.specs.Id.{is_id_byte, is_id, id_named};
 
+use adr_shared::Key;
 use adr_value::{Refusal, Text, TryClone};
 use std::alloc::Global;
+use std::cmp::Ordering;
 use std::marker::Model;
 
 /// What an object is known by among those of its kind: 1 to 128 of `a-z A-Z 0-9 _ -` (OpenADR 3.0 Definition,
@@ -96,5 +98,13 @@ impl Id {
 impl TryClone for Id {
     fn try_clone(&self) -> Result<Id, Refusal> {
         self.copy()
+    }
+}
+
+impl Key for Id {
+    ghost code = { λ id. id };
+
+    fn compare(&self, other: &Id) -> Ordering {
+        self.text().cmp(other.text())
     }
 }

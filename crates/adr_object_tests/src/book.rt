@@ -63,7 +63,8 @@ fn edits_meet_the_least_fault(rt: HostRuntime) -> Result<(), Fail> {
 fn has_one_batch(book: &Book, closed: usize, pending: usize) -> bool {
     let journal = book.journal();
     journal.pending().len() == pending
-        && matches!(journal.closed(), [batch] if batch.get().edits().len() == closed)
+        && journal.closed().len() == 1
+        && matches!(journal.closed().at(0), Some(batch) if batch.get().edits().len() == closed)
 }
 
 /// Whether an accepted edit stands in the journal as one batch, and a refused one nowhere.

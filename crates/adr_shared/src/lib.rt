@@ -1,6 +1,13 @@
 #![tactic(auto)]
-//! Values that several owners share.
+//! Values that several owners share, and maps and lists of them whose copies share their memory.
 
+mod key;
+mod list;
+mod map;
 mod shared;
+mod tree;
 
+pub use key::Key;
+pub use list::SharedList;
+pub use map::{SharedMap, look_up_laws};
 pub use shared::Shared;

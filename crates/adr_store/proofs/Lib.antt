@@ -1,6 +1,6 @@
-pub mod Entries
 pub mod Times
+pub mod Rows
+pub mod Tables
 pub mod Found
 pub mod Counted
 pub mod Accepted
-pub mod Copies

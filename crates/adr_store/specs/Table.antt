@@ -1,34 +1,29 @@
--- A table of values, each under its own key, in the order in which they were added.
-use Rattle.std.specs.Prelude.{◌≡◌, ℕ, not, List, ⊤, [], ◌∷◌, map, filter, Option, if◌then◌else◌}
-use Rattle.std.specs.List.{find}
+-- A table of values, each found by its own id, in the order in which they were added.
+use Rattle.std.specs.Prelude.{◌≡◌, ℕ, not, List, [], ◌∷◌, map, filter, Option, option_map, if◌then◌else◌}
+use Rattle.std.specs.List.{IsDistinct, find}
+use Rattle.std.specs.Map.{values_of}
 use Rattle.std.specs.Str.{bytes_eq}
-use Rattle.std.specs.Prelude.{String}
-use Rattle.std.specs.String.{string_bytes, string_eq}
-use Rattle.indexmap.specs.IndexMap.{IndexMap, IsUnique}
+use Rattle.adr_shared.specs.Map.{lookup, AreBelow, IsAscending}
 
--- what a table shows: its values in order, and how many more it takes with no memory
-pub record Shelf (T : Type 0) : Type 0 where
-  pub items : List T
-  pub room : ℕ
-
--- each entry stands under the key of its value
-abbrev pub AllKeyed : {A T : Type 0} → (T → List ℕ) → List (String A × T) → Type 0
-AllKeyed key [] = ⊤
-AllKeyed key (e ∷ es) = (string_bytes e.0 ≡ key e.1) × AllKeyed key es
-
--- the value under the key
+-- the value with the id
 abbrev pub find_by : {T : Type 0} → (T → List ℕ) → List T → List ℕ → Option T
 find_by key items id = find (λ x. bytes_eq id (key x)) items
 
--- the list with x in the place of the values with that key
+-- the list with x in the place of the values with its id
 abbrev pub put_by : {T : Type 0} → (T → List ℕ) → List T → T → List T
 put_by key items x = map (λ y. if bytes_eq (key x) (key y) then x else y) items
 
--- the list without the values with that key
+-- the list without the values with the id
 abbrev pub without : {T : Type 0} → (T → List ℕ) → List T → List ℕ → List T
 without key items id = filter (λ x. not (bytes_eq id (key x))) items
 
--- each entry stands under the key of its value, and no key stands twice
-pub record IsTable {A T S : Type 0} (key : T → List ℕ) (m : IndexMap (String A) T S) : Type 0 where
-  pub keyed : AllKeyed key m.entries
-  pub unique : IsUnique string_eq m
+-- a row is a value under the code of the number that it got as it was added: the row of the value with the id
+abbrev pub row_by : {T : Type 0} → (T → List ℕ) → List (List ℕ × T) → List ℕ → Option (List ℕ × T)
+row_by key rows id = find (λ e. bytes_eq id (key e.1)) rows
+
+-- each id leads to the number of the value with it, no id stands twice, and all numbers are below the next
+pub record IsTable {T : Type 0} (key : T → List ℕ) (rows : List (List ℕ × T)) (numbers : List (List ℕ × ℕ)) (next : ℕ) : Type 0 where
+  pub found : (id : List ℕ) → option_map (λ n. n ∷ []) (lookup id numbers) ≡ option_map (λ e. e.0) (row_by key rows id)
+  pub distinct : IsDistinct bytes_eq (map key (values_of rows))
+  pub ordered : IsAscending rows
+  pub earlier : AreBelow next rows

@@ -5,10 +5,9 @@ ghost use Rattle.adr_model.specs.Edits.{entry_count as number_of_entries};
 
 use crate::counting::entry_count;
 use crate::table::Keyed;
-use adr_object::Event;
+use adr_object::{Event, Id};
 use adr_shared::Shared;
 use adr_value::{Refusal, TryClone};
-use std::alloc::Global;
 use std::marker::Model;
 
 /// An event, the number of the edit that last wrote it, and how many entries it has.
@@ -29,28 +28,6 @@ impl Model for Kept {
     ghost view = { λ k. record { event = k.event; written = k.written } };
 
     ghost invariant = { λ k. k.entries ≡ entry_count k.event };
-}
-
-/// What an event adds to the numbers: the program that it names, how many entries it has, and the number of its write.
-#[derive(Drop)]
-pub struct Note {
-    pub(crate) program: String,
-    pub(crate) entries: usize,
-    pub(crate) written: u64,
-    pub(crate) event: Shared<Event>,
-}
-
-impl Model for Note {
-    ghost use Rattle.std.specs.Prelude.{◌≡◌};
-    ghost use Rattle.std.specs.String.{string_bytes};
-    ghost use Rattle.adr_model.specs.declared.written.Written.{Written};
-    ghost use Rattle.adr_model.specs.Edits.{entry_count};
-
-    ghost Value = { Written };
-
-    ghost view = { λ n. record { event = n.event; written = n.written } };
-
-    ghost invariant = { λ n. (string_bytes n.program ≡ n.event.program_id) × (n.entries ≡ entry_count n.event) };
 }
 
 impl Kept {
@@ -83,16 +60,11 @@ impl Kept {
         self.entries
     }
 
-    /// What the event adds to the numbers that are kept of all events. It shares the event.
-    pub(crate) fn note(&self, alloc: Global) -> Result<Note, Refusal>
-        ensures { IsCopyOf result self.now }
+    /// One more owner of the event.
+    pub(crate) fn share(&self) -> Result<Shared<Event>, Refusal>
+        ensures { IsCopyOf result self.now.event }
     {
-        Ok(Note {
-            program: self.event.get().program_id.text().to_string(alloc)?,
-            entries: self.entries,
-            written: self.written,
-            event: self.event.copy()?,
-        })
+        self.event.copy()
     }
 }
 
@@ -109,7 +81,7 @@ impl TryClone for Kept {
 impl Keyed for Kept {
     ghost key = { λ w. w.event.id };
 
-    fn key(&self) -> &str {
-        self.event.get().id.text()
+    fn id(&self) -> &Id {
+        &self.event.get().id
     }
 }

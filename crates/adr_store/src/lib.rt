@@ -10,7 +10,6 @@ mod resources;
 mod store;
 mod table;
 mod tally;
-mod writes;
 
 pub use adr_shared::Shared;
 pub use counting::entry_count;

@@ -1,9 +1,8 @@
 //! The resources in order of creation, and how many name each ven.
-ghost use Rattle.std.specs.Prelude.{◌≡◌, ◌++◌, ◌∷◌, [], ◌<◌, ◌≤◌, not, filter, length, slice_get, IsSome, None, OnOk, OnErr};
+ghost use Rattle.std.specs.Prelude.{◌≡◌, ◌++◌, ◌∷◌, [], ◌<◌, ◌≤◌, not, filter, length, slice_get, is_some, IsSome, IfSome, None};
 ghost use Rattle.std.specs.List.{list_any};
 ghost use Rattle.std.specs.Option.{option_copied};
 ghost use Rattle.std.specs.Str.{bytes_eq};
-ghost use Rattle.adr_value.specs.Answer.{OnlyNoMemory};
 ghost use Rattle.adr_value.specs.Copy.{IsCopyOf};
 ghost use Rattle.adr_model.specs.Edits.{put_at};
 ghost use Rattle.adr_store.specs.Table.{find_by};
@@ -17,23 +16,13 @@ use adr_value::limits::MOST_RESOURCES;
 use std::alloc::Global;
 use std::marker::Model;
 
-/// The resources in order of creation.
+/// The resources in order of creation. No edit changes them: it answers new ones, which share with the old all but some
+/// paths.
+#[derive(Drop)]
 pub(crate) struct Resources {
     table: Table<Shared<Resource>>,
     owners: Tally,
     alloc: Global,
-}
-
-impl Drop for Resources {
-    fn drop(self) {
-        let Resources {
-            table,
-            owners,
-            alloc: _,
-        } = self;
-        drop(table);
-        drop(owners);
-    }
 }
 
 impl Model for Resources {
@@ -43,9 +32,9 @@ impl Model for Resources {
 
     ghost Value = { List OneResource };
 
-    ghost view = { λ r. r.table.items };
+    ghost view = { λ r. r.table };
 
-    ghost invariant = { λ r. IsOwned r.table.items r.owners.counts };
+    ghost invariant = { λ r. IsOwned r.table r.owners.counts };
 }
 
 impl Resources {
@@ -54,7 +43,7 @@ impl Resources {
     {
         Resources {
             table: Table::new(alloc),
-            owners: Tally::new(alloc),
+            owners: Tally::new(),
             alloc,
         }
     }
@@ -68,7 +57,7 @@ impl Resources {
     pub(crate) fn get(&self, id: &Id) -> Option<&Resource>
         ensures { option_copied result ≡ find_by (λ r. r.id) self.now id.now }
     {
-        match self.table.get(id.text()) {
+        match self.table.get(id) {
             Some(resource) => Some(resource.get()),
             None => None,
         }
@@ -87,59 +76,68 @@ impl Resources {
     pub(crate) fn is_owner(&self, id: &Id) -> bool
         ensures { result ≡ list_any (λ r. bytes_eq id.now r.ven_id) self.now }
     {
-        0 < self.owners.count(id.text())
+        0 < self.owners.count(id)
     }
 
-    /// Adds the resource last.
-    pub(crate) fn push(&mut self, resource: Shared<Resource>) -> Result<(), Refusal>
-        requires new { find_by (λ r. r.id) self.old resource.id ≡ None }
-        requires few { length self.old < MOST_RESOURCES }
-        ensures ok { OnOk result (self.new ≡ self.old ++ resource ∷ []) }
-        ensures err { OnErr result (self.new ≡ self.old) }
-        ensures refusal { OnlyNoMemory result }
+    /// The place of the resource with the id.
+    pub(crate) fn place(&self, id: &Id) -> Option<usize>
+        ensures found { is_some result ≡ is_some (find_by (λ r. r.id) self.now id.now) }
+        ensures value { IfSome result (λ place. slice_get self.now place ≡ find_by (λ r. r.id) self.now id.now) }
     {
-        let ven = resource.get().ven_id.text().to_string(self.alloc)?;
-        self.owners.reserve()?;
-        self.table.add(self.alloc, resource)?;
-        self.owners.add(ven);
-        Ok(())
+        self.table.place(id)
     }
 
-    /// The same resources, which are shared.
+    /// The resources with one more, which goes last.
+    pub(crate) fn with_new(&self, resource: Shared<Resource>) -> Result<Resources, Refusal>
+        requires new { find_by (λ r. r.id) self.now resource.id ≡ None }
+        requires few { length self.now < MOST_RESOURCES }
+        ensures { IsCopyOf result (self.now ++ resource ∷ []) }
+    {
+        Ok(Resources {
+            owners: self.owners.with(self.alloc, &resource.get().ven_id)?,
+            table: self.table.with_new(resource)?,
+            alloc: self.alloc,
+        })
+    }
+
+    /// The resources with this one in the place of the one with its id.
+    pub(crate) fn with_changed(&self, resource: Shared<Resource>) -> Result<Resources, Refusal>
+        requires there { IsSome (find_by (λ r. r.id) self.now resource.id) }
+        ensures { IsCopyOf result (put_at (λ r. bytes_eq resource.id r.id) resource self.now) }
+    {
+        let Some(old) = self.table.get(&resource.get().id) else {
+            unreachable!();
+        };
+        let less = self.owners.without(self.alloc, &old.get().ven_id)?;
+        Ok(Resources {
+            owners: less.with(self.alloc, &resource.get().ven_id)?,
+            table: self.table.with_changed(resource)?,
+            alloc: self.alloc,
+        })
+    }
+
+    /// The resources without the one with the id; those after it move up.
+    pub(crate) fn without(&self, id: &Id) -> Result<Resources, Refusal>
+        ensures { IsCopyOf result (filter (λ r. not (bytes_eq id.now r.id)) self.now) }
+    {
+        let Some(old) = self.table.get(id) else {
+            return self.copy();
+        };
+        Ok(Resources {
+            owners: self.owners.without(self.alloc, &old.get().ven_id)?,
+            table: self.table.without(id)?,
+            alloc: self.alloc,
+        })
+    }
+
+    /// The same resources, which share their memory.
     pub(crate) fn copy(&self) -> Result<Resources, Refusal>
         ensures { IsCopyOf result self.now }
     {
-        let mut copy = Resources::new(self.alloc);
-        for place in 0..self.table.len() {
-            let Some(resource) = self.table.at(place) else {
-                unreachable!();
-            };
-            copy.push(resource.copy()?)?;
-        }
-        Ok(copy)
-    }
-
-    /// Puts the resource in the place of the one with its id.
-    pub(crate) fn replace(&mut self, resource: Shared<Resource>) -> Result<(), Refusal>
-        requires there { IsSome (find_by (λ r. r.id) self.old resource.id) }
-        ensures ok { OnOk result (self.new ≡ put_at (λ r. bytes_eq resource.id r.id) resource self.old) }
-        ensures err { OnErr result (self.new ≡ self.old) }
-        ensures refusal { OnlyNoMemory result }
-    {
-        let ven = resource.get().ven_id.text().to_string(self.alloc)?;
-        self.owners.reserve()?;
-        let old = self.table.replace(resource);
-        self.owners.take(old.get().ven_id.text());
-        self.owners.add(ven);
-        Ok(())
-    }
-
-    /// Takes out the resource with the id, and closes the gap.
-    pub(crate) fn remove(&mut self, id: &Id)
-        ensures { self.new ≡ filter (λ r. not (bytes_eq id.now r.id)) self.old }
-    {
-        if let Some(old) = self.table.take(id.text()) {
-            self.owners.take(old.get().ven_id.text());
-        }
+        Ok(Resources {
+            table: self.table.copy()?,
+            owners: self.owners.copy()?,
+            alloc: self.alloc,
+        })
     }
 }

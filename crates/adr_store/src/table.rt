@@ -1,158 +1,159 @@
-//! Values under texts, in the order in which they were added.
-ghost use Rattle.std.specs.Prelude.{◌≡◌, ◌+◌, ◌<◌, ◌≤◌, ◌↔◌, ◌++◌, ◌∷◌, [], length, map, slice_get, Some, None, IsSome, IsTrue, OnOk, OnErr, IfOk};
+//! Values under their ids, in the order in which they were added.
+ghost use Rattle.std.specs.Prelude.{◌≡◌, ◌++◌, ◌∷◌, [], length, map, slice_get, is_some, None, IsSome, IfSome};
 ghost use Rattle.std.specs.Option.{option_copied};
 ghost use Rattle.std.specs.List.{IsDistinct};
 ghost use Rattle.std.specs.Str.{bytes_eq};
-ghost use Rattle.std.specs.String.{string_bytes};
-ghost use Rattle.adr_value.specs.Answer.{OnlyNoMemory};
+ghost use Rattle.adr_value.specs.Copy.{IsCopyOf};
 ghost use Rattle.adr_store.specs.Table.{find_by, put_by, without};
 
+use adr_object::Id;
+use adr_shared::SharedMap;
 use adr_value::{Refusal, TryClone};
-use indexmap::IndexMap;
 use std::alloc::Global;
 use std::marker::Model;
-use std::mem;
 
-/// A value that is found by a text in it.
+/// A value that is found by an id in it.
 pub trait Keyed: Drop {
     ghost use Rattle.std.specs.Prelude.{ℕ, List};
 
     ghost key: { Self → List ℕ };
 
-    /// The text that the value is found by.
-    fn key(&self) -> &str
+    /// The id that the value is found by.
+    fn id(&self) -> &Id
         ensures { result.now ≡ key self.now };
 }
 
-/// Values under their keys, in the order in which they were added.
-pub struct Table<T: Keyed> {
-    entries: IndexMap<String, T>,
+/// Values under their ids, in the order in which they were added. No edit changes a table: it answers a new one, which
+/// shares with the old one all but a path of some 15 nodes at 16,384 values.
+#[derive(Drop)]
+pub struct Table<T: Keyed + TryClone> {
+    rows: SharedMap<u64, T>,
+    numbers: SharedMap<Id, u64>,
+    next: u64,
+    alloc: Global,
 }
 
-impl<T: Keyed> Drop for Table<T> {
-    fn drop(self) {
-        let Table { entries } = self;
-        drop(entries);
-    }
+impl<T: Keyed + TryClone> Model for Table<T> {
+    ghost use Rattle.std.specs.Prelude.{List};
+    ghost use Rattle.std.specs.Map.{values_of};
+    ghost use Rattle.adr_store.specs.Table.{IsTable};
+
+    ghost Value = { List T };
+
+    ghost view = { λ t. values_of t.rows };
+
+    ghost invariant = { λ t. IsTable T.key t.rows t.numbers t.next };
 }
 
-impl<T: Keyed> Model for Table<T> {
-    ghost use Rattle.indexmap.specs.IndexMap.{values, spare};
-    ghost use Rattle.adr_store.specs.Table.{Shelf, IsTable};
-
-    ghost Value = { Shelf T };
-
-    ghost view = { λ t. record { items = values t.entries; room = spare t.entries } };
-
-    ghost invariant = { λ t. IsTable T.key t.entries };
-}
-
-impl<T: Keyed> Table<T> {
+impl<T: Keyed + TryClone> Table<T> {
     /// The empty table.
     pub fn new(alloc: Global) -> Table<T>
-        ensures { result.items ≡ [] }
+        ensures { result ≡ [] }
     {
         Table {
-            entries: IndexMap::new(alloc),
+            rows: SharedMap::new(),
+            numbers: SharedMap::new(),
+            next: 0,
+            alloc,
         }
     }
 
     /// How many values there are.
     pub fn len(&self) -> usize
-        ensures value { result ≡ length self.now.items }
-        ensures distinct { IsDistinct bytes_eq (map T.key self.now.items) }
+        ensures value { result ≡ length self.now }
+        ensures distinct { IsDistinct bytes_eq (map T.key self.now) }
     {
-        self.entries.len()
+        self.rows.len()
     }
 
-    /// The value under the key.
-    pub fn get(&self, key: &str) -> Option<&T>
-        ensures value { option_copied result ≡ find_by T.key self.now.items key.now }
-        ensures distinct { IsDistinct bytes_eq (map T.key self.now.items) }
+    /// The value with the id.
+    pub fn get(&self, id: &Id) -> Option<&T>
+        ensures value { option_copied result ≡ find_by T.key self.now id.now }
+        ensures distinct { IsDistinct bytes_eq (map T.key self.now) }
     {
-        self.entries.get(key)
-    }
-
-    /// The value at the place, counted from 0.
-    pub fn at(&self, place: usize) -> Option<&T>
-        ensures { option_copied result ≡ slice_get self.now.items place }
-    {
-        match self.entries.get_index(place) {
-            Some((_, value)) => Some(value),
+        match self.numbers.get(id) {
+            Some(number) => self.rows.get(number),
             None => None,
         }
     }
 
-    /// Makes room for one more value.
-    pub fn reserve(&mut self) -> Result<(), Refusal>
-        ensures items { self.new.items ≡ self.old.items }
-        ensures room { OnOk result (0 < self.new.room) }
-        ensures refusal { OnlyNoMemory result }
+    /// The value at the place, counted from 0.
+    pub fn at(&self, place: usize) -> Option<&T>
+        ensures { option_copied result ≡ slice_get self.now place }
     {
-        self.entries.reserve(1)?;
-        Ok(())
+        self.rows.at(place)
     }
 
-    /// Adds the value last.
-    pub fn push(&mut self, key: String, value: T)
-        requires room { 0 < self.old.room }
-        requires own_key { string_bytes key ≡ T.key value }
-        requires is_new { find_by T.key self.old.items (T.key value) ≡ None }
-        ensures items { self.new.items ≡ self.old.items ++ value ∷ [] }
-        ensures room { self.old.room ≤ self.new.room + 1 }
+    /// The place of the value with the id, counted from 0.
+    pub fn place(&self, id: &Id) -> Option<usize>
+        ensures found { is_some result ≡ is_some (find_by T.key self.now id.now) }
+        ensures value { IfSome result (λ place. slice_get self.now place ≡ find_by T.key self.now id.now) }
     {
-        let _replaced = self.entries.insert(key, value).unwrap();
-    }
-
-    /// Adds the value last, where there is memory for it.
-    pub fn add(&mut self, alloc: Global, value: T) -> Result<(), Refusal>
-        requires { find_by T.key self.old.items (T.key value) ≡ None }
-        ensures ok { OnOk result (self.new.items ≡ self.old.items ++ value ∷ []) }
-        ensures err { OnErr result (self.new.items ≡ self.old.items) }
-        ensures refusal { OnlyNoMemory result }
-    {
-        let key = value.key().to_string(alloc)?;
-        self.reserve()?;
-        self.push(key, value);
-        Ok(())
-    }
-
-    /// Puts the value in the place of the one with its key, which it hands back.
-    pub fn replace(&mut self, value: T) -> T
-        requires { IsSome (find_by T.key self.old.items (T.key value)) }
-        ensures items { self.new.items ≡ put_by T.key self.old.items value }
-        ensures replaced { find_by T.key self.old.items (T.key value) ≡ Some result }
-        ensures distinct { IsDistinct bytes_eq (map T.key self.old.items) }
-    {
-        match self.entries.get_mut(value.key()) {
-            Some(slot) => mem::replace(slot, value),
-            None => unreachable!(),
+        match self.numbers.get(id) {
+            Some(number) => self.rows.place(number),
+            None => None,
         }
     }
 
-    /// Takes the value with the key out, closes the gap and hands the value back. Cost: the values after it.
-    pub fn take(&mut self, key: &str) -> Option<T>
-        ensures items { self.new.items ≡ without T.key self.old.items key.now }
-        ensures taken { result ≡ find_by T.key self.old.items key.now }
-        ensures distinct { IsDistinct bytes_eq (map T.key self.old.items) }
+    /// The table with one more value, which goes last. `NoMemory` where there is no room for it, and after
+    /// 18,446,744,073,709,551,615 values.
+    pub fn with_new(&self, value: T) -> Result<Table<T>, Refusal>
+        requires { find_by T.key self.now (T.key value) ≡ None }
+        ensures { IsCopyOf result (self.now ++ value ∷ []) }
     {
-        self.entries.shift_remove(key)
-    }
-}
-
-impl<T: Keyed + TryClone> Table<T> {
-    /// A table of copies of these values.
-    pub fn copy(&self, alloc: Global) -> Result<Table<T>, Refusal>
-        ensures items { IfOk result (λ copy. copy.items ≡ self.now.items) }
-        ensures refusal { OnlyNoMemory result }
-    {
-        let mut copy = Table::new(alloc);
-        for place in 0..self.len() {
-            let Some(value) = self.at(place) else {
-                unreachable!();
-            };
-            copy.add(alloc, value.try_clone()?)?;
+        let id = value.id().copy()?;
+        if self.next == u64::MAX {
+            return Err(Refusal::NoMemory);
         }
-        Ok(copy)
+        Ok(Table {
+            rows: self.rows.put(self.alloc, self.next, value)?,
+            numbers: self.numbers.put(self.alloc, id, self.next)?,
+            next: self.next + 1,
+            alloc: self.alloc,
+        })
+    }
+
+    /// The table with the value in the place of the one with its id. `NoMemory` where there is no room for it.
+    pub fn with_changed(&self, value: T) -> Result<Table<T>, Refusal>
+        requires { IsSome (find_by T.key self.now (T.key value)) }
+        ensures { IsCopyOf result (put_by T.key self.now value) }
+    {
+        let Some(number) = self.numbers.get(value.id()) else {
+            unreachable!();
+        };
+        Ok(Table {
+            rows: self.rows.put(self.alloc, *number, value)?,
+            numbers: self.numbers.copy()?,
+            next: self.next,
+            alloc: self.alloc,
+        })
+    }
+
+    /// The table without the value with the id; the values after it move up. `NoMemory` where there is no room for the
+    /// new paths.
+    pub fn without(&self, id: &Id) -> Result<Table<T>, Refusal>
+        ensures { IsCopyOf result (without T.key self.now id.now) }
+    {
+        match self.numbers.get(id) {
+            Some(number) => Ok(Table {
+                rows: self.rows.without(self.alloc, number)?,
+                numbers: self.numbers.without(self.alloc, id)?,
+                next: self.next,
+                alloc: self.alloc,
+            }),
+            None => self.copy(),
+        }
+    }
+
+    /// The same table, which shares its memory, whatever its size.
+    pub fn copy(&self) -> Result<Table<T>, Refusal>
+        ensures { IsCopyOf result self.now }
+    {
+        Ok(Table {
+            rows: self.rows.copy()?,
+            numbers: self.numbers.copy()?,
+            next: self.next,
+            alloc: self.alloc,
+        })
     }
 }

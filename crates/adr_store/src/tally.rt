@@ -1,80 +1,76 @@
-//! How many times each of some texts was added.
-ghost use Rattle.std.specs.Prelude.{◌≡◌, ◌+◌, ◌<◌, ◌≤◌, ◌^◌, List, ℕ, OnOk};
-ghost use Rattle.std.specs.String.{string_bytes};
+//! How many times each of some ids was added.
+ghost use Rattle.std.specs.Prelude.{◌≡◌, ◌+◌, ◌<◌, ◌^◌, List, ℕ, IfOk};
 ghost use Rattle.std.specs.Str.{bytes_eq};
 ghost use Rattle.adr_value.specs.Answer.{OnlyNoMemory};
-ghost use Rattle.indexmap.specs.IndexMap.{spare};
+ghost use Rattle.adr_value.specs.Copy.{IsCopyOf};
 ghost use Rattle.adr_store.specs.Numbers.{one_if, times};
 
+use adr_object::Id;
+use adr_shared::SharedMap;
 use adr_value::Refusal;
-use indexmap::IndexMap;
 use std::alloc::Global;
 
-/// How many times each text was added and not taken out again.
+/// How many times each id was added and not taken out again. No edit changes a tally: it answers a new one.
+#[derive(Drop)]
 pub struct Tally {
-    counts: IndexMap<String, usize>,
-}
-
-impl Drop for Tally {
-    fn drop(self) {
-        let Tally { counts } = self;
-        drop(counts);
-    }
+    counts: SharedMap<Id, u64>,
 }
 
 impl Tally {
     /// Nothing was added.
-    pub fn new(alloc: Global) -> Tally
+    pub fn new() -> Tally
         ensures { (id : List ℕ) → times result.counts id ≡ 0 }
     {
         Tally {
-            counts: IndexMap::new(alloc),
+            counts: SharedMap::new(),
         }
     }
 
-    /// How many times the text was added.
-    pub fn count(&self, key: &str) -> usize
-        ensures { result ≡ times self.now.counts key.now }
+    /// How many times the id was added.
+    pub fn count(&self, id: &Id) -> u64
+        ensures { result ≡ times self.now.counts id.now }
     {
-        match self.counts.get(key) {
+        match self.counts.get(id) {
             Some(count) => *count,
             None => 0,
         }
     }
 
-    /// Makes room for one more text.
-    pub fn reserve(&mut self) -> Result<(), Refusal>
-        ensures counts { (id : List ℕ) → times self.new.counts id ≡ times self.old.counts id }
-        ensures room { OnOk result (0 < spare self.new.counts) }
+    /// The tally with the id added once more. `NoMemory` where there is no room for it.
+    pub fn with(&self, alloc: Global, id: &Id) -> Result<Tally, Refusal>
+        requires { times self.now.counts id.now < 2 ^ 32 }
+        ensures counts { IfOk result (λ tally. (other : List ℕ) → times tally.counts other ≡ times self.now.counts other + one_if (bytes_eq other id.now)) }
         ensures refusal { OnlyNoMemory result }
     {
-        self.counts.reserve(1)?;
-        Ok(())
+        let count = self.count(id) + 1;
+        Ok(Tally {
+            counts: self.counts.put(alloc, id.copy()?, count)?,
+        })
     }
 
-    /// Adds the text once more.
-    pub fn add(&mut self, key: String)
-        requires room { 0 < spare self.old.counts }
-        requires bound { times self.old.counts (string_bytes key) < 2 ^ 32 }
-        ensures { (id : List ℕ) → times self.new.counts id ≡ times self.old.counts id + one_if (bytes_eq id (string_bytes key)) }
+    /// The tally with the id taken out once. `NoMemory` where there is no room for it.
+    pub fn without(&self, alloc: Global, id: &Id) -> Result<Tally, Refusal>
+        requires { 0 < times self.now.counts id.now }
+        ensures counts { IfOk result (λ tally. (other : List ℕ) → times tally.counts other + one_if (bytes_eq other id.now) ≡ times self.now.counts other) }
+        ensures refusal { OnlyNoMemory result }
     {
-        let count = self.count(key.as_str()) + 1;
-        let _replaced = self.counts.insert(key, count).unwrap();
-    }
-
-    /// Takes the text out once.
-    pub fn take(&mut self, key: &str)
-        requires { 0 < times self.old.counts key.now }
-        ensures counts { (id : List ℕ) → times self.new.counts id + one_if (bytes_eq id key.now) ≡ times self.old.counts id }
-        ensures room { spare self.old.counts ≤ spare self.new.counts }
-    {
-        let count = self.count(key);
+        let count = self.count(id);
         if 1 < count {
-            if let Some(slot) = self.counts.get_mut(key) {
-                *slot = count - 1;
-            }
-        } else {
-            let _removed = self.counts.swap_remove(key);
+            return Ok(Tally {
+                counts: self.counts.put(alloc, id.copy()?, count - 1)?,
+            });
         }
+        Ok(Tally {
+            counts: self.counts.without(alloc, id)?,
+        })
+    }
+
+    /// The same tally, which shares its memory.
+    pub fn copy(&self) -> Result<Tally, Refusal>
+        ensures { IsCopyOf result self.now }
+    {
+        Ok(Tally {
+            counts: self.counts.copy()?,
+        })
     }
 }

@@ -1,10 +1,7 @@
 use Rattle.std.proofs.Common.{◌≡◌, ◌∙◌, ap, subst, sym}
-use Rattle.adr_book.specs.Ledger.{Leads, joined, sealed_of}
-use Rattle.adr_book.proofs.Joined.{led_from, led_whole}
+use Rattle.adr_book.specs.Ledger.{Leads, sealed_of}
+use Rattle.adr_book.proofs.Joined.{led_from}
 use Rattle.adr_book.proofs.book.Book.condense.Goals as goal
-
-pub copy-requires : goal.copy-requires
-copy-requires c = (led_whole c.at.inside.base (joined c.at.inside.journal.closed c.at.inside.journal.pending) c.at.inside.objects c.at.invariant).sound.writes
 
 pub invariant_of-self : goal.invariant_of-self
 invariant_of-self c =

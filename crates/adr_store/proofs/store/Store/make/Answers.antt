@@ -29,4 +29,4 @@ returns-in-Change-clause-ok c =
 
 pub returns-in-Remove-clause-ok : goal.returns-in-Remove-clause-ok
 returns-in-Remove-clause-ok c =
-    next c.args.self.now c.remove.new.self c.args.edit (Remove c.in-Remove.kind c.in-Remove.id) c.requires.accepted c.in-Remove.is c.remove.ensures
+    on_ok c.remove.result (next c.args.self.now c.remove.new.self c.args.edit (Remove c.in-Remove.kind c.in-Remove.id) c.requires.accepted c.in-Remove.is) c.remove.ensures.ok

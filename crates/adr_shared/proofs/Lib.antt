@@ -1,0 +1,6 @@
+pub mod Parts
+pub mod Opened
+pub mod Heights
+pub mod Edited
+pub mod LookUps
+pub mod Last

@@ -1,0 +1,5 @@
+pub mod Map
+pub mod Tree
+pub mod Node
+pub mod Sides
+pub mod Laws

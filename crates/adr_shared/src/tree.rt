@@ -1,0 +1,432 @@
+//! Balanced trees whose copies share their nodes.
+ghost use Rattle.std.specs.Prelude.{◌≡◌, ◌+◌, ◌/◌, ◌^◌, ◌≤◌, max, [], ◌∷◌, ◌++◌, length, slice_get, option_map, ◌-◌, ◌<◌, IfSome, MatchResult};
+ghost use Rattle.std.specs.Option.{option_copied};
+ghost use Rattle.adr_value.specs.Copy.{IsCopyOf};
+ghost use Rattle.adr_value.specs.declared.refusal.Refusal.TheVariants.{NoMemory};
+ghost use Rattle.adr_shared.specs.Map.{IsAscending, lookup, put, without, place_of};
+ghost use Rattle.adr_shared.specs.Tree.{IsEdited, IsBalanced, IsSplit};
+ghost use Rattle.adr_shared.specs.Sides.{DifferByAtMost};
+
+use crate::key::Key;
+use adr_value::{Refusal, TryClone};
+use std::alloc::Global;
+use std::cmp::Ordering;
+use std::marker::Model;
+use std::sync::Arc;
+
+/// A balanced tree, seen as its entries in order and its height. An empty one takes no memory.
+#[cycle(tree)]
+#[derive(Drop)]
+pub struct Tree<K: Key, V: TryClone> {
+    node: Option<Arc<Node<K, V>>>,
+}
+
+// A key and its value, between the entries below it and those above it.
+#[cycle(tree)]
+#[derive(Drop)]
+struct Node<K: Key, V: TryClone> {
+    left: Tree<K, V>,
+    key: K,
+    value: V,
+    height: u8,
+    count: u32,
+    right: Tree<K, V>,
+}
+
+impl<K: Key, V: TryClone> Model for Tree<K, V> {
+    ghost use Rattle.std.specs.Prelude.{ℕ, List, length};
+
+    ghost Value = { List (List ℕ × V) × ℕ };
+
+    ghost use Rattle.std.specs.Prelude.{option_map};
+    ghost use Rattle.std.specs.Arc.{arc_value};
+    ghost use Rattle.adr_shared.specs.Node.{entries_and_height, IsNode};
+
+    ghost view = { λ t. entries_and_height K.code (option_map arc_value t.node) };
+
+    ghost invariant = { λ t. IsNode (option_map arc_value t.node) };
+
+    ghost size = { λ d. length d.0 };
+
+    ghost use Rattle.std.proofs.Common.{arith, length-append};
+
+    ghost size_decreases = { λ a h. Prim.grind (arith, length-append) };
+}
+
+impl<K: Key, V: TryClone> Tree<K, V> {
+    /// The tree without entries.
+    pub fn new() -> Tree<K, V>
+        ensures { result ≡ ([], 0) }
+    {
+        Tree { node: None }
+    }
+
+    /// How many nodes the longest path has: at most 65.
+    pub fn height(&self) -> u8
+        ensures value { result ≡ self.now.1 }
+        ensures limit { result ≤ 65 }
+    {
+        match &self.node {
+            None => 0,
+            Some(node) => node.height,
+        }
+    }
+
+    /// How many entries there are. The height is at most twice the logarithm of one more.
+    pub fn count(&self) -> u32
+        ensures value { result ≡ length self.now.0 }
+        ensures low { 2 ^ (self.now.1 / 2) ≤ length self.now.0 + 1 }
+    {
+        match &self.node {
+            None => 0,
+            Some(node) => node.count,
+        }
+    }
+
+    /// One more owner of the same nodes.
+    pub fn copy(&self) -> Result<Tree<K, V>, Refusal>
+        ensures { IsCopyOf result self.now }
+    {
+        match &self.node {
+            None => Ok(Tree { node: None }),
+            Some(node) => Ok(Tree {
+                node: Some(node.clone()?),
+            }),
+        }
+    }
+
+    /// The value at a key.
+    pub fn get(&self, key: &K) -> Option<&V>
+        requires { IsAscending self.now.0 }
+        ensures { option_copied result ≡ lookup (K.code key.now) self.now.0 }
+    {
+        match &self.node {
+            None => None,
+            Some(node) => {
+                let node: &Node<K, V> = node;
+                match key.compare(&node.key) {
+                    Ordering::Less => node.left.get(key),
+                    Ordering::Equal => Some(&node.value),
+                    Ordering::Greater => node.right.get(key),
+                }
+            }
+        }
+    }
+
+    /// The value at a place.
+    pub fn at(&self, place: usize) -> Option<&V>
+        ensures { option_copied result ≡ option_map (λ e. e.1) (slice_get self.now.0 place) }
+    {
+        match &self.node {
+            None => None,
+            Some(node) => {
+                let before = node.left.count() as usize;
+                if place < before {
+                    node.left.at(place)
+                } else if place > before {
+                    node.right.at(place - before - 1)
+                } else {
+                    Some(&node.value)
+                }
+            }
+        }
+    }
+
+    /// The key at a place.
+    pub fn key_at(&self, place: usize) -> Option<&K>
+        ensures { option_map K.code (option_copied result) ≡ option_map (λ e. e.0) (slice_get self.now.0 place) }
+    {
+        match &self.node {
+            None => None,
+            Some(node) => {
+                let before = node.left.count() as usize;
+                if place < before {
+                    node.left.key_at(place)
+                } else if place > before {
+                    node.right.key_at(place - before - 1)
+                } else {
+                    Some(&node.key)
+                }
+            }
+        }
+    }
+
+    /// The place of a key.
+    pub fn place(&self, key: &K) -> Option<usize>
+        requires { IsAscending self.now.0 }
+        ensures value { result ≡ place_of (K.code key.now) self.now.0 }
+        ensures within { IfSome result (λ place. place < length self.now.0) }
+    {
+        match &self.node {
+            None => None,
+            Some(node) => {
+                let node: &Node<K, V> = node;
+                let before = node.left.count() as usize;
+                match key.compare(&node.key) {
+                    Ordering::Less => node.left.place(key),
+                    Ordering::Equal => Some(before),
+                    Ordering::Greater => match node.right.place(key) {
+                        None => None,
+                        Some(place) => Some(before + 1 + place),
+                    },
+                }
+            }
+        }
+    }
+
+    /// The tree with this value at the key.
+    pub fn put(&self, alloc: Global, key: K, value: V) -> Result<Tree<K, V>, Refusal>
+        requires { IsAscending self.now.0 }
+        ensures { IsEdited result (put (K.code key) value self.now.0) self.now.1 (self.now.1 + 1) }
+    {
+        match &self.node {
+            None => fork(alloc, Tree::new(), key, value, Tree::new()),
+            Some(node) => {
+                let node: &Node<K, V> = node;
+                match key.compare(&node.key) {
+                    Ordering::Less => node.with_left(alloc, node.left.put(alloc, key, value)?),
+                    Ordering::Equal => fork(
+                        alloc,
+                        node.left.copy()?,
+                        key,
+                        value,
+                        node.right.copy()?,
+                    ),
+                    Ordering::Greater => node.with_right(alloc, node.right.put(alloc, key, value)?),
+                }
+            }
+        }
+    }
+
+    /// The tree without the key.
+    pub fn without(&self, alloc: Global, key: &K) -> Result<Tree<K, V>, Refusal>
+        requires { IsAscending self.now.0 }
+        ensures { IsEdited result (without (K.code key.now) self.now.0) (self.now.1 - 1) self.now.1 }
+    {
+        match &self.node {
+            None => Ok(Tree::new()),
+            Some(node) => {
+                let node: &Node<K, V> = node;
+                match key.compare(&node.key) {
+                    Ordering::Less => node.with_left(alloc, node.left.without(alloc, key)?),
+                    Ordering::Equal => join(alloc, &node.left, &node.right),
+                    Ordering::Greater => node.with_right(alloc, node.right.without(alloc, key)?),
+                }
+            }
+        }
+    }
+
+    // The least entry and the rest, where there is an entry.
+    fn split_first(&self, alloc: Global) -> Result<Option<First<K, V>>, Refusal>
+        ensures { MatchResult result (IsSplit K.code self.now) (λ refusal. refusal ≡ NoMemory) }
+    {
+        let Some(node) = &self.node else {
+            return Ok(None);
+        };
+        let node: &Node<K, V> = node;
+        match node.left.split_first(alloc)? {
+            None => Ok(Some(First {
+                key: node.key.try_clone()?,
+                value: node.value.try_clone()?,
+                rest: node.right.copy()?,
+            })),
+            Some(first) => Ok(Some(First {
+                key: first.key,
+                value: first.value,
+                rest: node.with_left(alloc, first.rest)?,
+            })),
+        }
+    }
+}
+
+// A tree's least entry, and the tree of the others.
+#[derive(Drop)]
+struct First<K: Key, V: TryClone> {
+    key: K,
+    value: V,
+    rest: Tree<K, V>,
+}
+
+impl<K: Key, V: TryClone> Node<K, V> {
+    // The tree with this node's entry and right side, and another left side.
+    fn with_left(&self, alloc: Global, left: Tree<K, V>) -> Result<Tree<K, V>, Refusal>
+        requires { DifferByAtMost 2 left.1 self.now.right.1 }
+        ensures { IsBalanced result left (K.code self.now.key) self.now.value self.now.right }
+    {
+        balance(
+            alloc,
+            left,
+            self.key.try_clone()?,
+            self.value.try_clone()?,
+            self.right.copy()?,
+        )
+    }
+
+    // The tree with this node's entry and left side, and another right side.
+    fn with_right(&self, alloc: Global, right: Tree<K, V>) -> Result<Tree<K, V>, Refusal>
+        requires { DifferByAtMost 2 self.now.left.1 right.1 }
+        ensures { IsBalanced result self.now.left (K.code self.now.key) self.now.value right }
+    {
+        balance(
+            alloc,
+            self.left.copy()?,
+            self.key.try_clone()?,
+            self.value.try_clone()?,
+            right,
+        )
+    }
+}
+
+// The tree of an entry between two sides whose heights differ by at most one.
+fn fork<K: Key, V: TryClone>(
+    alloc: Global,
+    left: Tree<K, V>,
+    key: K,
+    value: V,
+    right: Tree<K, V>,
+) -> Result<Tree<K, V>, Refusal>
+    requires { DifferByAtMost 1 left.1 right.1 }
+    ensures { IsCopyOf result (left.0 ++ (K.code key, value) ∷ right.0, max left.1 right.1 + 1) }
+{
+    let Some(count) = left.count().checked_add(right.count()) else {
+        return Err(Refusal::NoMemory);
+    };
+    let Some(count) = count.checked_add(1) else {
+        return Err(Refusal::NoMemory);
+    };
+    let height = left.height().max(right.height()) + 1;
+    let node = Node {
+        left,
+        key,
+        value,
+        height,
+        count,
+        right,
+    };
+    Ok(Tree {
+        node: Some(Arc::new(alloc, node)?),
+    })
+}
+
+// The tree of an entry between two sides whose heights differ by at most two.
+fn balance<K: Key, V: TryClone>(
+    alloc: Global,
+    left: Tree<K, V>,
+    key: K,
+    value: V,
+    right: Tree<K, V>,
+) -> Result<Tree<K, V>, Refusal>
+    requires { DifferByAtMost 2 left.1 right.1 }
+    ensures { IsBalanced result left (K.code key) value right }
+{
+    if left.height() > right.height() + 1 {
+        lean_left(alloc, &left, key, value, right)
+    } else if right.height() > left.height() + 1 {
+        lean_right(alloc, left, key, value, &right)
+    } else {
+        fork(alloc, left, key, value, right)
+    }
+}
+
+// The tree of an entry between two sides, the left of which is two higher.
+fn lean_left<K: Key, V: TryClone>(
+    alloc: Global,
+    left: &Tree<K, V>,
+    key: K,
+    value: V,
+    right: Tree<K, V>,
+) -> Result<Tree<K, V>, Refusal>
+    requires { left.now.1 ≡ right.1 + 2 }
+    ensures { IsBalanced result left.now (K.code key) value right }
+{
+    let Some(outer) = &left.node else {
+        unreachable!()
+    };
+    if outer.left.height() >= outer.right.height() {
+        let side = fork(alloc, outer.right.copy()?, key, value, right)?;
+        return fork(
+            alloc,
+            outer.left.copy()?,
+            outer.key.try_clone()?,
+            outer.value.try_clone()?,
+            side,
+        );
+    }
+    let Some(inner) = &outer.right.node else {
+        unreachable!()
+    };
+    let below = fork(
+        alloc,
+        outer.left.copy()?,
+        outer.key.try_clone()?,
+        outer.value.try_clone()?,
+        inner.left.copy()?,
+    )?;
+    let above = fork(alloc, inner.right.copy()?, key, value, right)?;
+    fork(
+        alloc,
+        below,
+        inner.key.try_clone()?,
+        inner.value.try_clone()?,
+        above,
+    )
+}
+
+// The tree of an entry between two sides, the right of which is two higher.
+fn lean_right<K: Key, V: TryClone>(
+    alloc: Global,
+    left: Tree<K, V>,
+    key: K,
+    value: V,
+    right: &Tree<K, V>,
+) -> Result<Tree<K, V>, Refusal>
+    requires { right.now.1 ≡ left.1 + 2 }
+    ensures { IsBalanced result left (K.code key) value right.now }
+{
+    let Some(outer) = &right.node else {
+        unreachable!()
+    };
+    if outer.right.height() >= outer.left.height() {
+        let side = fork(alloc, left, key, value, outer.left.copy()?)?;
+        return fork(
+            alloc,
+            side,
+            outer.key.try_clone()?,
+            outer.value.try_clone()?,
+            outer.right.copy()?,
+        );
+    }
+    let Some(inner) = &outer.left.node else {
+        unreachable!()
+    };
+    let below = fork(alloc, left, key, value, inner.left.copy()?)?;
+    let above = fork(
+        alloc,
+        inner.right.copy()?,
+        outer.key.try_clone()?,
+        outer.value.try_clone()?,
+        outer.right.copy()?,
+    )?;
+    fork(
+        alloc,
+        below,
+        inner.key.try_clone()?,
+        inner.value.try_clone()?,
+        above,
+    )
+}
+
+// The tree of the entries of two sides whose heights differ by at most one.
+fn join<K: Key, V: TryClone>(
+    alloc: Global,
+    left: &Tree<K, V>,
+    right: &Tree<K, V>,
+) -> Result<Tree<K, V>, Refusal>
+    requires { DifferByAtMost 1 left.now.1 right.now.1 }
+    ensures { IsEdited result (left.now.0 ++ right.now.0) (max left.now.1 right.now.1) (max left.now.1 right.now.1 + 1) }
+{
+    match right.split_first(alloc)? {
+        None => left.copy(),
+        Some(first) => balance(alloc, left.copy()?, first.key, first.value, first.rest),
+    }
+}

@@ -1,6 +1,0 @@
-use Rattle.std.proofs.Common.{◌≡◌, take}
-use Rattle.adr_store.proofs.resources.Resources.copy.Given as goal
-
--- the resources so far are copied
-abbrev pub invariant-loop-place : goal.invariant-loop-place
-invariant-loop-place l = l.copy ≡ take l.place l.self
