@@ -68,7 +68,7 @@ fn stays_full(alloc: Global, book: &mut Book) -> Result<bool, Refusal>
 }
 
 /// The version of the base once the book has closed its batch and condensed all.
-fn condensed(book: &mut Book) -> Result<u64, Refusal> {
+pub(crate) fn condensed(book: &mut Book) -> Result<u64, Refusal> {
     book.seal()?;
     let published = book.copy()?;
     let base = book.condense(&published);

@@ -3,9 +3,13 @@
 //! the touches of an edit.
 
 #[cfg(test)]
+mod alike;
+#[cfg(test)]
 mod book;
 #[cfg(test)]
 mod condensing;
+#[cfg(test)]
+mod copies;
 #[cfg(test)]
 mod edits;
 #[cfg(test)]
