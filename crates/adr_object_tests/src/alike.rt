@@ -97,7 +97,7 @@ fn are_alike_at(store: &Store, other: &Store, kind: Kind, id: &Id) -> bool {
         && store.entries_beside(id) == other.entries_beside(id)
 }
 
-/// Whether both find the same by each of the ids of a kind: its letter and a number below a limit.
+/// Whether both find the same by each of the ids of a kind: its letter and a number below 64.
 fn are_alike_by_id(
     alloc: Global,
     store: &Store,

@@ -122,7 +122,8 @@ fn are_as_long(journal: &Journal, other: &Journal) -> bool {
         && journal.pending().len() == other.pending().len()
 }
 
-/// Makes a new book by the journal of a copy; whether both then find alike, once their objects are those of their bases.
+/// Makes a new book by the journal of a copy, and both the bases of their objects; whether each look-up answers alike in
+/// those.
 fn is_made_anew(alloc: Global, anew: &mut Book, copy: &mut Book) -> Result<bool, Refusal> {
     replay(anew, copy.journal())?;
     let are_as_long = are_as_long(anew.journal(), copy.journal());
