@@ -179,8 +179,8 @@ impl Book {
         &self.journal
     }
 
-    /// Makes an edit that `judge` accepts, and answers the version. `NoMemory` leaves all as it was. Cost: the
-    /// edit's size, and for a delete the objects of the kind that come after.
+    /// Makes an edit that `judge` accepts, and answers the version. `NoMemory` leaves all as it was. Cost: some paths
+    /// in trees; the edit's object is kept and not copied, and an event's entries are counted.
     pub fn commit(&mut self, edit: Edit) -> Result<u64, Refusal>
         requires { IsOk (step_to (full_at self.old.base.version) self.old.objects edit) }
         ensures objects { OnOk result (step_to (full_at self.old.base.version) self.old.objects edit ≡ Ok self.new.objects) }
@@ -213,7 +213,7 @@ impl Book {
 
     /// Makes the objects of `at` the base, lets the closed batches go and answers the base's version. `at` has the
     /// objects that the base and the closed batches lead to, as a copy made when the last of them was closed.
-    /// `NoMemory` leaves all as it was. Cost: a copy of the tables of `at`.
+    /// `NoMemory` leaves all as it was. Cost: the same whatever the book holds, and letting the old batches go.
     pub fn condense(&mut self, at: &Book) -> Result<u64, Refusal>
         requires { at.now.objects ≡ sealed_of self.old }
         ensures base { OnOk result (self.new.base ≡ at.now.objects) }
