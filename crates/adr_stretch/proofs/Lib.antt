@@ -1,0 +1,4 @@
+pub mod Right
+pub mod Stretched
+pub mod Types
+pub mod Winners
