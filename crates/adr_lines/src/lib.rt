@@ -1,0 +1,6 @@
+#![tactic(auto)]
+//! The entries of all events, by payload type.
+
+mod indexes;
+
+pub use indexes::Indexes;
