@@ -1,29 +1,49 @@
 -- The edits of all batches, as the journal grows and as it is condensed.
-use Rattle.std.proofs.Common.{◌≡◌, List, [], ◌∷◌, ◌++◌, Ok, append_assoc, length-append, refl, ap, sym, subst, ◌∙◌, arith}
+use Rattle.std.proofs.Common.{◌≡◌, ℕ, List, [], ◌∷◌, ◌++◌, ◌≤◌, Ok, append_assoc, length-append, refl, ap, sym, subst, ◌∙◌, arith}
 use Rattle.std.proofs.lemmas.Grind.{flat_map-append}
 use Rattle.std.proofs.lemmas.List.{append-nil}
 use Rattle.std.proofs.lemmas.List.Concat.{flat_map-cons}
+use Rattle.adr_value.specs.Limits.{limits}
 use Rattle.adr_value.specs.declared.limits.TheConstants.{MOST_VERSION}
 use Rattle.adr_object.specs.declared.object.Edit.{Edit}
+use Rattle.adr_object.specs.declared.object.Kind.{Kind}
+use Rattle.adr_object.specs.declared.object.Kind.TheVariants.{Program as program_kind, Event as event_kind, Ven as ven_kind, Resource as resource_kind}
 use Rattle.adr_model.specs.Book.{Book, empty}
-use Rattle.adr_model.specs.Edits.{after_from, step}
+use Rattle.adr_model.specs.Edits.{after_from, count_of, most_objects, step}
 use Rattle.adr_model.proofs.EditLemmas.{accepted_edits_count, after_from_push, after_from_versions, journals_go_on}
 use Rattle.adr_model.specs.Whole.{IsWhole}
+use Rattle.adr_model.specs.Within.{IsWithin}
 use Rattle.adr_model.proofs.Whole.{after_from_whole, after_whole}
+use Rattle.adr_model.proofs.Within.{books_are_within, edits_keep_limits}
 use Rattle.adr_book.specs.Ledger.{Leads, closed_edits, joined}
 
 -- once the open batch is closed too, the closed ones have all edits
 pub all_closed : (closed : List (List Edit)) (pending : List Edit) → closed_edits (closed ++ pending ∷ []) ≡ joined closed pending
 all_closed closed pending = simp (flat_map-append, flat_map-cons, append-nil)
 
+-- edits keep the limits
+after_from_within : (base : Book) (edits : List Edit) → IsWhole base → IsWithin limits MOST_VERSION base → IsWithin limits MOST_VERSION (after_from base edits)
+unfolding after_from
+after_from_within base edits w within = edits_keep_limits limits MOST_VERSION base edits w.sound.ids within
+
+-- within the limits there are no more of a kind than its limit
+pub counted_within : (full : ℕ) (book : Book) → IsWithin limits full book → (kind : Kind) → count_of book kind ≤ most_objects kind
+counted_within full book w program_kind = w.programs
+counted_within full book w event_kind = w.events
+counted_within full book w ven_kind = w.vens
+counted_within full book w resource_kind = w.resources
+
 -- no edits lead from the empty book to itself
 pub from_nothing : Leads empty [] empty
 unfolding after_from
-from_nothing = record { whole = after_whole []; leads = refl; counted = refl }
+from_nothing = record { whole = after_whole []; within = books_are_within []; leads = refl; counted = refl }
 
 module _ (base : Book) where
   pub led_whole : (edits : List Edit) (objects : Book) → Leads base edits objects → IsWhole objects
   led_whole edits objects l = subst (λ b. IsWhole b) l.leads (after_from_whole edits base l.whole)
+
+  pub led_within : (edits : List Edit) (objects : Book) → Leads base edits objects → IsWithin limits MOST_VERSION objects
+  led_within edits objects l = subst (λ b. IsWithin limits MOST_VERSION b) l.leads (after_from_within base edits l.whole l.within)
 
   -- an accepted edit leads on
   pub led_on : (edits : List Edit) (x : Edit) (old new : Book) → Leads base edits old → step old x ≡ Ok new → Leads base (edits ++ x ∷ []) new
@@ -31,6 +51,7 @@ module _ (base : Book) where
       let more = (accepted_edits_count MOST_VERSION old new x s).0 in
       record {
         whole = l.whole;
+        within = l.within;
         leads = after_from_push base edits x old new l.leads s;
         counted = omega (arith, more, l.counted, length-append edits (x ∷ []));
       }
@@ -53,6 +74,7 @@ module _ (base : Book) where
       let last = ap (λ (b : Book). b.version) goes_on in
       record {
         whole = subst (λ b. IsWhole b) (sym e) (after_from_whole (closed_edits closed) base l.whole);
+        within = subst (λ b. IsWithin limits MOST_VERSION b) (sym e) (after_from_within base (closed_edits closed) l.whole l.within);
         leads = goes_on;
         counted = omega (arith, same, above, below, last, l.counted, length-append (closed_edits closed) pending);
       }

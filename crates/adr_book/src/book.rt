@@ -1,10 +1,13 @@
 //! The book.
-ghost use Rattle.std.specs.Prelude.{◌≡◌, ◌+◌, ◌++◌, ◌∷◌, [], ◌≤◌, length, slice_get, Ok, IsOk, OnOk, OnErr, IfOk};
+ghost use Rattle.std.specs.Prelude.{◌≡◌, ◌+◌, ◌++◌, ◌∷◌, [], ◌≤◌, length, is_some, slice_get, Ok, IsOk, IfSome, OnOk, OnErr, IfOk};
 ghost use Rattle.std.specs.Option.{option_copied, option_map};
 ghost use Rattle.adr_value.specs.Answer.{Answers, OnlyNoMemory, result_map};
 ghost use Rattle.adr_value.specs.Copy.{IsCopyOf};
+ghost use Rattle.adr_value.specs.Limits.{limits};
 ghost use Rattle.adr_model.specs.Book.{empty, program_by, ven_by, resource_by, event_by};
-ghost use Rattle.adr_model.specs.Edits.{after_from, count_of, full_at, made, step_to};
+ghost use Rattle.adr_model.specs.Edits.{after_from, count_of, full_at, made, most_objects, step_to};
+ghost use Rattle.adr_model.specs.Whole.{IsWhole};
+ghost use Rattle.adr_model.specs.Within.{IsWithin};
 ghost use Rattle.adr_book.specs.Ledger.{journal_of, sealed_of};
 ghost use Rattle.adr_store.specs.Numbers.{by_number};
 
@@ -81,7 +84,8 @@ impl Book {
 
     /// How many objects of the kind there are.
     pub fn count(&self, kind: Kind) -> usize
-        ensures { result ≡ count_of self.now.objects kind }
+        ensures value { result ≡ count_of self.now.objects kind }
+        ensures bound { result ≤ most_objects kind }
     {
         self.objects.count(kind)
     }
@@ -128,11 +132,27 @@ impl Book {
         self.objects.resource_at(place)
     }
 
+    /// The place of the resource with the id, counted from 0 in order of creation. A look-up, not a scan.
+    pub fn resource_place(&self, id: &Id) -> Option<usize>
+        ensures found { is_some result ≡ is_some (resource_by self.now.objects id.now) }
+        ensures value { IfSome result (λ place. slice_get self.now.objects.resources place ≡ resource_by self.now.objects id.now) }
+    {
+        self.objects.resource_place(id)
+    }
+
     /// The event with the id.
     pub fn event(&self, id: &Id) -> Option<&Event>
         ensures { option_copied result ≡ option_map (λ w. w.event) (event_by self.now.objects id.now) }
     {
         self.objects.event(id)
+    }
+
+    /// The place of the event with the id, counted from 0 in order of creation.
+    pub fn event_place(&self, id: &Id) -> Option<usize>
+        ensures found { is_some result ≡ is_some (event_by self.now.objects id.now) }
+        ensures value { IfSome result (λ place. slice_get self.now.objects.events place ≡ event_by self.now.objects id.now) }
+    {
+        self.objects.event_place(id)
     }
 
     /// The event at the place, counted from 0 in order of creation.
@@ -161,6 +181,22 @@ impl Book {
         ensures { option_copied result ≡ option_map (λ w. w.event) (by_number self.now.objects.events written) }
     {
         self.objects.event_by(written)
+    }
+
+    /// The objects themselves.
+    pub fn objects(&self) -> &Store
+        ensures { result.now ≡ self.now.objects }
+    {
+        &self.objects
+    }
+
+    /// The laws of what every book keeps. Ids and numbers are distinct, what an object names is there, and each event
+    /// can be laid out. No limit of objects, entries or the version is passed.
+    pub fn book_laws(&self)
+        ensures whole { IsWhole self.now.objects }
+        ensures within { IsWithin limits MOST_VERSION self.now.objects }
+    {
+        let _ = &self.objects;
     }
 
     /// What the journal starts from.

@@ -17,3 +17,4 @@ pub mod Succession
 pub mod Steps
 pub mod Whole
 pub mod Within
+pub mod Counted

@@ -1,13 +1,17 @@
 -- The limits that every book of accepted edits keeps.
-use Rattle.std.specs.Prelude.{ℕ, ◌≤◌, List, fold, length, sum_by}
+use Rattle.std.specs.Prelude.{ℕ, ◌≤◌, List, flat_map, fold, length, sum_by}
 use Rattle.std.specs.List.{IsDistinct}
 use Rattle.std.specs.Result.{result_unwrap_or}
 use Rattle.std.specs.Str.{bytes_eq}
 use Rattle.adr_value.specs.Limits.{Limits, limits}
+use Rattle.adr_value.specs.Same.{same_type}
 use Rattle.adr_value.specs.declared.limits.TheConstants.{MOST_VERSION}
+use Rattle.adr_value.specs.declared.payload.PayloadType.{PayloadType}
 use Rattle.adr_object.specs.declared.object.Edit.{Edit}
+use Rattle.adr_model.specs.declared.written.Written.{Written}
 use Rattle.adr_model.specs.Book.{Book}
 use Rattle.adr_model.specs.Edits.{after, entry_count, step_by}
+use Rattle.adr_model.specs.Governor.{entries_of}
 use Rattle.adr_model.specs.Whole.{event_ids}
 
 -- how many entries the events of the book have
@@ -36,3 +40,11 @@ EditsKeepLimits =
 -- so every book of accepted edits is within the limits in force, and its version is at most the greatest
 abbrev pub BooksAreWithin : Type 0
 BooksAreWithin = (edits : List Edit) → IsWithin limits MOST_VERSION (after edits)
+
+-- of distinct payload types an event has no more entries than are counted
+abbrev pub TypesAreCounted : Type 0
+TypesAreCounted = (w : Written) (types : List PayloadType) → IsDistinct same_type types → sum_by (λ k. length (entries_of k w)) types ≤ entry_count w.event
+
+-- of no payload type have events more entries than are counted
+abbrev pub EntriesAreCounted : Type 0
+EntriesAreCounted = (events : List Written) (payload_type : PayloadType) → length (flat_map (entries_of payload_type) events) ≤ sum_by (λ w. entry_count w.event) events

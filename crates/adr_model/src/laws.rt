@@ -1,7 +1,7 @@
 //! What follows from the definitions. Each function's clause is a law, and its body does nothing.
 ghost use Rattle.adr_model.specs.Laws.{AcceptedEditsCount, BasesOnlyRefuse, JournalsGoOn, LooksShowNoEarlier, PublicationsAreTheirEdits, PublicationsFollow, PublicationsStay, ReadersStayBehind, RefusedEditsChangeNothing, RepeatsAreOneEntry, RollTellsEach, RollTellsWhatAtTells, SeenNeverFalls, SegmentsAreApart, SegmentsAreInOrder, SegmentsBeginAtChanges, SegmentsCoverAll, SegmentsShowOne, TypesGovernSometime, UntilIsTheNextChange, VersionsAreEdits, VersionsCountEdits};
 ghost use Rattle.adr_model.specs.Whole.{BooksAreWhole, StepsKeepWhole};
-ghost use Rattle.adr_model.specs.Within.{BooksAreWithin, EditsKeepLimits};
+ghost use Rattle.adr_model.specs.Within.{BooksAreWithin, EditsKeepLimits, EntriesAreCounted, TypesAreCounted};
 
 /// The laws of edits: one that is refused changes nothing, one that is accepted makes the version one more, and
 /// the book after a journal is where the rest of the journal goes on. A version is at most the number of edits. The
@@ -66,4 +66,11 @@ pub fn books_are_whole()
 pub fn books_are_within_limits()
     ensures any { EditsKeepLimits }
     ensures after { BooksAreWithin }
+{}
+
+/// The law of how many entries compete. The limit counts an event's intervals, each with each of its payload types once;
+/// so of distinct types the event has no more entries than that, and of one type events have no more than all theirs.
+pub fn entries_are_counted()
+    ensures types { TypesAreCounted }
+    ensures entries { EntriesAreCounted }
 {}

@@ -66,7 +66,7 @@ module _ (kind : PayloadType) where
       )
       by false rest = rest
 
-  events_apart : (ws : List Written) → IsDistinct eqb (numbers ws) → IsDistinct same_mark (flat_map (entries_of kind) ws)
+  pub events_apart : (ws : List Written) → IsDistinct eqb (numbers ws) → IsDistinct same_mark (flat_map (entries_of kind) ws)
   unfolding IsDistinct
   events_apart [] d = tt
   events_apart (w ∷ ws) d =

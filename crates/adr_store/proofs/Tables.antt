@@ -1,8 +1,6 @@
 -- A table stays one as a row is added, changed or taken out.
-use Rattle.std.proofs.Common.{◌≡◌, ℕ, ◌+◌, Bool, true, false, not, cond, List, [], ◌∷◌, ◌++◌, map, filter, length, slice_get, Option, Some, None, is_some, refl, sym, ap, subst, ◌∙◌, if◌then◌else◌, arith}
-use Rattle.std.specs.declared.cmp.Ordering.{Ordering}
-use Rattle.std.specs.declared.cmp.Ordering.TheVariants.{Less, Equal, Greater}
-use Rattle.std.specs.Ordering.{nat_cmp, is_lt, is_gt, ordering_then}
+use Rattle.std.proofs.Common.{◌≡◌, ℕ, ◌+◌, Bool, true, false, not, cond, List, [], ◌∷◌, ◌++◌, map, filter, length, slice_get, Option, Some, None, is_some, refl, sym, ap, subst, ◌∙◌, if◌then◌else◌}
+use Rattle.std.specs.declared.cmp.Ordering.TheVariants.{Greater}
 use Rattle.std.specs.List.{AllByRecursion, IsDistinct}
 use Rattle.std.specs.Map.{values_of}
 use Rattle.std.specs.Option.{option_map}
@@ -10,7 +8,7 @@ use Rattle.std.specs.Str.{bytes_eq}
 use Rattle.std.proofs.lemmas.Slice.Eq.{bytes_eq-Decides}
 use Rattle.adr_model.proofs.Keyed.{distinct_filter, distinct_more}
 use Rattle.adr_model.proofs.Lists.{same_bytes}
-use Rattle.adr_shared.specs.Map.{code_cmp, lookup, below, above, put, place_of, without as code_without}
+use Rattle.adr_shared.specs.Map.{code_cmp, lookup, put, place_of, without as code_without}
 use Rattle.adr_shared.proofs.Parts.{ascends_put, ascends_without}
 use Rattle.adr_shared.proofs.LookUps.{put_is_found, taken_is_gone}
 use Rattle.adr_shared.proofs.Last.{all_above, last_above, one_more, put_last, values_pushed}

@@ -1,5 +1,5 @@
 //! The events in order of creation, and what is counted of them.
-ghost use Rattle.std.specs.Prelude.{◌≡◌, ◌+◌, ◌++◌, ◌∷◌, [], ◌<◌, ◌≤◌, eqb, not, filter, map, length, slice_get, sum_by, IsSome, None};
+ghost use Rattle.std.specs.Prelude.{◌≡◌, ◌+◌, ◌++◌, ◌∷◌, [], ◌<◌, ◌≤◌, eqb, not, filter, map, length, slice_get, sum_by, is_some, IsSome, IfSome, None};
 ghost use Rattle.std.specs.List.{IsDistinct, list_any};
 ghost use Rattle.std.specs.Option.{option_copied, option_map};
 ghost use Rattle.std.specs.Str.{bytes_eq};
@@ -82,6 +82,14 @@ impl Events {
             Some(kept) => Some(kept.event()),
             None => None,
         }
+    }
+
+    /// The place of the event with the id.
+    pub(crate) fn place(&self, id: &Id) -> Option<usize>
+        ensures found { is_some result ≡ is_some (find_by (λ w. w.event.id) self.now id.now) }
+        ensures value { IfSome result (λ place. slice_get self.now place ≡ find_by (λ w. w.event.id) self.now id.now) }
+    {
+        self.table.place(id)
     }
 
     /// The number of the edit that last wrote the event at the place.

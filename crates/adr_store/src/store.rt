@@ -174,6 +174,14 @@ impl Store {
         self.events.at(place)
     }
 
+    /// The place of the event with the id, counted from 0 in order of creation.
+    pub fn event_place(&self, id: &Id) -> Option<usize>
+        ensures found { is_some result ≡ is_some (event_by self.now id.now) }
+        ensures value { IfSome result (λ place. slice_get self.now.events place ≡ event_by self.now id.now) }
+    {
+        self.events.place(id)
+    }
+
     /// The number of the edit that created or last changed the event with the id.
     pub fn written(&self, id: &Id) -> Option<u64>
         ensures { result ≡ option_map (λ w. w.written) (event_by self.now id.now) }

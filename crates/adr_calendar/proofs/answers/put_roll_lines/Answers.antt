@@ -13,7 +13,7 @@ loop-place-preserved g c =
 pub returns-clause-ok : goal.returns-clause-ok
 returns-clause-ok g c =
     let book = g.C.Calendar.objects c.args.calendar.now in
-    let count : c.count-place-end.result ≡ length book.resources = c.count-place-end.ensures ∙ ap (λ (b : Book). length b.resources) c.book.ensures in
+    let count : c.count-place-end.result ≡ length book.resources = c.count-place-end.ensures.value ∙ ap (λ (b : Book). length b.resources) c.book.ensures in
     let past : length book.resources ≤ c.loop-place.place = subst (λ n. n ≤ c.loop-place.place) count c.loop-place-test.false in
     c.loop-place.invariant
     ∙ ap (λ bytes. c.args.out.now.items ++ bytes)
