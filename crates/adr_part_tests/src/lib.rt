@@ -1,5 +1,5 @@
 #![tactic(auto)]
-//! Tests of values, times, ranks, the index and the timeline, by what their public functions answer.
+//! Tests of values, times, ranks, seats, the index and the timeline, by what their public functions answer.
 
 #[cfg(test)]
 mod decimals;
@@ -17,6 +17,8 @@ mod payloads;
 mod ranks;
 #[cfg(test)]
 mod rows;
+#[cfg(test)]
+mod seats;
 #[cfg(test)]
 mod shields;
 #[cfg(test)]

@@ -1,0 +1,189 @@
+//! Which slot each place has.
+ghost use Rattle.std.specs.Prelude.{◌≡◌, ℕ, ◌^◌, ◌<◌, ◌==◌, ◌++◌, ◌∷◌, [], false, length, set, remove, IfOk, IfSome, OnOk, OnErr};
+ghost use Rattle.std.specs.List.{list_any, slice_get};
+ghost use Rattle.adr_value.specs.Answer.{OnlyNoMemory};
+ghost use Rattle.adr_value.specs.Copy.{IsCopyOf};
+ghost use Rattle.adr_seats.specs.Seats.{members_of, IsCountOf};
+
+use crate::counts::Counts;
+use adr_value::{Refusal, TryClone};
+use std::alloc::Global;
+use std::marker::Model;
+
+/// Which slot each place has; many places may share one. Contracts see the list of the slots, place by place.
+///
+/// A slot is a number below 2^32. The numbers of all slots up to the greatest that was ever named stay in memory, so
+/// name those that `free_slot` answers.
+pub struct Seats {
+    slots: Vec<u32>,
+    counts: Counts,
+}
+
+// A function of its own, so that callers that let a value go need not look into it.
+impl Drop for Seats {
+    fn drop(self) {
+        let Seats { slots, counts } = self;
+        drop(slots);
+        drop(counts);
+    }
+}
+
+impl Model for Seats {
+    ghost use Rattle.std.specs.Prelude.{List, ℕ};
+    ghost use Rattle.adr_seats.specs.Seats.{IsCountOf};
+
+    ghost Value = { List ℕ };
+
+    ghost view = { λ s. s.slots.items };
+
+    ghost invariant = { λ s. IsCountOf s.counts s.slots.items };
+}
+
+impl Seats {
+    /// No places.
+    pub fn new(alloc: Global) -> Seats
+        ensures { result ≡ [] }
+    {
+        Seats {
+            slots: Vec::new(alloc),
+            counts: Counts::new(alloc),
+        }
+    }
+
+    /// How many places there are.
+    pub fn len(&self) -> usize
+        ensures { result ≡ length self.now }
+    {
+        self.slots.len()
+    }
+
+    /// The slot of the place.
+    pub fn slot(&self, place: usize) -> Option<u64>
+        ensures value { result ≡ slice_get self.now place }
+        ensures below { IfSome result (λ slot. slot < 2 ^ 32) }
+    {
+        match self.slots.get(place) {
+            Some(slot) => Some(u64::from(*slot)),
+            None => None,
+        }
+    }
+
+    /// How many places have the slot. Cost: one look-up.
+    pub fn members(&self, slot: u64) -> usize
+        ensures { result ≡ members_of slot self.now }
+    {
+        self.counts.of(slot)
+    }
+
+    /// Whether a place has the slot. Cost: one look-up.
+    pub fn is_taken(&self, slot: u64) -> bool
+        ensures { result ≡ list_any (λ s. s == slot) self.now }
+    {
+        self.counts.of(slot) != 0
+    }
+
+    /// A slot that no place has: the one that was left last, if any, else the one after all that were ever named.
+    /// `NoMemory` where each of 2^32 has a place. Cost: one look-up.
+    pub fn free_slot(&self) -> Result<u64, Refusal>
+        ensures free { IfOk result (λ slot. list_any (λ s. s == slot) self.now ≡ false) }
+        ensures below { IfOk result (λ slot. slot < 2 ^ 32) }
+        ensures refusal { OnlyNoMemory result }
+    {
+        let slot = self.counts.free()?;
+        Ok(slot)
+    }
+
+    /// Adds a place last, with the slot. `NoMemory` where there is no room, or the slot is not below 2^32.
+    pub fn push(&mut self, slot: u64) -> Result<(), Refusal>
+        ensures ok { OnOk result (self.new ≡ self.old ++ slot ∷ []) }
+        ensures err { OnErr result (self.new ≡ self.old) }
+        ensures refusal { OnlyNoMemory result }
+    {
+        let slot = narrow(slot)?;
+        push_slot(&mut self.slots, &mut self.counts, slot)
+    }
+
+    /// Gives the place another slot. `NoMemory` where there is no room, or the slot is not below 2^32.
+    pub fn set(&mut self, place: usize, slot: u64) -> Result<(), Refusal>
+        requires { place < length self.old }
+        ensures ok { OnOk result (self.new ≡ set self.old place slot) }
+        ensures err { OnErr result (self.new ≡ self.old) }
+        ensures refusal { OnlyNoMemory result }
+    {
+        let slot = narrow(slot)?;
+        set_slot(&mut self.slots, &mut self.counts, place, slot)
+    }
+
+    /// Takes the place out, and closes the gap. It takes no memory. Cost: the places after it move down.
+    pub fn remove(&mut self, place: usize)
+        requires { place < length self.old }
+        ensures { self.new ≡ remove self.old place }
+    {
+        let slot = self.slots.remove(place);
+        self.counts.take(slot);
+    }
+
+    /// The same slots, in memory of their own. Cost: all places and slots.
+    pub fn copy(&self) -> Result<Seats, Refusal>
+        ensures { IsCopyOf result self.now }
+    {
+        let alloc = *self.slots.allocator();
+        Ok(Seats {
+            slots: Vec::from_slice(alloc, &self.slots)?,
+            counts: self.counts.copy()?,
+        })
+    }
+}
+
+impl TryClone for Seats {
+    fn try_clone(&self) -> Result<Seats, Refusal> {
+        self.copy()
+    }
+}
+
+/// The slot as it is kept.
+fn narrow(slot: u64) -> Result<u32, Refusal>
+    ensures ok { IfOk result (λ kept. kept ≡ slot) }
+    ensures refusal { OnlyNoMemory result }
+{
+    if slot < 1 << 32 {
+        Ok(slot as u32)
+    } else {
+        Err(Refusal::NoMemory)
+    }
+}
+
+/// Adds a place last, with the slot.
+fn push_slot(slots: &mut Vec<u32>, counts: &mut Counts, slot: u32) -> Result<(), Refusal>
+    requires { IsCountOf counts.old slots.old.items }
+    ensures ok { OnOk result (slots.new.items ≡ slots.old.items ++ slot ∷ []) }
+    ensures err { OnErr result (slots.new.items ≡ slots.old.items) }
+    ensures counts { IsCountOf counts.new slots.new.items }
+    ensures refusal { OnlyNoMemory result }
+{
+    counts.reserve(slot)?;
+    slots.push(slot)?;
+    counts.add(slot);
+    Ok(())
+}
+
+/// Gives the place another slot.
+fn set_slot(
+    slots: &mut Vec<u32>,
+    counts: &mut Counts,
+    place: usize,
+    slot: u32,
+) -> Result<(), Refusal>
+    requires within { place < length slots.old.items }
+    requires counts { IsCountOf counts.old slots.old.items }
+    ensures ok { OnOk result (slots.new.items ≡ set slots.old.items place slot) }
+    ensures err { OnErr result (slots.new.items ≡ slots.old.items) }
+    ensures counts { IsCountOf counts.new slots.new.items }
+    ensures refusal { OnlyNoMemory result }
+{
+    counts.reserve(slot)?;
+    counts.take(slots[place]);
+    counts.add(slot);
+    slots[place] = slot;
+    Ok(())
+}
