@@ -7,3 +7,4 @@ pub mod Listed
 pub mod Placed
 pub mod Edited
 pub mod AskedEdits
+pub mod Followed

@@ -3,3 +3,4 @@ pub mod Query
 pub mod Rows
 pub mod Asks
 pub mod Laws
+pub mod Keys
