@@ -1,1 +1,5 @@
+pub mod Distinct
+pub mod Exchanged
+pub mod Held
 pub mod Put
+pub mod Turns

@@ -63,14 +63,31 @@ module _ {Y S : Type 0} (m : HashMap (String Y) Indexed S) (key : List ℕ) (i :
       by true t = changed ∙ ap f (sym entries_there ∙ ap (λ (k : List ℕ). entries_at m k) ((bytes_eq-Decides key id).0 t))
       by false t = refl
 
-  -- an index of one place less
-  pub spare_taken : (n : HashMap (String Y) Indexed S) (v : Indexed) → UpdatesBy string_eq (λ k. bytes_eq key (string_bytes k)) m n (Some v) → i.spare ≤ v.spare + 1
-      → (id : List ℕ) → spare_at m id ≤ spare_at n id + (if bytes_eq key id then 1 else 0)
-  spare_taken n v u taken id = by (bytes_eq key id) refl (spare_put m n key v u id)
+  -- an index of some places less
+  pub spare_taken : (n : HashMap (String Y) Indexed S) (v : Indexed) (some : ℕ) → UpdatesBy string_eq (λ k. bytes_eq key (string_bytes k)) m n (Some v) → i.spare ≤ v.spare + some
+      → (id : List ℕ) → spare_at m id ≤ spare_at n id + (if bytes_eq key id then some else 0)
+  spare_taken n v some u taken id = by (bytes_eq key id) refl (spare_put m n key v u id)
     where
-      by : (b : Bool) → bytes_eq key id ≡ b → spare_at n id ≡ (if b then v.spare else spare_at m id) → spare_at m id ≤ spare_at n id + (if b then 1 else 0)
+      by : (b : Bool) → bytes_eq key id ≡ b → spare_at n id ≡ (if b then v.spare else spare_at m id) → spare_at m id ≤ spare_at n id + (if b then some else 0)
       by true t e = let f : spare_at m id ≡ i.spare = ap (λ (k : List ℕ). spare_at m k) (sym ((bytes_eq-Decides key id).0 t)) ∙ spare_there in omega arith
       by false t e = omega arith
+
+-- where there is no index, what makes no entries of none changes none
+module _ {Y S : Type 0} (m : HashMap (String Y) Indexed S) (key : List ℕ) (none : get_by_text m key ≡ None) where
+  pub no_entries : entries_at m key ≡ []
+  no_entries = ap (λ (o : Option Indexed). option_map_or (λ i. i.entries) o []) none
+
+  pub no_spare : spare_at m key ≡ 0
+  no_spare = ap (λ (o : Option Indexed). option_map_or (λ i. i.spare) o 0) none
+
+  pub none_changed : (f : List Entry → List Entry) → f [] ≡ [] → (id : List ℕ) → entries_at m id ≡ (if bytes_eq key id then f (entries_at m id) else entries_at m id)
+  none_changed f empty id = by (bytes_eq key id) refl
+    where
+      by : (b : Bool) → bytes_eq key id ≡ b → entries_at m id ≡ (if b then f (entries_at m id) else entries_at m id)
+      by true t =
+          let nothing : entries_at m id ≡ [] = ap (λ (k : List ℕ). entries_at m k) (sym ((bytes_eq-Decides key id).0 t)) ∙ no_entries in
+          nothing ∙ sym (ap f nothing ∙ empty)
+      by false t = refl
 
 -- what holds of an answer that is `Ok`
 pub ok_holds : {T E P : Type 0} (r : Result T E) (x : T) → r ≡ Ok x → OnOk r P → P

@@ -1,17 +1,10 @@
 //! The entries of all events, by payload type.
-ghost use Rattle.std.specs.Prelude.{◌≡◌, ◌+◌, ◌<◌, ◌≤◌, ℕ, List, [], false, if◌then◌else◌, length, IfOk, OnOk};
-ghost use Rattle.std.specs.List.{list_any};
-ghost use Rattle.adr_value.specs.Answer.{OnlyNoMemory};
-ghost use Rattle.adr_value.specs.Same.{same_type};
-ghost use Rattle.adr_value.specs.declared.payload.PayloadType.{PayloadType as AnyType};
-ghost use Rattle.adr_model.specs.Entries.{meeting};
-ghost use Rattle.adr_index.specs.Index.{inserted, inserted_all, is_entry, others, others_all, AreNew};
-ghost use Rattle.adr_lines.specs.Indexes.{under, spare_under};
-ghost use Rattle.adr_stretch.specs.Stretches.{of_type};
+ghost use Rattle.adr_lines.specs.Distinct.{AreAllDistinct};
 
+use crate::counting::wanted;
 use adr_index::Index;
 use adr_model::Entry;
-use adr_stretch::Stretch;
+use adr_stretch::TypeEntries;
 use adr_time::Span;
 use adr_value::{PayloadType, Refusal};
 use indexmap::IndexMap;
@@ -20,6 +13,7 @@ use std::alloc::Global;
 /// The entries of all events, an index for each payload type.
 pub struct Indexes {
     by_name: IndexMap<String, Index>,
+    ghost distinct: { AreAllDistinct by_name },
 }
 
 // A function of its own, so that callers that let a value go need not look into it.
@@ -31,9 +25,20 @@ impl Drop for Indexes {
 }
 
 impl Indexes {
-    /// No entries. It takes no memory before it is added to.
+    ghost use Rattle.std.specs.Prelude.{◌≡◌, ◌+◌, ◌≤◌, [], true, length, IfOk, OnOk};
+    ghost use Rattle.adr_value.specs.Answer.{OnlyNoMemory};
+    ghost use Rattle.adr_value.specs.declared.payload.PayloadType.{PayloadType as AnyType};
+    ghost use Rattle.adr_model.specs.declared.entry.Tie.{Tie};
+    ghost use Rattle.adr_model.specs.Entries.{meeting};
+    ghost use Rattle.adr_index.specs.Index.{inserted_all, others_all, AreNew};
+    ghost use Rattle.adr_stretch.specs.Grouped.{entries_under};
+    ghost use Rattle.adr_lines.specs.Exchange.{IsIndexOf};
+    ghost use Rattle.adr_lines.specs.Indexes.{has_type, own_entries, spare_under, under, wanted_under};
+
+    /// No entries. It takes no memory before there is room to be made.
     pub fn new(alloc: Global) -> Indexes
-        ensures { (k : AnyType) → under result k ≡ [] }
+        ensures entries { (k : AnyType) → under result k ≡ [] }
+        ensures index { (tie : Tie) → IsIndexOf tie [] result }
     {
         Indexes {
             by_name: IndexMap::new(alloc),
@@ -79,70 +84,103 @@ impl Indexes {
         Ok(())
     }
 
-    /// Adds an entry that there is room for.
-    fn add(&mut self, stretch: &Stretch)
-        requires fresh { list_any (is_entry stretch.now.entry.rank.written stretch.now.entry.rank.place) (under self.old stretch.now.payload_type) ≡ false }
-        requires room { 0 < spare_under self.old stretch.now.payload_type }
-        ensures entries { (k : AnyType) → under self.new k ≡ (if same_type stretch.now.payload_type k then inserted stretch.now.entry (under self.old k) else under self.old k) }
-        ensures room { (k : AnyType) → spare_under self.old k ≤ spare_under self.new k + (if same_type stretch.now.payload_type k then 1 else 0) }
-    {
-        if let Some(index) = self.by_name.get_mut(stretch.payload_type.name()) {
-            index.insert(stretch.entry).unwrap();
-        }
-    }
-
-    /// Takes out what stands in the place of the entry.
-    fn take(&mut self, stretch: &Stretch)
-        ensures { (k : AnyType) → under self.new k ≡ (if same_type stretch.now.payload_type k then others stretch.now.entry (under self.old k) else under self.old k) }
-    {
-        if let Some(index) = self.by_name.get_mut(stretch.payload_type.name()) {
-            index.replace(&[stretch.entry], &[]);
-        }
-    }
-
-    /// Makes room for entries of which at most so many are of one type. `NoMemory` leaves all entries as they were.
-    /// Cost: a look-up for each stretch, and the room of `Index::reserve` for each type that has not enough.
-    pub fn reserve(
+    /// Makes room, under the types of the groups, for what goes and for what comes.
+    fn reserve_types(
         &mut self,
         alloc: Global,
-        stretches: &[Stretch],
-        most: usize,
+        groups: &[TypeEntries],
+        gone: &[TypeEntries],
+        come: &[TypeEntries],
     ) -> Result<(), Refusal>
-        requires { (k : AnyType) → length (of_type k stretches.now) ≤ most }
         ensures entries { (k : AnyType) → under self.new k ≡ under self.old k }
-        ensures room { OnOk result ((k : AnyType) → length (of_type k stretches.now) ≤ spare_under self.new k) }
+        ensures kept { (k : AnyType) → spare_under self.old k ≤ spare_under self.new k }
+        ensures room { OnOk result ((k : AnyType) → has_type groups.now k ≡ true → wanted_under gone.now come.now k ≤ spare_under self.new k) }
         ensures memory { OnlyNoMemory result }
     {
-        let mut rest = stretches;
-        'rest: while let Some((stretch, more)) = rest.split_first() {
-            self.reserve_under(alloc, &stretch.payload_type, most)?;
+        let mut rest = groups;
+        'rest: while let Some((group, more)) = rest.split_first() {
+            let Some(count) = wanted(gone, come, &group.payload_type) else {
+                return Err(Refusal::NoMemory);
+            };
+            self.reserve_under(alloc, &group.payload_type, count)?;
             rest = more;
         }
         Ok(())
     }
 
-    /// Adds entries that there is room for. It takes no memory. Cost: for each a look-up, and that of `Index::insert`.
-    pub fn add_all(&mut self, stretches: &[Stretch])
-        requires fresh { (k : AnyType) → AreNew (of_type k stretches.now) (under self.old k) }
-        requires room { (k : AnyType) → length (of_type k stretches.now) ≤ spare_under self.old k }
-        ensures { (k : AnyType) → under self.new k ≡ inserted_all (of_type k stretches.now) (under self.old k) }
+    /// Makes room for the entries that go and for those that come, so that they can be exchanged, and exchanged back.
+    /// `NoMemory` leaves all entries as they were. Cost: a look-up for each group of either and its type compared
+    /// with those of all, and the room of `Index::reserve` for each type that has not enough.
+    pub fn reserve(
+        &mut self,
+        alloc: Global,
+        gone: &[TypeEntries],
+        come: &[TypeEntries],
+    ) -> Result<(), Refusal>
+        ensures entries { (k : AnyType) → under self.new k ≡ under self.old k }
+        ensures room { OnOk result ((k : AnyType) → length (entries_under gone.now k) + length (entries_under come.now k) ≤ spare_under self.new k) }
+        ensures memory { OnlyNoMemory result }
     {
-        let mut rest = stretches;
-        'rest: while let Some((stretch, more)) = rest.split_first() {
-            self.add(stretch);
+        self.reserve_types(alloc, gone, gone, come)?;
+        self.reserve_types(alloc, come, gone, come)?;
+        Ok(())
+    }
+
+    /// Takes out what stands in the places of the group's entries.
+    fn take(&mut self, group: &TypeEntries)
+        ensures entries { (k : AnyType) → under self.new k ≡ others_all (own_entries group.now k) (under self.old k) }
+        ensures spare { (k : AnyType) → spare_under self.old k ≤ spare_under self.new k }
+    {
+        if let Some(index) = self.by_name.get_mut(group.payload_type.name()) {
+            index.replace(group.entries.as_slice(), &[]);
+        }
+    }
+
+    /// Adds the group's entries, which there is room for.
+    fn put(&mut self, group: &TypeEntries)
+        requires fresh { AreNew group.now.entries.items (under self.old group.now.payload_type) }
+        requires room { length group.now.entries.items ≤ spare_under self.old group.now.payload_type }
+        ensures entries { (k : AnyType) → under self.new k ≡ inserted_all (own_entries group.now k) (under self.old k) }
+        ensures spare { (k : AnyType) → spare_under self.old k ≤ spare_under self.new k + length (own_entries group.now k) }
+    {
+        if let Some(index) = self.by_name.get_mut(group.payload_type.name()) {
+            index.replace(&[], group.entries.as_slice());
+        }
+    }
+
+    fn take_all(&mut self, gone: &[TypeEntries])
+        ensures entries { (k : AnyType) → under self.new k ≡ others_all (entries_under gone.now k) (under self.old k) }
+        ensures spare { (k : AnyType) → spare_under self.old k ≤ spare_under self.new k }
+    {
+        let mut rest = gone;
+        'rest: while let Some((group, more)) = rest.split_first() {
+            self.take(group);
             rest = more;
         }
     }
 
-    /// Takes out what stands in the places of the entries. It takes no memory. Cost: for each a look-up, and that of
-    /// `Index::replace` for one entry.
-    pub fn take_all(&mut self, stretches: &[Stretch])
-        ensures { (k : AnyType) → under self.new k ≡ others_all (of_type k stretches.now) (under self.old k) }
+    fn put_all(&mut self, come: &[TypeEntries])
+        requires fresh { (k : AnyType) → AreNew (entries_under come.now k) (under self.old k) }
+        requires room { (k : AnyType) → length (entries_under come.now k) ≤ spare_under self.old k }
+        ensures entries { (k : AnyType) → under self.new k ≡ inserted_all (entries_under come.now k) (under self.old k) }
+        ensures spare { (k : AnyType) → spare_under self.old k ≤ spare_under self.new k + length (entries_under come.now k) }
     {
-        let mut rest = stretches;
-        'rest: while let Some((stretch, more)) = rest.split_first() {
-            self.take(stretch);
+        let mut rest = come;
+        'rest: while let Some((group, more)) = rest.split_first() {
+            self.put(group);
             rest = more;
         }
+    }
+
+    /// Takes out what stands in the places of the entries that go, and puts in those that come, which there is room
+    /// for. It takes no memory. Cost: for each group of either a look-up, and that of `Index::replace`.
+    pub fn exchange(&mut self, gone: &[TypeEntries], come: &[TypeEntries])
+        requires room { (k : AnyType) → length (entries_under come.now k) ≤ spare_under self.old k }
+        requires fresh { (k : AnyType) → AreNew (entries_under come.now k) (others_all (entries_under gone.now k) (under self.old k)) }
+        ensures entries { (k : AnyType) → under self.new k ≡ inserted_all (entries_under come.now k) (others_all (entries_under gone.now k) (under self.old k)) }
+        ensures spare { (k : AnyType) → spare_under self.old k ≤ spare_under self.new k + length (entries_under come.now k) }
+    {
+        self.take_all(gone);
+        self.put_all(come);
     }
 }

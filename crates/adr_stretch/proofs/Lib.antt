@@ -1,4 +1,6 @@
+pub mod Counted
+pub mod Groups
+pub mod Intervals
 pub mod Right
-pub mod Stretched
 pub mod Types
 pub mod Winners

@@ -1,7 +1,5 @@
--- Why repaired timelines are right: inside the windows the new entries are looked at, and outside them the same compete.
-use Rattle.std.proofs.Common.{◌≡◌, ℕ, ℤ, ◌⊎◌, inl, inr, Bool, true, false, cond, ◌&&◌, ◌||◌, List, [], ◌∷◌, ◌++◌, map, refl, ap, sym, subst, ◌∙◌, filter}
-use Rattle.std.proofs.lemmas.Bool.{both_ways}
-use Rattle.adr_value.specs.Same.{same_type}
+-- The same wins where the same compete, in whatever order and however often the entries are held.
+use Rattle.std.proofs.Common.{◌≡◌, ℕ, ℤ, inl, inr, Bool, true, false, List, [], ◌∷◌, ◌||◌, map, refl, ap, sym, subst, ◌∙◌, filter}
 use Rattle.adr_value.specs.declared.payload.PayloadType.{PayloadType}
 use Rattle.adr_time.specs.Spans.{covers}
 use Rattle.adr_model.specs.declared.entry.Entry.{Entry}
@@ -10,12 +8,11 @@ use Rattle.adr_model.specs.declared.written.Written.{Written}
 use Rattle.adr_model.specs.Governor.{entries_of, winner_at}
 use Rattle.adr_model.specs.Lists.{In}
 use Rattle.adr_model.specs.Rank.{ranked}
-use Rattle.adr_model.proofs.Lists.{In-append_left, In-append_right, In-append_cases, In-filter, In-from_filter, In-flat_map, In-from_flat_map, In-from_map, In-map}
+use Rattle.adr_model.proofs.Lists.{In-filter, In-from_filter, In-flat_map, In-from_flat_map, In-from_map, In-map}
 use Rattle.adr_repair.proofs.Inside.{number_of_entry}
-use Rattle.adr_stretch.specs.declared.stretch.Stretch.{Stretch}
-use Rattle.adr_stretch.specs.Laws.{AreWritesAfter, InsideRight, OutsideRight, RankedInsideRight}
-use Rattle.adr_stretch.specs.Right.{all_of, among, has_number, winner_under, written_in, AreWithin, Differ, HaveSame}
-use Rattle.adr_stretch.specs.Stretches.{is_inside, of_type}
+use Rattle.adr_stretch.specs.Grouped.{any_covers_at}
+use Rattle.adr_stretch.specs.Laws.{AgreeAt, HeldWins, SameWins}
+use Rattle.adr_stretch.specs.Right.{all_of, among, has_number, winner_under, written_in, HaveSame}
 use Rattle.adr_stretch.proofs.Winners.{AreAt, same_under, winner_same}
 
 -- ---- the entries of some writes
@@ -37,43 +34,36 @@ in_among : (events : List Written) (ws : List ℕ) (kind : PayloadType) (e : Ent
     → In w events → has_number ws w.written ≡ true → In e (entries_of kind w) → In e (among events ws kind)
 in_among events ws kind e w m h n = In-flat_map (entries_of kind) (filter (of_writes ws) events) w e (In-filter (of_writes ws) events w m h) n
 
--- ---- inside the windows
+-- ---- where the writes agree
 
-module _ (old new gone come : List Written) (kind : PayloadType) (ws : List ℕ) (t : ℤ)
-    (d : Differ old new gone come) (after : AreWritesAfter new gone come ws) where
-  module _ (es : List Entry) (indexed : HaveSame es (all_of (old ++ come) kind)) where
-    there : AreAt t (among new ws kind) (written_in ws es)
-    there e m c =
-        let r = among_in new ws kind e m in
-        let known : In e es = (indexed e).1 (In-flat_map (entries_of kind) (old ++ come) r.0 e (before r.0 (d.was r.0 r.1)) r.3) in
-        In-filter (of_numbers ws) es e known (subst (λ n. has_number ws n ≡ true) (sym (number_of_entry kind r.0 e r.3)) r.2)
-      where
-        before : (w : Written) → In w old ⊎ In w come → In w (old ++ come)
-        before w (inl a) = In-append_left w old come a
-        before w (inr b) = In-append_right w old come b
+some_covers : (es : List Entry) (t : ℤ) (e : Entry) → In e es → covers e.span t ≡ true → any_covers_at es t ≡ true
+some_covers [] t e m c = absurd m
+some_covers (x ∷ xs) t e (inl same) c = let h : covers x.span t ≡ true = ap (λ (y : Entry). covers y.span t) same ∙ c in rw h refl
+some_covers (x ∷ xs) t e (inr n) c = either (any_covers_at xs t) (some_covers xs t e n c) (covers x.span t)
+  where
+    either : (b : Bool) → b ≡ true → (a : Bool) → (a || b) ≡ true
+    either b h true = refl
+    either b h false = h
 
-    back : AreAt t (written_in ws es) (among new ws kind)
-    back e m c =
-        let f = In-from_filter (of_numbers ws) es e m in
-        let r = In-from_flat_map (entries_of kind) (old ++ come) e ((indexed e).0 f.0) in
-        let h : has_number ws r.0.written ≡ true = subst (λ n. has_number ws n ≡ true) (number_of_entry kind r.0 e r.2) f.1 in
-        in_among new ws kind e r.0 (now r.0 h (In-append_cases r.0 old come r.1)) h r.2
-      where
-        staying : (w : Written) → has_number ws w.written ≡ true → In w new ⊎ In w gone → In w new
-        staying w h (inl a) = a
-        staying w h (inr g) = absurd (both_ways (has_number ws w.written) (after.0 w g) h)
+module _ (old new : List Written) (ws others : List ℕ) (kind : PayloadType) (t : ℤ) (agree : AgreeAt old new ws others kind t) where
+  there : AreAt t (among old ws kind) (among new others kind)
+  there e m c =
+      let r = among_in old ws kind e m in
+      let f = (agree r.0 (some_covers (entries_of kind r.0) t e r.3 c)).0 (r.1, r.2) in
+      in_among new others kind e r.0 f.0 f.1 r.3
 
-        now : (w : Written) → has_number ws w.written ≡ true → In w old ⊎ In w come → In w new
-        now w h (inl a) = staying w h (d.stays w a)
-        now w h (inr b) = after.1 w b
+  back : AreAt t (among new others kind) (among old ws kind)
+  back e m c =
+      let r = among_in new others kind e m in
+      let f = (agree r.0 (some_covers (entries_of kind r.0) t e r.3 c)).1 (r.1, r.2) in
+      in_among old ws kind e r.0 f.0 f.1 r.3
 
-    wins_inside : (tie : Tie) → winner_under tie (written_in ws es) t ≡ winner_under tie (among new ws kind) t
-    wins_inside tie = same_under tie t (written_in ws es) (among new ws kind) back there
+pub same_wins : (tie : Tie) → SameWins tie
+same_wins tie old new ws others kind t agree =
+    same_under tie t (among old ws kind) (among new others kind) (there old new ws others kind t agree) (back old new ws others kind t agree)
 
-pub inside_right : (tie : Tie) → InsideRight tie
-inside_right tie old new gone come kind es ws t d after indexed = wins_inside old new gone come kind ws t d after es indexed tie
+-- ---- entries that are held as they are ranked
 
--- the entries of some writes as they are ranked
 module _ (tie : Tie) (ws : List ℕ) (es all : List Entry) (indexed : HaveSame es (map (ranked tie) all)) (t : ℤ) where
   plain : AreAt t (written_in ws es) (map (ranked tie) (written_in ws all))
   plain e m c =
@@ -92,39 +82,21 @@ module _ (tie : Tie) (ws : List ℕ) (es all : List Entry) (indexed : HaveSame e
   wins_plain : winner_at (written_in ws es) t ≡ winner_under tie (written_in ws all) t
   wins_plain = winner_same (written_in ws es) (map (ranked tie) (written_in ws all)) t plain in_ranked
 
-pub ranked_inside_right : (tie : Tie) → RankedInsideRight tie
-ranked_inside_right tie old new gone come kind es ws t d after indexed =
-    wins_plain tie ws es (all_of (old ++ come) kind) indexed t
-    ∙ inside_right tie old new gone come kind (all_of (old ++ come) kind) ws t d after (λ e. (λ m. m, λ m. m))
+-- the entries of the writes are those of the events of the writes
+module _ (events : List Written) (ws : List ℕ) (kind : PayloadType) (t : ℤ) where
+  from_events : AreAt t (written_in ws (all_of events kind)) (among events ws kind)
+  from_events e m c =
+      let f = In-from_filter (of_numbers ws) (all_of events kind) e m in
+      let r = In-from_flat_map (entries_of kind) events e f.0 in
+      in_among events ws kind e r.0 r.1 (subst (λ n. has_number ws n ≡ true) (number_of_entry kind r.0 e r.2) f.1) r.2
 
--- ---- outside the windows
+  of_events : AreAt t (among events ws kind) (written_in ws (all_of events kind))
+  of_events e m c =
+      let r = among_in events ws kind e m in
+      In-filter (of_numbers ws) (all_of events kind) e (In-flat_map (entries_of kind) events r.0 e r.1 r.3)
+      (subst (λ n. has_number ws n ≡ true) (sym (number_of_entry kind r.0 e r.3)) r.2)
 
-inside_of : (kind : PayloadType) (ss : List Stretch) (t : ℤ) (e : Entry) → In e (of_type kind ss) → covers e.span t ≡ true → is_inside kind ss t ≡ true
-inside_of kind [] t e m c = absurd m
-inside_of kind (s ∷ ss) t e m c = by (same_type s.payload_type kind) (inside_of kind ss t e) m
-  where
-    either : (b : Bool) → b ≡ true → (x : Bool) → (x || b) ≡ true
-    either b h true = refl
-    either b h false = h
-
-    by : (b : Bool) → (In e (of_type kind ss) → covers e.span t ≡ true → is_inside kind ss t ≡ true)
-        → In e (cond b (s.entry ∷ of_type kind ss) (of_type kind ss)) → ((b && covers s.entry.span t) || is_inside kind ss t) ≡ true
-    by true later (inl same) = let h : covers s.entry.span t ≡ true = ap (λ (x : Entry). covers x.span t) same ∙ c in rw h refl
-    by true later (inr n) = either (is_inside kind ss t) (later n c) (covers s.entry.span t)
-    by false later n = later n c
-
-module _ (old new : List Written) (ws others : List ℕ) (windows : List Stretch) (kind : PayloadType) (t : ℤ) where
-  kept_outside : AreWithin old new ws others windows → is_inside kind windows t ≡ false → AreAt t (among old ws kind) (among new others kind)
-  kept_outside within outside e m c = let r = among_in old ws kind e m in by r.0 r.3 (within r.0 r.1 r.2)
-    where
-      by : (w : Written) → In e (entries_of kind w)
-          → (In w new × (has_number others w.written ≡ true)) ⊎ ((k : PayloadType) (x : Entry) → In x (entries_of k w) → In x (of_type k windows))
-          → In e (among new others kind)
-      by w n (inl k) = in_among new others kind e w k.0 k.1 n
-      by w n (inr f) = absurd (both_ways (is_inside kind windows t) outside (inside_of kind windows t e (f kind e n) c))
-
-pub outside_right : (tie : Tie) → OutsideRight tie
-outside_right tie old new ws others windows kind t there back outside =
-    same_under tie t (among old ws kind) (among new others kind)
-    (kept_outside old new ws others windows kind t there outside)
-    (kept_outside new old others ws windows kind t back outside)
+pub held_wins : (tie : Tie) → HeldWins tie
+held_wins tie events kind es ws t indexed =
+    wins_plain tie ws es (all_of events kind) indexed t
+    ∙ same_under tie t (written_in ws (all_of events kind)) (among events ws kind) (from_events events ws kind t) (of_events events ws kind t)

@@ -1,7 +1,7 @@
 -- The types of payloads, payload by payload.
-use Rattle.std.proofs.Common.{◌≡◌, ℕ, ◌+◌, ◌<◌, length, take, get_or, Bool, true, false, not, ◌||◌, cond, List, [], ◌∷◌, ◌++◌, refl, ap, sym, ◌∙◌, filter}
-use Rattle.std.proofs.lemmas.Grind.{take_at_read}
-use Rattle.std.proofs.lemmas.List.{append_assoc, map-append}
+use Rattle.std.proofs.Common.{◌≡◌, ℕ, ◌+◌, ◌<◌, length, take, get_or, Bool, true, false, not, ◌||◌, cond, if◌then◌else◌, List, [], ◌∷◌, ◌++◌, refl, ap, sym, ◌∙◌, filter}
+use Rattle.std.proofs.lemmas.Grind.{flat_map-append, take_at_read}
+use Rattle.std.proofs.lemmas.List.{append_assoc}
 use Rattle.std.proofs.lemmas.List.Elements.{filter-append}
 use Rattle.std.specs.List.{list_any}
 use Rattle.adr_value.specs.Same.{same_type}
@@ -9,8 +9,7 @@ use Rattle.adr_value.specs.declared.payload.PayloadType.{PayloadType}
 use Rattle.adr_object.specs.declared.event.Payload.{Payload}
 use Rattle.adr_model.specs.declared.entry.Entry.{Entry}
 use Rattle.adr_model.specs.Touches.{types_of}
-use Rattle.adr_stretch.specs.declared.stretch.Stretch.{Stretch}
-use Rattle.adr_stretch.specs.Stretches.{stretches_in, unless_carried}
+use Rattle.adr_stretch.specs.Grouped.{once_for_each, unless_carried}
 
 abbrev others : PayloadType → List PayloadType → List PayloadType
 others t types = filter (λ k. not (same_type t k)) types
@@ -36,18 +35,23 @@ next_payload : (payloads : List Payload) (i : ℕ) (payload : Payload) → i < l
 next_payload payloads i payload within is =
     (take_at_read payloads i payload within).1 ∙ ap (λ (p : Payload). take i payloads ++ p ∷ []) (sym is)
 
--- the stretches of the types of the payloads so far, and of one payload more
-pub one_payload_more : (e : Entry) (payloads : List Payload) (i : ℕ) (payload : Payload) (old before later : List Stretch)
+-- an entry under types, and under more of them
+once_for_each-append : (e : Entry) (ks more : List PayloadType) (kind : PayloadType)
+    → once_for_each e (ks ++ more) kind ≡ once_for_each e ks kind ++ once_for_each e more kind
+once_for_each-append e ks more kind = flat_map-append (λ (k : PayloadType). if same_type k kind then (e ∷ []) else []) ks more
+
+-- the entries of the types of the payloads so far, and of one payload more
+pub one_payload_more : (e : Entry) (payloads : List Payload) (i : ℕ) (payload : Payload) (old before later : PayloadType → List Entry)
     → i < length payloads → payload ≡ get_or payloads i payload
-    → before ≡ old ++ stretches_in e (types_of (take i payloads))
-    → later ≡ before ++ stretches_in e (unless_carried (take i payloads) payload.kind)
-    → later ≡ old ++ stretches_in e (types_of (take (i + 1) payloads))
-one_payload_more e payloads i payload old before later within is so_far added =
+    → ((k : PayloadType) → before k ≡ old k ++ once_for_each e (types_of (take i payloads)) k)
+    → ((k : PayloadType) → later k ≡ before k ++ once_for_each e (unless_carried (take i payloads) payload.kind) k)
+    → (k : PayloadType) → later k ≡ old k ++ once_for_each e (types_of (take (i + 1) payloads)) k
+one_payload_more e payloads i payload old before later within is so_far added k =
     let had : List PayloadType = types_of (take i payloads) in
     let one : List PayloadType = unless_carried (take i payloads) payload.kind in
-    added
-    ∙ ap (λ (ss : List Stretch). ss ++ stretches_in e one) so_far
-    ∙ append_assoc old (stretches_in e had) (stretches_in e one)
-    ∙ ap (λ (ss : List Stretch). old ++ ss)
-    (sym (map-append (λ (t : PayloadType). record { payload_type = t; entry = e }) had one)
-    ∙ ap (stretches_in e) (sym (ap types_of (next_payload payloads i payload within is) ∙ one_type_more (take i payloads) payload)))
+    added k
+    ∙ ap (λ (es : List Entry). es ++ once_for_each e one k) (so_far k)
+    ∙ append_assoc (old k) (once_for_each e had k) (once_for_each e one k)
+    ∙ ap (λ (es : List Entry). old k ++ es)
+    (sym (once_for_each-append e had one k)
+    ∙ ap (λ (ks : List PayloadType). once_for_each e ks k) (sym (ap types_of (next_payload payloads i payload within is) ∙ one_type_more (take i payloads) payload)))

@@ -1,3 +1,4 @@
+pub mod Counted
+pub mod Grouped
 pub mod Laws
 pub mod Right
-pub mod Stretches

@@ -1,5 +1,5 @@
--- The entries of some writes, before an edit and after it.
-use Rattle.std.specs.Prelude.{◌≡◌, ◌↔◌, ◌==◌, ◌⊎◌, ℕ, ℤ, Bool, true, List, Option, filter, flat_map, map}
+-- The entries of some writes.
+use Rattle.std.specs.Prelude.{◌≡◌, ◌↔◌, ◌==◌, ℕ, ℤ, Bool, List, Option, filter, flat_map, map}
 use Rattle.std.specs.List.{list_any}
 use Rattle.adr_value.specs.declared.payload.PayloadType.{PayloadType}
 use Rattle.adr_object.specs.declared.party.Resource.{Resource}
@@ -11,8 +11,6 @@ use Rattle.adr_model.specs.Book.{Book}
 use Rattle.adr_model.specs.Governor.{entries_of, applies_to, winner_at}
 use Rattle.adr_model.specs.Lists.{In}
 use Rattle.adr_model.specs.Rank.{ranked}
-use Rattle.adr_stretch.specs.declared.stretch.Stretch.{Stretch}
-use Rattle.adr_stretch.specs.Stretches.{of_type}
 
 -- the winner at an instant among the entries as they compete under the rule for ties
 abbrev pub winner_under : Tie → List Entry → ℤ → Option Winner
@@ -41,14 +39,3 @@ among events writes payload_type = flat_map (entries_of payload_type) (filter (�
 -- the writes are those that apply to the resource
 abbrev pub AreWritesFor : Book → Resource → List ℕ → Type 0
 AreWritesFor book resource writes = (w : Written) → In w book.events → has_number writes w.written ≡ applies_to book resource w
-
--- each event of the one list is in the other, or is one that goes or comes
-pub record Differ (old new gone come : List Written) : Type 0 where
-  pub stays : (w : Written) → In w old → In w new ⊎ In w gone
-  pub was : (w : Written) → In w new → In w old ⊎ In w come
-
--- a write of the first numbers is one of the second too, or its entries are among the stretches
-abbrev pub AreWithin : List Written → List Written → List ℕ → List ℕ → List Stretch → Type 0
-AreWithin old new writes others stretches =
-    (w : Written) → In w old → has_number writes w.written ≡ true
-    → (In w new × (has_number others w.written ≡ true)) ⊎ ((payload_type : PayloadType) (e : Entry) → In e (entries_of payload_type w) → In e (of_type payload_type stretches))

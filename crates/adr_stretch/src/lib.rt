@@ -1,8 +1,8 @@
 #![tactic(auto)]
-//! Where an event competes and under which payload types, and why timelines need no repair elsewhere.
+//! The entries of an event under each of its payload types, and why timelines are repaired only where entries differ.
 
+mod grouped;
 mod laws;
-mod stretch;
 
-pub use laws::{inside_right, outside_right, stretches_are_entries};
-pub use stretch::{Stretch, stretches};
+pub use grouped::{TypeEntries, event_entries};
+pub use laws::{groups_are_counted, held_wins, same_wins};

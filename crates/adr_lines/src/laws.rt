@@ -1,0 +1,21 @@
+//! What the indexes hold, and what an exchange makes of it: laws of the definitions, under either rule for ties.
+
+ghost use Rattle.adr_model.specs.declared.entry.Tie.{Tie};
+ghost use Rattle.adr_lines.specs.Exchange.{FitsTheIndex, HoldsNoMore, IsUndone, KeepsTheIndex, MakesTheIndex};
+
+/// Where the indexes hold the entries of the old events, and some of those go and others come, `Indexes::exchange`
+/// may be called, and then they hold the entries of the new ones; and they hold those of the old ones as long as no
+/// entry changes, as where room is made. The same exchange the other way round is one too, which has its room
+/// wherever room was made for both. The body does nothing.
+pub fn exchange_laws()
+    ensures fits { (tie : Tie) → FitsTheIndex tie }
+    ensures makes { (tie : Tie) → MakesTheIndex tie }
+    ensures keeps { (tie : Tie) → KeepsTheIndex tie }
+    ensures undone { IsUndone }
+{}
+
+/// Where the indexes hold the entries of events, there are under no type more than those, as each entry stands once.
+/// The body does nothing.
+pub fn index_laws()
+    ensures { (tie : Tie) → HoldsNoMore tie }
+{}
