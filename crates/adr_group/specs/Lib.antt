@@ -1,0 +1,4 @@
+pub mod Group
+pub mod Repair
+pub mod Room
+pub mod Writes

@@ -1,0 +1,24 @@
+-- How much the repair of timelines compares.
+use Rattle.std.specs.Prelude.{ℕ, ◌+◌, ◌*◌, List, [], ◌∷◌, length}
+use Rattle.adr_model.specs.declared.entry.Entry.{Entry}
+use Rattle.adr_timeline.specs.Build.{most_compared}
+use Rattle.adr_stretch.specs.declared.grouped.TypeEntries.{TypeEntries}
+use Rattle.adr_stretch.specs.Right.{written_in}
+use Rattle.adr_lines.specs.declared.indexes.Indexes.{Indexes}
+use Rattle.adr_lines.specs.Indexes.{under}
+
+-- to build what the writes show inside each of the windows, of these entries
+abbrev pub most_inside : List ℕ → List Entry → List Entry → ℕ
+most_inside writes entries [] = 0
+most_inside writes entries (w ∷ windows) = most_compared (written_in writes entries) w.span + most_inside writes entries windows
+
+-- the same of each of the types
+abbrev pub most_repaired : List TypeEntries → List ℕ → Indexes → ℕ
+most_repaired [] writes indexes = 0
+most_repaired (g ∷ windows) writes indexes = most_inside writes (under indexes g.payload_type) g.entries.items + most_repaired windows writes indexes
+
+-- to build what wins inside each of the windows compares at most so much, whatever the writes
+abbrev pub most_possible : List TypeEntries → Indexes → ℕ
+most_possible [] indexes = 0
+most_possible (g ∷ windows) indexes =
+    (let n = length (under indexes g.payload_type) in length g.entries.items * (n * (2 * n + 1))) + most_possible windows indexes

@@ -1,0 +1,14 @@
+#![tactic(auto)]
+//! The timelines of resources to which the same events apply, and their repair where events differ.
+
+mod group;
+mod laws;
+mod line;
+mod repair;
+mod timelines;
+mod type_name;
+mod writes;
+
+pub use group::Group;
+pub use laws::{repairs_compare_little, repairs_have_room, right_moves};
+pub use writes::Writes;
