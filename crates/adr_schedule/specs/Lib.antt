@@ -1,0 +1,5 @@
+pub mod Moves
+pub mod Place
+pub mod Seating
+pub mod Shift
+pub mod Slots

@@ -1,0 +1,36 @@
+-- Places move to slots of other values.
+use Rattle.std.specs.Prelude.{◌≡◌, ◌==◌, ◌⊎◌, ℕ, Bool, true, false, List, [], ◌∷◌, length, set, Option, Some}
+use Rattle.std.specs.List.{list_any}
+use Rattle.adr_shared.specs.Map.{without}
+use Rattle.adr_schedule.specs.Slots.{in_slot, is_taken, value_at, AreSeated}
+
+-- the place is one of these
+abbrev pub is_among : List ℕ → ℕ → Bool
+is_among places place = list_any (λ p. p == place) places
+
+-- where a place moves, its value stands to the old one as is asked, and elsewhere it is the same
+pub record AreMoved {G : Type 0} (P : G → G → Type 0) (moves : ℕ → Bool) (seats : List ℕ) (values : List (List ℕ × G)) (others : List ℕ) (after : List (List ℕ × G)) : Type 0 where
+  pub count : length others ≡ length seats
+  pub now : (place : ℕ) (g : G) → value_at seats values place ≡ Some g
+      → (h : G) × (value_at others after place ≡ Some h) × (moves place ≡ true → P g h) × (moves place ≡ false → g ≡ h)
+
+-- places are on the move: where the members of a slot go, what they find there stands to what they had as is asked, and they stay there
+pub record AreMoving {G : Type 0} (P : G → G → Type 0) (seats : List ℕ) (values : List (List ℕ × G)) (slots : List (List ℕ × ℕ)) : Type 0 where
+  pub seated : AreSeated seats values
+  pub goes : (s t : ℕ) (g : G) → in_slot slots s ≡ Some t → in_slot values s ≡ Some g → (h : G) × (in_slot values t ≡ Some h) × P g h
+  pub stays : (s t : ℕ) → in_slot slots s ≡ Some t → in_slot slots t ≡ Some t
+
+-- the slot where the members of a slot go is known, and only it may be no place's yet
+pub record IsNext {G : Type 0} (P : G → G → Type 0) (seats : List ℕ) (values : List (List ℕ × G)) (after : List (List ℕ × G)) (slots : List (List ℕ × ℕ)) (slot next : ℕ) : Type 0 where
+  pub grows : (s : ℕ) (g : G) → in_slot values s ≡ Some g → in_slot after s ≡ Some g
+  pub fresh : (s : ℕ) (g : G) → in_slot after s ≡ Some g → (s ≡ next) ⊎ (is_taken seats s ≡ true)
+  pub goes : (s t : ℕ) (g : G) → in_slot slots s ≡ Some t → in_slot after s ≡ Some g → (h : G) × (in_slot after t ≡ Some h) × P g h
+  pub stays : (s t : ℕ) → in_slot slots s ≡ Some t → in_slot slots t ≡ Some t
+  pub known : in_slot slots slot ≡ Some next
+
+-- the place has the next slot, and where no place has its old one that has no value
+abbrev pub IsSat : {G : Type 0} → List ℕ → ℕ → ℕ → ℕ → List (List ℕ × G) → List ℕ → List (List ℕ × G) → Type 0
+IsSat seats place slot next values others after =
+    ((next ≡ slot) × (others ≡ seats) × (after ≡ values))
+    ⊎ ((next ≡ slot → ⊥) × (others ≡ set seats place next)
+    × (((is_taken others slot ≡ true) × (after ≡ values)) ⊎ ((is_taken others slot ≡ false) × (after ≡ without (slot ∷ []) values))))

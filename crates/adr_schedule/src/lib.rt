@@ -1,0 +1,11 @@
+#![tactic(auto)]
+//! Which group of timelines each resource has.
+
+mod change;
+mod moves;
+mod place;
+mod schedule;
+mod shift;
+
+pub use change::{Change, Side};
+pub use schedule::Schedule;

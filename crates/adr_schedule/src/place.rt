@@ -1,0 +1,198 @@
+//! A place comes, goes, or has other writes.
+ghost use Rattle.std.specs.Prelude.{◌≡◌, ◌<◌, ◌≤◌, ◌+◌, ◌^◌, ◌∷◌, ◌++◌, [], ℕ, List, Some, length, slice_get, IfOk, IfSome, if◌then◌else◌};
+ghost use Rattle.adr_value.specs.Answer.{OnlyNoMemory};
+ghost use Rattle.adr_model.specs.declared.entry.Tie.{Tie};
+ghost use Rattle.adr_model.specs.declared.written.Written.{Written};
+ghost use Rattle.adr_shared.specs.Map.{without};
+ghost use Rattle.adr_stretch.specs.Grouped.{entries_under};
+ghost use Rattle.adr_lines.specs.Exchange.{IsIndexOf};
+ghost use Rattle.adr_group.specs.Group.{AreWindowsOf, IsRightOf, Lines};
+ghost use Rattle.adr_group.specs.Repair.{most_possible};
+ghost use Rattle.adr_schedule.specs.Place.{HasPlace, HasValue, IsPlaced, IsRewritten, IsSlotWith, LacksPlace, StaysRight, StaysRightInside};
+ghost use Rattle.adr_schedule.specs.Seating.{group_at};
+ghost use Rattle.adr_schedule.specs.Slots.{in_slot, is_taken};
+
+use crate::moves::{Moves, sit};
+use crate::schedule::Schedule;
+use adr_group::{Group, Writes, repairs_compare_little};
+use adr_lines::Indexes;
+use adr_rule::Meter;
+use adr_seats::Seats;
+use adr_shared::SharedMap;
+use adr_stretch::TypeEntries;
+use adr_value::Refusal;
+use std::alloc::Global;
+
+/// The groups but that of the slot, where no place has it.
+fn without_unused(
+    alloc: Global,
+    groups: &SharedMap<u64, Group>,
+    seats: &Seats,
+    slot: u64,
+) -> Result<SharedMap<u64, Group>, Refusal>
+    ensures ok { IfOk result (λ kept. kept ≡ (if is_taken seats.now slot then groups.now else without (slot ∷ []) groups.now)) }
+    ensures refusal { OnlyNoMemory result }
+{
+    if seats.is_taken(slot) {
+        groups.copy()
+    } else {
+        groups.without(alloc, &slot)
+    }
+}
+
+/// The group of those writes, made of the old one.
+fn remade(
+    alloc: Global,
+    indexes: &Indexes,
+    group: &Group,
+    writes: &Writes,
+    windows: &[TypeEntries],
+    meter: &mut Meter,
+) -> Result<Group, Refusal>
+    requires room { meter.old + most_possible windows.now indexes.now < 2 ^ 128 }
+    ensures writes { IfOk result (λ made. made.writes ≡ writes.now) }
+    ensures right { IfOk result (λ made. (tie : Tie) (events : List Written) → IsIndexOf tie events indexes.now → AreWindowsOf events group.now.writes writes.now (entries_under windows.now) → IsRightOf tie events group.now → IsRightOf tie events made) }
+    ensures compared { meter.new ≤ meter.old + most_possible windows.now indexes.now }
+    ensures refusal { OnlyNoMemory result }
+{
+    repairs_compare_little();
+    let writes = writes.copy()?;
+    group.repaired(alloc, indexes, windows, &[], writes, meter)
+}
+
+impl Schedule {
+    /// The law of the places: each has a group.
+    pub fn schedule_laws(&self)
+        ensures { (place : ℕ) → place < length self.now.seats → (g : Lines) × (group_at self.now place ≡ Some g) }
+    {
+        let _ = &self.seats;
+    }
+
+    /// One more place, last, with a group of no writes. `NoMemory` where there is no room for it. Cost: the table of
+    /// seats is copied; the groups are shared.
+    pub fn with_place(&self, alloc: Global) -> Result<Schedule, Refusal>
+        ensures place { IfOk result (λ after. HasPlace self.now after) }
+        ensures right { IfOk result (λ after. StaysRight self.now after) }
+        ensures refusal { OnlyNoMemory result }
+    {
+        let slot = self.seats.free_slot()?;
+        let mut seats = self.seats.copy()?;
+        seats.push(slot)?;
+        let groups = self.groups.put(alloc, slot, Group::new(alloc)?)?;
+        Ok(Schedule { seats, groups })
+    }
+
+    /// Without the place: those after it move down, and a group that no place has any more goes. `NoMemory` where there
+    /// is no room for the copy. Cost: the table of seats is copied; the groups are shared.
+    pub fn without_place(&self, alloc: Global, place: usize) -> Result<Schedule, Refusal>
+        requires { place < length self.now.seats }
+        ensures place { IfOk result (λ after. LacksPlace place self.now after) }
+        ensures right { IfOk result (λ after. StaysRight self.now after) }
+        ensures refusal { OnlyNoMemory result }
+    {
+        let Some(slot) = self.seats.slot(place) else {
+            unreachable!();
+        };
+        let mut seats = self.seats.copy()?;
+        seats.remove(place);
+        let groups = without_unused(alloc, &self.groups, &seats, slot)?;
+        Ok(Schedule { seats, groups })
+    }
+
+    /// The place moves from its slot to the next one.
+    fn seated(
+        &self,
+        alloc: Global,
+        groups: SharedMap<u64, Group>,
+        place: usize,
+        slot: u64,
+        next: u64,
+    ) -> Result<Schedule, Refusal>
+        requires slot { slice_get self.now.seats place ≡ Some slot }
+        requires value { HasValue self.now.seats next self.now.groups groups }
+        ensures placed { IfOk result (λ after. (g : Lines) → in_slot groups next ≡ Some g → IsPlaced place g self.now after) }
+        ensures refusal { OnlyNoMemory result }
+    {
+        let mut seats = self.seats.copy()?;
+        let moves = sit(alloc, &mut seats, Moves::new(groups), place, slot, next)?;
+        let groups = moves.values.copy()?;
+        Ok(Schedule { seats, groups })
+    }
+
+    /// The place has the group of that slot, which some place has.
+    fn beside(&self, alloc: Global, place: usize, slot: u64, next: u64) -> Result<Schedule, Refusal>
+        requires slot { slice_get self.now.seats place ≡ Some slot }
+        requires next { (p : ℕ) × (slice_get self.now.seats p ≡ Some next) }
+        ensures placed { IfOk result (λ after. (g : Lines) → in_slot self.now.groups next ≡ Some g → IsPlaced place g self.now after) }
+        ensures refusal { OnlyNoMemory result }
+    {
+        let groups = self.groups.copy()?;
+        self.seated(alloc, groups, place, slot, next)
+    }
+
+    /// The place has this group, in a slot of its own.
+    fn apart(
+        &self,
+        alloc: Global,
+        place: usize,
+        slot: u64,
+        group: Group,
+    ) -> Result<Schedule, Refusal>
+        requires { slice_get self.now.seats place ≡ Some slot }
+        ensures placed { IfOk result (λ after. IsPlaced place group self.now after) }
+        ensures refusal { OnlyNoMemory result }
+    {
+        let next = self.seats.free_slot()?;
+        let groups = self.groups.put(alloc, next, group)?;
+        self.seated(alloc, groups, place, slot, next)
+    }
+
+    /// The slot of the place, where its group has these writes.
+    fn slot_with(&self, place: Option<usize>, writes: &Writes) -> Option<u64>
+        ensures { IfSome result (IsSlotWith self.now writes.now) }
+    {
+        let slot = self.seats.slot(place?)?;
+        match self.groups.get(&slot) {
+            Some(group) if group.writes().same(writes) => Some(slot),
+            _ => None,
+        }
+    }
+
+    /// Gives the place these writes. A place whose group has them keeps it; where the group of the place `like` has
+    /// them it is shared; else a group is made of the old one by repair inside the windows, which must hold the entries
+    /// of each event on which the writes differ. `NoMemory` where there is no room.
+    ///
+    /// Cost: a copy of the table of seats; where a group is made, that of `Group::repaired`.
+    pub fn rewritten(
+        &self,
+        alloc: Global,
+        indexes: &Indexes,
+        place: usize,
+        like: Option<usize>,
+        writes: &Writes,
+        windows: &[TypeEntries],
+        meter: &mut Meter,
+    ) -> Result<Schedule, Refusal>
+        requires within { place < length self.now.seats }
+        requires room { meter.old + most_possible windows.now indexes.now < 2 ^ 128 }
+        ensures writes { IfOk result (λ after. IsRewritten place writes.now self.now after) }
+        ensures right { IfOk result (λ after. StaysRightInside indexes.now windows.now place writes.now self.now after) }
+        ensures compared { meter.new ≤ meter.old + most_possible windows.now indexes.now }
+        ensures refusal { OnlyNoMemory result }
+    {
+        let Some(slot) = self.seats.slot(place) else {
+            unreachable!();
+        };
+        let Some(group) = self.groups.get(&slot) else {
+            unreachable!();
+        };
+        if group.writes().same(writes) {
+            return self.copy();
+        }
+        if let Some(next) = self.slot_with(like, writes) {
+            return self.beside(alloc, place, slot, next);
+        }
+        let made = remade(alloc, indexes, group, writes, windows, meter)?;
+        self.apart(alloc, place, slot, made)
+    }
+}
