@@ -1,0 +1,27 @@
+-- An accepted edit of a program leaves the events.
+use Rattle.std.proofs.Common.{◌≡◌, ◌∙◌, true, Ok, refl, ap}
+use Rattle.adr_object.specs.declared.object.Object.TheVariants.{Program as program, Event as event_object, Ven as ven, Resource as resource}
+use Rattle.adr_object.specs.declared.object.Kind.TheVariants.{Program as program_kind, Event as event_kind, Ven as ven_kind, Resource as resource_kind}
+use Rattle.adr_object.specs.declared.object.Edit.{Edit}
+use Rattle.adr_object.specs.declared.object.Edit.TheVariants.{Create, Change, Remove}
+use Rattle.adr_model.specs.Book.{Book}
+use Rattle.adr_model.specs.Edits.{made, step}
+use Rattle.adr_model.proofs.EditLemmas.{accepted}
+use Rattle.adr_desk.specs.Program.{is_of_program}
+
+made_events : (old : Book) (edit : Edit) → is_of_program edit ≡ true → old.events ≡ (made old edit).events
+made_events old (Create (program p)) h = refl
+made_events old (Create (event_object e)) h = absurd (cc)
+made_events old (Create (ven v)) h = absurd (cc)
+made_events old (Create (resource r)) h = absurd (cc)
+made_events old (Change (program p)) h = refl
+made_events old (Change (event_object e)) h = absurd (cc)
+made_events old (Change (ven v)) h = absurd (cc)
+made_events old (Change (resource r)) h = absurd (cc)
+made_events old (Remove program_kind id) h = refl
+made_events old (Remove event_kind id) h = absurd (cc)
+made_events old (Remove ven_kind id) h = absurd (cc)
+made_events old (Remove resource_kind id) h = absurd (cc)
+
+pub program_events : (old new : Book) (edit : Edit) → is_of_program edit ≡ true → step old edit ≡ Ok new → old.events ≡ new.events
+program_events old new edit h k = made_events old edit h ∙ ap (λ (b : Book). b.events) (accepted old new edit k).1

@@ -1,0 +1,43 @@
+use Rattle.std.proofs.Common.{◌*◌, ◌<◌, ◌^◌, length, ap, ◌∙◌, arith}
+use Rattle.adr_group.specs.Repair.{most_possible}
+use Rattle.adr_schedule.specs.Moves.{is_among}
+use Rattle.adr_schedule.specs.Shift.{entries_in, sides_of}
+use Rattle.adr_desk.specs.Edited.{come_of, gone_of}
+use Rattle.adr_desk.proofs.Made.{room_for_both, room_for_one, seated_after}
+use Rattle.adr_desk.proofs.Sides.{groups_of_side}
+use Rattle.adr_desk.proofs.making.regrouped.Goals as goal
+
+pub shifted-requires-clause-room : goal.shifted-requires-clause-room
+shifted-requires-clause-room c =
+    let book = c.args.book.now.objects in
+    let edit = c.args.edit.now in
+    let room = c.requires.room c.args.indexes.now (entries_in c.args.change.now.gone) (entries_in c.args.change.now.come) c.requires.indexed
+    (groups_of_side c.args.tie (gone_of book edit) c.args.change.now.gone c.requires.gone) (groups_of_side c.args.tie (come_of book edit) c.args.change.now.come c.requires.come) in
+    let few : length c.as_slice.result.now * most_possible (sides_of c.args.change.now) c.args.indexes.now < 2 ^ 127 =
+    rw c.as_slice.ensures.value (room_for_both (length c.in_ok-joining.joining.items) (length book.resources) (most_possible (sides_of c.args.change.now) c.args.indexes.now) c.in_ok-joining.ensures.count room) in
+    omega (arith, few, c.requires.begun)
+
+pub shifted-requires-2-clause-room : goal.shifted-requires-2-clause-room
+shifted-requires-2-clause-room c =
+    let book = c.args.book.now.objects in
+    let edit = c.args.edit.now in
+    let room = c.requires.room c.args.indexes.now (entries_in c.args.change.now.gone) (entries_in c.args.change.now.come) c.requires.indexed
+    (groups_of_side c.args.tie (gone_of book edit) c.args.change.now.gone c.requires.gone) (groups_of_side c.args.tie (come_of book edit) c.args.change.now.come c.requires.come) in
+    let few : length c.as_slice.result.now * most_possible (sides_of c.args.change.now) c.args.indexes.now < 2 ^ 127 =
+    rw c.as_slice.ensures.value (room_for_both (length c.in_ok-joining.joining.items) (length book.resources) (most_possible (sides_of c.args.change.now) c.args.indexes.now) c.in_ok-joining.ensures.count room) in
+    let again = c.requires.room c.args.indexes.now (entries_in c.args.alone.now.gone) (entries_in c.args.change.now.come) c.requires.indexed
+    (groups_of_side c.args.tie (gone_of book edit) c.args.alone.now.gone c.requires.again) (groups_of_side c.args.tie (come_of book edit) c.args.change.now.come c.requires.come) in
+    let less : length c.as_slice-2.result.now * most_possible (sides_of c.args.alone.now) c.args.indexes.now < 2 ^ 127 =
+    rw c.as_slice-2.ensures.value (room_for_one c.args.indexes.now c.repairs_compare_little.ensures.both c.args.alone.now (entries_in c.args.change.now.come) (length c.in_ok-leaving.leaving.items) (length book.resources) c.requires.lone c.in_ok-leaving.ensures.count again) in
+    omega (arith, few, less, c.requires.begun, c.shifted.ensures.compared)
+
+pub returns-clause-seated : goal.returns-clause-seated
+returns-clause-seated c =
+    let book = c.args.book.now.objects in
+    let edit = c.args.edit.now in
+    seated_after c.right_moves.ensures c.args.tie book (gone_of book edit) (come_of book edit) c.args.indexes.now c.args.change.now c.args.alone.now
+    c.requires.gone c.requires.come c.requires.again c.requires.lone c.requires.indexed
+    c.args.schedule.now c.in_ok-mid.mid c.in_ok-after.after c.as_slice.result.now c.as_slice-2.result.now
+    (λ p r v at e. ap (λ ps. is_among ps p) c.as_slice.ensures.value ∙ c.in_ok-joining.ensures.apply p r v at e)
+    (λ p r u at e. ap (λ ps. is_among ps p) c.as_slice-2.ensures.value ∙ c.in_ok-leaving.ensures.apply p r u at e)
+    c.in_ok-mid.ensures.shifted c.in_ok-mid.ensures.right c.in_ok-after.ensures.shifted c.in_ok-after.ensures.right

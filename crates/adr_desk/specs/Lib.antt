@@ -1,0 +1,5 @@
+pub mod Desk
+pub mod Edited
+pub mod Party
+pub mod Program
+pub mod Room

@@ -1,0 +1,18 @@
+#![tactic(auto)]
+//! A book and the timelines of all its resources, each shown at every instant what governs, repaired by each edit where
+//! it touches.
+
+mod desk;
+mod empty;
+mod events;
+mod laws;
+mod make;
+mod making;
+mod party;
+mod program;
+mod receipt;
+mod side;
+
+pub use desk::Desk;
+pub use laws::edits_have_room;
+pub use receipt::Receipt;
