@@ -1,9 +1,11 @@
 #![tactic(auto)]
-//! Tests of what goes over objects, by what public functions answer: ids, values, objects, layouts, targets, the book and
+//! Tests of what goes over objects, by what public functions answer: ids, bodies, values, objects, layouts, targets, the book and
 //! the touches of an edit.
 
 #[cfg(test)]
 mod alike;
+#[cfg(test)]
+mod bodies;
 #[cfg(test)]
 mod book;
 #[cfg(test)]

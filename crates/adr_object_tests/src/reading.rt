@@ -13,7 +13,13 @@ pub(crate) fn word(line: &str) -> Result<(&str, &str), Refusal> {
     line.split_once(' ').ok_or(Refusal::BadLine)
 }
 
-fn read_object(alloc: Global, kind: &str, id: &Id, body: &[u8]) -> Result<Object, Refusal> {
+/// The object of a body on a line of that kind and id.
+pub(crate) fn read_object(
+    alloc: Global,
+    kind: &str,
+    id: &Id,
+    body: &[u8],
+) -> Result<Object, Refusal> {
     match kind {
         "program" => {
             let program = read_program(alloc, body, id, Moment::MIN)?;

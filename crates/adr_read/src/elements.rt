@@ -105,8 +105,7 @@ impl<T: Read, const LIMIT: usize> Elements<T, LIMIT> {
             (list_in (λ n. T.stands_for (record { moment = moment; place = pos n })) (array (items_of ds))) }
     {
         let Elements { items, faults, .. } = self;
-        let mut items = faults.answer(items)?;
-        items.shrink_to_fit();
+        let items = faults.answer(items)?;
         Ok(BoundedVec::from_vec(items))
     }
 }

@@ -17,3 +17,4 @@ pub mod ShieldLemmas
 pub mod SpellingLemmas
 pub mod TextLemmas
 pub mod ValueLemmas
+pub mod WaitingLemmas

@@ -8,7 +8,7 @@ pub returns : goal.returns
 returns g c moment ds so_far =
     let self = c.args.self in
     let value = c.in_ok-items.ensures.value in
-    list_given g.row.LIMIT g.T.Read.faults (λ n. g.T.Read.stands_for (record { moment = moment; place = pos n })) self.items.items self.count self.faults ds so_far c.from_vec.result (c.from_vec.ensures ∙ c.shrink_to_fit.ensures.items ∙ ap (λ v. v.items) value.0) value.1
+    list_given g.row.LIMIT g.T.Read.faults (λ n. g.T.Read.stands_for (record { moment = moment; place = pos n })) self.items.items self.count self.faults ds so_far c.from_vec.result (c.from_vec.ensures ∙ ap (λ v. v.items) value.0) value.1
 
 pub returns-in_err-items : goal.returns-in_err-items
 returns-in_err-items g c moment ds so_far =
