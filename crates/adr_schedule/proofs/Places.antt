@@ -105,14 +105,14 @@ module _ (s : Seating) (free : ℕ) (g : Lines) (old : AreSeated s.seats s.group
 
 -- ---- one element less
 
-before_gone : (xs : List ℕ) (place p : ℕ) → p < place → slice_get (remove xs place) p ≡ slice_get xs p
+before_gone : {X : Type 0} (xs : List X) (place p : ℕ) → p < place → slice_get (remove xs place) p ≡ slice_get xs p
 before_gone [] zero p h = absurd (omega arith)
 before_gone [] (suc place) p h = refl
 before_gone (x ∷ xs) zero p h = absurd (omega arith)
 before_gone (x ∷ xs) (suc place) zero h = refl
 before_gone (x ∷ xs) (suc place) (suc p) h = before_gone xs place p (omega arith)
 
-behind_gone : (xs : List ℕ) (place p : ℕ) → place ≤ p → slice_get (remove xs place) p ≡ slice_get xs (suc p)
+behind_gone : {X : Type 0} (xs : List X) (place p : ℕ) → place ≤ p → slice_get (remove xs place) p ≡ slice_get xs (suc p)
 behind_gone [] zero p h = refl
 behind_gone [] (suc place) p h = refl
 behind_gone (x ∷ xs) zero p h = refl
@@ -123,7 +123,7 @@ behind_gone (x ∷ xs) (suc place) (suc p) h = behind_gone xs place p (omega ari
 abbrev pub was_at : ℕ → ℕ → ℕ
 was_at place p = if nat_lt p place then p else p + 1
 
-pub after_gone : (xs : List ℕ) (place p : ℕ) → slice_get (remove xs place) p ≡ slice_get xs (was_at place p)
+pub after_gone : {X : Type 0} (xs : List X) (place p : ℕ) → slice_get (remove xs place) p ≡ slice_get xs (was_at place p)
 after_gone xs place p = by (nat_lt p place) refl
   where
     by : (b : Bool) → nat_lt p place ≡ b → slice_get (remove xs place) p ≡ slice_get xs (if b then p else p + 1)
@@ -143,7 +143,7 @@ still_there xs place (suc p) apart = by (nat_lt (suc p) place) refl
     by true e = (suc p, before_gone xs place (suc p) (ltb-true (suc p) place e))
     by false e = (p, behind_gone xs place p (omega (arith, ltb-false (suc p) place e, apart)))
 
-pub count_gone : (xs : List ℕ) (place x : ℕ) → slice_get xs place ≡ Some x → length (remove xs place) + 1 ≡ length xs
+pub count_gone : {X : Type 0} (xs : List X) (place : ℕ) (x : X) → slice_get xs place ≡ Some x → length (remove xs place) + 1 ≡ length xs
 count_gone [] place x h = absurd (cc)
 count_gone (y ∷ ys) zero x h = omega arith
 count_gone (y ∷ ys) (suc place) x h = omega (arith, count_gone ys place x h)

@@ -158,8 +158,8 @@ impl Schedule {
         }
     }
 
-    /// Gives the place these writes. A place whose group has them keeps it; where the group of the place `like` has
-    /// them it is shared; else a group is made of the old one by repair inside the windows, which must hold the entries
+    /// Gives the place these writes. Where the group of the place `like` has them it is shared; a place whose own group
+    /// has them keeps it; else a group is made of the old one by repair inside the windows, which must hold the entries
     /// of each event on which the writes differ. `NoMemory` where there is no room.
     ///
     /// Cost: a copy of the table of seats; where a group is made, that of `Group::repaired`.
@@ -186,11 +186,11 @@ impl Schedule {
         let Some(group) = self.groups.get(&slot) else {
             unreachable!();
         };
-        if group.writes().same(writes) {
-            return self.copy();
-        }
         if let Some(next) = self.slot_with(like, writes) {
             return self.beside(alloc, place, slot, next);
+        }
+        if group.writes().same(writes) {
+            return self.copy();
         }
         let made = remade(alloc, indexes, group, writes, windows, meter)?;
         self.apart(alloc, place, slot, made)

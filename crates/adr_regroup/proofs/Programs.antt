@@ -1,0 +1,190 @@
+-- Edits of programs: what they leave as it was, and what their turns cost.
+use Rattle.std.proofs.Common.{◌≡◌, ℕ, zero, suc, ◌+◌, ◌*◌, ◌<◌, ◌≤◌, ◌||◌, Bool, true, false, not, if◌then◌else◌, List, [], ◌∷◌, ◌++◌, length, drop, filter, sum_by, slice_get, Option, Some, None, is_some, refl, ap, ap₂, sym, subst, ◌∙◌, arith, Result, Ok, Err, IsOk, nat_le}
+use Rattle.std.proofs.lemmas.Bool.{not-false}
+use Rattle.std.proofs.lemmas.List.Sums.{sum_by-cons}
+use Rattle.std.proofs.lemmas.Nat.{mul-le}
+use Rattle.std.specs.Option.{option_map_or, option_map, option_and_then}
+use Rattle.std.specs.Str.{bytes_eq}
+use Rattle.adr_value.specs.declared.limits.TheConstants.{MOST_VERSION}
+use Rattle.adr_value.specs.declared.refusal.Refusal.{Refusal}
+use Rattle.adr_value.specs.declared.refusal.Refusal.TheVariants.{NotThere, InUse, Full}
+use Rattle.adr_object.specs.declared.event.Event.{Event}
+use Rattle.adr_object.specs.declared.object.Object.{Object}
+use Rattle.adr_object.specs.declared.object.Object.TheVariants.{Program as program_object, Event as event_object, Ven as ven_object, Resource as resource_object}
+use Rattle.adr_object.specs.declared.object.Kind.{Kind}
+use Rattle.adr_object.specs.declared.object.Kind.TheVariants.{Program as program_kind, Event as event_kind, Ven as ven_kind, Resource as resource_kind}
+use Rattle.adr_object.specs.declared.object.Edit.TheVariants.{Create, Change, Remove}
+use Rattle.adr_object.specs.declared.party.Program.{Program}
+use Rattle.adr_model.specs.declared.entry.Tie.{Tie}
+use Rattle.adr_model.specs.declared.written.Written.{Written}
+use Rattle.adr_model.specs.Book.{Book, program_by, ven_by}
+use Rattle.adr_model.specs.Edits.{faults, made, step, has_id, is_named, layout_faults, reference_faults, fault_if, is_full_for}
+use Rattle.adr_model.specs.Matching.{applies}
+use Rattle.adr_model.specs.Whole.{IsWhole}
+use Rattle.adr_model.proofs.EditLemmas.{accepted}
+use Rattle.adr_model.proofs.Steps.{no_fault, no_faults_before, no_faults_after}
+use Rattle.adr_audience.specs.Laws.{applying_places}
+use Rattle.adr_audience.proofs.Placed.{found_before, found_beside, none_has}
+use Rattle.adr_lines.specs.declared.indexes.Indexes.{Indexes}
+use Rattle.adr_schedule.specs.Moves.{is_among}
+use Rattle.adr_schedule.specs.Seating.{Seating, AreSeatedFor}
+use Rattle.adr_stretch.specs.Grouped.{written_event}
+use Rattle.adr_regroup.specs.Program.{is_of_program, most_in, most_turned, with_program, ArePartly}
+use Rattle.adr_regroup.proofs.Applying.{applying_count, fewer, scenes}
+use Rattle.adr_regroup.proofs.Turned.{all_turned}
+
+-- ---- an event by its parts
+
+pub written_at : (o : Option Written) (x : Event) (n : ℕ) → option_map (λ w. w.event) o ≡ Some x → option_map (λ w. w.written) o ≡ Some n → o ≡ Some (written_event x n)
+written_at None x n e m = absurd (cc)
+written_at (Some w) x n e m =
+    let a : w.event ≡ x = cc in
+    let b : w.written ≡ n = cc in
+    ap₂ (λ (y : Event) (k : ℕ). Some (written_event y k)) a b
+
+pub apart_of : (a b i j : List ℕ) → a ≡ i → b ≡ j → true ≡ not (bytes_eq a b) → bytes_eq i j ≡ false
+apart_of a b i j e f h = by (bytes_eq i j) (h ∙ ap₂ (λ x y. not (bytes_eq x y)) e f)
+  where
+    by : (q : Bool) → true ≡ not q → q ≡ false
+    by true k = absurd (cc)
+    by false k = refl
+
+pub same_of : (a b i j : List ℕ) → a ≡ i → b ≡ j → false ≡ not (bytes_eq a b) → bytes_eq i j ≡ true
+same_of a b i j e f h = by (bytes_eq i j) (h ∙ ap₂ (λ x y. not (bytes_eq x y)) e f)
+  where
+    by : (q : Bool) → false ≡ not q → q ≡ true
+    by true k = refl
+    by false k = absurd (cc)
+
+-- ---- what turns cost
+
+pub turn_cost : (indexes : Indexes) (book : Book) (was program : Program) (o : Option Written) (w : Written) (lost gained : List ℕ) → o ≡ Some w → bytes_eq program.id w.event.program_id ≡ true
+    → lost ≡ filter (λ p. not (is_among (applying_places book w.event program) p)) (applying_places book w.event was)
+    → gained ≡ filter (λ p. not (is_among (applying_places book w.event was) p)) (applying_places book w.event program)
+    → length lost * most_in indexes w.event + length gained * most_in indexes w.event ≤ option_map_or (most_turned indexes program.id (length book.resources)) o 0
+turn_cost indexes book was program o w lost gained at own loses gains =
+    subst (λ k. length lost * most_in indexes w.event + length gained * most_in indexes w.event ≤ k) (sym cost)
+    (add_both _ _ _ _
+    (mul-le (length lost) (most_in indexes w.event) (length book.resources) (most_in indexes w.event) few_lost (omega arith))
+    (mul-le (length gained) (most_in indexes w.event) (length book.resources) (most_in indexes w.event) few_gained (omega arith)))
+  where
+    cost : option_map_or (most_turned indexes program.id (length book.resources)) o 0 ≡ length book.resources * most_in indexes w.event + length book.resources * most_in indexes w.event
+    cost =
+        ap (λ x. option_map_or (most_turned indexes program.id (length book.resources)) x 0) at
+        ∙ ap (λ b. if b then length book.resources * most_in indexes w.event + length book.resources * most_in indexes w.event else 0) own
+
+    few_lost : length lost ≤ length book.resources
+    few_lost =
+        subst (λ ps. length ps ≤ length book.resources) (sym loses)
+        (omega (arith, fewer (λ p. not (is_among (applying_places book w.event program) p)) (applying_places book w.event was), applying_count book w.event was))
+
+    few_gained : length gained ≤ length book.resources
+    few_gained =
+        subst (λ ps. length ps ≤ length book.resources) (sym gains)
+        (omega (arith, fewer (λ p. not (is_among (applying_places book w.event was) p)) (applying_places book w.event program), applying_count book w.event program))
+
+    add_both : (a b m n : ℕ) → a ≤ m → b ≤ n → a + b ≤ m + n
+    add_both a b m n h l = omega (arith, h, l)
+
+pub below : (m a b k limit : ℕ) → m + k < limit → a + b ≤ k → m + a + b < limit
+below m a b k limit h l = omega (arith, h, l)
+
+pub no_more : (after m a b k : ℕ) → after ≤ m + a + b → a + b ≤ k → after ≤ m + k
+no_more after m a b k h l = omega (arith, h, l)
+
+-- what is left after one more
+pub next_cost : {X : Type 0} (f : X → ℕ) (xs : List X) (p : ℕ) → p < length xs → option_map_or f (slice_get xs p) 0 + sum_by f (drop (p + 1) xs) ≡ sum_by f (drop p xs)
+next_cost f [] p h = absurd (omega arith)
+next_cost f (x ∷ xs) zero h = sym (sum_by-cons f x xs)
+next_cost f (x ∷ xs) (suc p) h = let e : suc p + 1 ≡ suc (p + 1) = omega arith in rw e (next_cost f xs p (omega arith))
+
+none_dropped : {X : Type 0} (xs : List X) → drop 0 xs ≡ xs
+none_dropped [] = refl
+none_dropped (x ∷ xs) = refl
+
+pub start_cost : {X : Type 0} (f : X → ℕ) (xs : List X) (m : ℕ) → m + sum_by f (drop 0 xs) ≤ m + sum_by f xs
+start_cost f xs m = subst (λ ys. m + sum_by f ys ≤ m + sum_by f xs) (sym (none_dropped xs)) (omega arith)
+
+pub below_first : (m first rest left before all limit : ℕ) → first + rest ≡ left → m + left ≤ before + all → before + all < limit → m + first < limit
+below_first m first rest left before all limit e h l = omega (arith, e, h, l)
+
+pub after_first : (after m first rest left before all : ℕ) → first + rest ≡ left → m + left ≤ before + all → after ≤ m + first → after + rest ≤ before + all
+after_first after m first rest left before all e h l = omega (arith, e, h, l)
+
+pub after_failed : (after m first rest left before all : ℕ) → first + rest ≡ left → m + left ≤ before + all → after ≤ m + first → after ≤ before + all
+after_failed after m first rest left before all e h l = omega (arith, e, h, l)
+
+-- ---- a program that comes or goes
+
+module _ (tie : Tie) (old : Book) (whole : IsWhole old) (s : Seating) (h : AreSeatedFor tie old s) where
+  pub created_seated : (p : Program) → AreSeatedFor tie (made old (Create (program_object p))) s
+  created_seated p = record {
+    count = h.count;
+    right = h.right;
+    writes = λ place r w a m.
+        h.writes place r w a m
+        ∙ sym (ap (λ (o : Option Program). option_map_or applies (option_and_then (scenes w.event r (ven_by old r.ven_id)) o) false)
+        (found_before (λ (x : Program). x.id) p w.event.program_id old.programs (whole.programs w m)));
+    known = h.known;
+  }
+
+  pub removed_seated : (id : List ℕ) → is_named old program_kind id ≡ false → AreSeatedFor tie (made old (Remove program_kind id)) s
+  removed_seated id free = record {
+    count = h.count;
+    right = h.right;
+    writes = λ place r w a m.
+        h.writes place r w a m
+        ∙ sym (ap (λ (o : Option Program). option_map_or applies (option_and_then (scenes w.event r (ven_by old r.ven_id)) o) false)
+        (found_beside (λ (x : Program). x.id) id w.event.program_id old.programs (none_has (λ (x : Written). bytes_eq id x.event.program_id) old.events free w m)));
+    known = h.known;
+  }
+
+-- ---- of an accepted edit
+
+there_to_change : (a b c d : List Refusal) → ((a ++ b) ++ c) ++ d ≡ [] → b ≡ []
+there_to_change a b c d h = no_faults_after a b (no_faults_before (a ++ b) c (no_faults_before ((a ++ b) ++ c) d h))
+
+pub program_there : (old : Book) (p : Program) → faults old (Change (program_object p)) ≡ [] → is_some (program_by old p.id) ≡ true
+program_there old p g =
+    not-false (has_id old program_kind p.id)
+    (no_fault (not (has_id old program_kind p.id)) NotThere
+    (let first : List Refusal = layout_faults (program_object p) in
+    let second : List Refusal = fault_if (not (has_id old program_kind p.id)) NotThere in
+    let third : List Refusal = reference_faults old (program_object p) in
+    let fourth : List Refusal = fault_if (nat_le MOST_VERSION old.version || is_full_for old (Change (program_object p))) Full in
+    there_to_change first second third fourth g))
+
+unnamed_to_go : (a b c : List Refusal) → (a ++ b) ++ c ≡ [] → b ≡ []
+unnamed_to_go a b c h = no_faults_after a b (no_faults_before (a ++ b) c h)
+
+pub program_unnamed : (old : Book) (id : List ℕ) → faults old (Remove program_kind id) ≡ [] → is_named old program_kind id ≡ false
+program_unnamed old id g =
+    no_fault (is_named old program_kind id) InUse
+    (let first : List Refusal = fault_if (not (has_id old program_kind id)) NotThere in
+    let second : List Refusal = fault_if (is_named old program_kind id) InUse in
+    let third : List Refusal = fault_if (nat_le MOST_VERSION old.version) Full in
+    unnamed_to_go first second third g)
+
+pub change_there : (old : Book) (p : Program) → IsOk (step old (Change (program_object p))) → is_some (program_by old p.id) ≡ true
+change_there old p h = by (step old (Change (program_object p))) refl h
+  where
+    by : (r : Result Book Refusal) → step old (Change (program_object p)) ≡ r → IsOk r → is_some (program_by old p.id) ≡ true
+    by (Ok b) e k = program_there old p (accepted old b (Change (program_object p)) e).0
+    by (Err f) e k = absurd (cc)
+
+pub seated_again : (tie : Tie) (old : Book) (p : Program) (s : Seating) → ArePartly tie old (with_program old p) (length old.events) s → AreSeatedFor tie (made old (Change (program_object p))) s
+seated_again tie old p s h = let a = all_turned tie old p s h in record { count = a.count; right = a.right; writes = a.writes; known = a.known }
+
+pub after_create : (tie : Tie) (old new : Book) (o : Object) (s : Seating) → IsWhole old → is_of_program (Create o) ≡ true → step old (Create o) ≡ Ok new → AreSeatedFor tie old s → AreSeatedFor tie new s
+after_create tie old new (program_object p) s whole t a h = subst (λ (b : Book). AreSeatedFor tie b s) (accepted old new (Create (program_object p)) a).1 (created_seated tie old whole s h p)
+after_create tie old new (event_object e) s whole t a h = absurd (cc)
+after_create tie old new (ven_object v) s whole t a h = absurd (cc)
+after_create tie old new (resource_object r) s whole t a h = absurd (cc)
+
+pub after_remove : (tie : Tie) (old new : Book) (k : Kind) (id : List ℕ) (s : Seating) → IsWhole old → is_of_program (Remove k id) ≡ true → step old (Remove k id) ≡ Ok new → AreSeatedFor tie old s → AreSeatedFor tie new s
+after_remove tie old new program_kind id s whole t a h =
+    let x = accepted old new (Remove program_kind id) a in
+    subst (λ (b : Book). AreSeatedFor tie b s) x.1 (removed_seated tie old whole s h id (program_unnamed old id x.0))
+after_remove tie old new event_kind id s whole t a h = absurd (cc)
+after_remove tie old new ven_kind id s whole t a h = absurd (cc)
+after_remove tie old new resource_kind id s whole t a h = absurd (cc)

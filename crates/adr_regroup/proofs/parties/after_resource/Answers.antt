@@ -1,0 +1,78 @@
+use Rattle.std.proofs.Common.{◌≡◌, ◌+◌, ◌<◌, ◌∷◌, [], ℕ, List, Ok, Option, Some, None, true, false, is_some, length, slice_get, ap, arith, subst, sym, ◌∙◌}
+use Rattle.std.proofs.lemmas.Bool.{both_ways}
+use Rattle.std.proofs.lemmas.Option.{slice_get_within}
+use Rattle.adr_object.specs.Object.{id_of}
+use Rattle.adr_object.specs.declared.object.Edit.{Edit}
+use Rattle.adr_object.specs.declared.object.Edit.TheVariants.{Create, Change, Remove}
+use Rattle.adr_object.specs.declared.party.Resource.{Resource}
+use Rattle.adr_model.specs.Book.{resource_by}
+use Rattle.adr_model.specs.Edits.{step}
+use Rattle.adr_schedule.specs.Seating.{Seating}
+use Rattle.adr_regroup.specs.Party.{is_of_resource, AreSeatedBut}
+use Rattle.adr_regroup.proofs.PartyEdits.{resource_changes, resource_comes, resource_goes, resource_to_change, resource_to_go}
+use Rattle.adr_regroup.proofs.parties.after_resource.Goals as goal
+
+last_within : (place seats more resources : ℕ) → place ≡ seats → more ≡ seats + 1 → more ≡ resources → place < resources
+last_within place seats more resources e h l = omega (arith, e, h, l)
+
+found_within : (rs : List Resource) (p : ℕ) (o : Option Resource) → slice_get rs p ≡ o → is_some o ≡ true → p < length rs
+found_within rs p o at there = by o at there
+  where
+    by : (x : Option Resource) → slice_get rs p ≡ x → is_some x ≡ true → p < length rs
+    by (Some r) e t = slice_get_within rs p r e
+    by None e t = absurd (cc)
+
+pub reseated_at-requires-clause-place : goal.reseated_at-requires-clause-place
+reseated_at-requires-clause-place c =
+    let old = c.args.old.now.objects in
+    let new = c.args.new.now.objects in
+    let starts = resource_comes c.args.tie old new c.in-Create.field-0 c.args.schedule.now c.in_ok-more-in-Create.more (subst (λ (e : Edit). is_of_resource e ≡ true) c.in-Create.is c.requires.resource)
+    (subst (λ (e : Edit). step old e ≡ Ok new) c.in-Create.is c.requires.accepted) c.schedule_laws.ensures c.in_ok-more-in-Create.ensures.place c.in_ok-more-in-Create.ensures.right c.requires.seated in
+    last_within _ _ _ _ c.len-place.ensures c.in_ok-more-in-Create.ensures.place.count starts.count
+
+pub reseated_at-requires-clause-seated : goal.reseated_at-requires-clause-seated
+reseated_at-requires-clause-seated c =
+    let old = c.args.old.now.objects in
+    let new = c.args.new.now.objects in
+    subst (λ (p : ℕ). AreSeatedBut c.args.tie new (p ∷ []) c.in_ok-more-in-Create.more) (sym c.len-place.ensures)
+    (resource_comes c.args.tie old new c.in-Create.field-0 c.args.schedule.now c.in_ok-more-in-Create.more (subst (λ (e : Edit). is_of_resource e ≡ true) c.in-Create.is c.requires.resource)
+    (subst (λ (e : Edit). step old e ≡ Ok new) c.in-Create.is c.requires.accepted) c.schedule_laws.ensures c.in_ok-more-in-Create.ensures.place c.in_ok-more-in-Create.ensures.right c.requires.seated)
+
+pub unreachable-requires : goal.unreachable-requires
+unreachable-requires c =
+    let old = c.args.old.now.objects in
+    let there = resource_to_change old c.args.new.now.objects c.in-Change.object (subst (λ (e : Edit). is_of_resource e ≡ true) c.in-Change.is c.requires.resource)
+    (subst (λ (e : Edit). step old e ≡ Ok c.args.new.now.objects) c.in-Change.is c.requires.accepted) in
+    both_ways (is_some (resource_by old (id_of c.in-Change.object))) (sym (c.in_default.ensures.found ∙ ap (λ i. is_some (resource_by old i)) c.id.ensures)) there
+
+pub reseated_at-requires-in-Change-clause-place : goal.reseated_at-requires-in-Change-clause-place
+reseated_at-requires-in-Change-clause-place c =
+    let old = c.args.old.now.objects in
+    let new = c.args.new.now.objects in
+    let own = subst (λ (e : Edit). is_of_resource e ≡ true) c.in-Change.is c.requires.resource in
+    let made = subst (λ (e : Edit). step old e ≡ Ok new) c.in-Change.is c.requires.accepted in
+    let at : slice_get old.resources c.in-Some.place ≡ resource_by old (id_of c.in-Change.object) = c.in-Some.ensures.value ∙ ap (resource_by old) c.id.ensures in
+    let starts = resource_changes c.args.tie old new c.in-Change.object c.in-Some.place c.args.schedule.now c.book_laws.ensures.whole own made at c.requires.seated in
+    subst (λ n. c.in-Some.place < n) (sym c.requires.seated.count ∙ starts.count)
+    (found_within old.resources c.in-Some.place (resource_by old (id_of c.in-Change.object)) at (resource_to_change old new c.in-Change.object own made))
+
+pub reseated_at-requires-in-Change-clause-seated : goal.reseated_at-requires-in-Change-clause-seated
+reseated_at-requires-in-Change-clause-seated c =
+    let old = c.args.old.now.objects in
+    let new = c.args.new.now.objects in
+    subst (λ (s : Seating). AreSeatedBut c.args.tie new (c.in-Some.place ∷ []) s) (sym c.in_ok-same-in-Change.ensures)
+    (resource_changes c.args.tie old new c.in-Change.object c.in-Some.place c.args.schedule.now c.book_laws.ensures.whole
+    (subst (λ (e : Edit). is_of_resource e ≡ true) c.in-Change.is c.requires.resource) (subst (λ (e : Edit). step old e ≡ Ok new) c.in-Change.is c.requires.accepted)
+    (c.in-Some.ensures.value ∙ ap (resource_by old) c.id.ensures) c.requires.seated)
+
+pub without-requires-clause-there : goal.without-requires-clause-there
+without-requires-clause-there c =
+    resource_to_go c.args.old.now.objects c.args.new.now.objects c.in-Remove.field-0 c.in-Remove.id (subst (λ (e : Edit). is_of_resource e ≡ true) c.in-Remove.is c.requires.resource)
+    (subst (λ (e : Edit). step c.args.old.now.objects e ≡ Ok c.args.new.now.objects) c.in-Remove.is c.requires.accepted)
+
+pub returns-in_ok-after-in-Remove-clause-seated : goal.returns-in_ok-after-in-Remove-clause-seated
+returns-in_ok-after-in-Remove-clause-seated c =
+    let p = c.in_ok-after-in-Remove.ensures.place in
+    resource_goes c.args.tie c.args.old.now.objects c.args.new.now.objects c.in-Remove.field-0 c.in-Remove.id p.0 c.args.schedule.now c.in_ok-after-in-Remove.after c.book_laws.ensures.whole
+    (subst (λ (e : Edit). is_of_resource e ≡ true) c.in-Remove.is c.requires.resource) (subst (λ (e : Edit). step c.args.old.now.objects e ≡ Ok c.args.new.now.objects) c.in-Remove.is c.requires.accepted)
+    p.1 p.2 p.3 c.requires.seated

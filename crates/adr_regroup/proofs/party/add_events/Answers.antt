@@ -1,0 +1,27 @@
+use Rattle.std.proofs.Common.{◌+◌, ◌*◌, ◌++◌, length, map}
+use Rattle.adr_model.specs.Rank.{ranked}
+use Rattle.adr_stretch.specs.Grouped.{entries_under}
+use Rattle.adr_group.specs.Repair.{most_possible}
+use Rattle.adr_regroup.specs.Party.{entries_but}
+use Rattle.adr_regroup.proofs.PartyWindows.{turn_entries, turn_most}
+use Rattle.adr_regroup.proofs.party.add_events.Goals as goal
+
+pub rest-preserved : goal.rest-preserved
+rest-preserved c =
+    let events = c.args.book.now.objects.events in
+    let others = c.args.others.now in
+    let start = c.args.windows.now.items in
+    let now = c.rest.windows.items in
+    let after = c.add_event.new.windows.items in
+    let n = c.in-Some.number.now in
+    let rest = c.rest.rest.now in
+    let more = c.in-Some.more.now in
+    let first = c.in-Some.ensures.cases.0 in
+    record {
+      entries = λ k. turn_entries c.args.tie events others now after n rest more first k
+          (entries_under start k ++ map (ranked c.args.tie) (entries_but events c.args.numbers.now others k))
+          (c.in_ok-add_event.ensures.entries k) (c.rest.invariant.entries k);
+      most = λ indexes most bound. turn_most c.args.tie events others now after n rest more first indexes most
+          (most_possible start indexes + length c.args.numbers.now * most)
+          (c.in_ok-add_event.ensures.most indexes most bound) (c.rest.invariant.most indexes most bound);
+    }

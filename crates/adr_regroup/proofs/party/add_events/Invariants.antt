@@ -1,0 +1,21 @@
+use Rattle.std.proofs.Common.{◌≡◌, ◌≤◌, ◌+◌, ◌*◌, ◌++◌, ℕ, map, length}
+use Rattle.adr_value.specs.declared.payload.PayloadType.{PayloadType}
+use Rattle.adr_model.specs.Rank.{ranked}
+use Rattle.adr_stretch.specs.Grouped.{entries_under}
+use Rattle.adr_lines.specs.declared.indexes.Indexes.{Indexes}
+use Rattle.adr_group.specs.Repair.{most_possible}
+use Rattle.adr_regroup.specs.Party.{entries_but, IsMostOf}
+use Rattle.adr_regroup.proofs.party.add_events.Given as goal
+
+-- the entries so far, and then those of the numbers that are left
+abbrev pub invariant-rest : goal.invariant-rest
+invariant-rest l = record {
+  entries : (k : PayloadType)
+      → entries_under l.windows.items k ++ map (ranked l.tie) (entries_but l.book.objects.events l.rest l.others k)
+      ≡ entries_under l.fn.windows.items k ++ map (ranked l.tie) (entries_but l.book.objects.events l.numbers l.others k);
+  most : (indexes : Indexes) (most : ℕ) → IsMostOf l.tie l.book.objects.events indexes most
+      → most_possible l.windows.items indexes + length l.rest * most ≤ most_possible l.fn.windows.items indexes + length l.numbers * most;
+}
+
+abbrev pub decreases-rest : goal.decreases-rest
+decreases-rest l = length l.rest

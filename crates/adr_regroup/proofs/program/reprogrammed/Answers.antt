@@ -1,0 +1,30 @@
+use Rattle.std.proofs.Common.{◌≡◌, Ok, subst, sym, true}
+use Rattle.adr_object.specs.declared.object.Edit.{Edit}
+use Rattle.adr_object.specs.declared.object.Edit.TheVariants.{Change}
+use Rattle.adr_model.specs.Book.{Book}
+use Rattle.adr_model.specs.Edits.{step}
+use Rattle.adr_model.proofs.EditLemmas.{accepted}
+use Rattle.adr_schedule.specs.Seating.{Seating, AreSeatedFor}
+use Rattle.adr_regroup.specs.Program.{is_of_program}
+use Rattle.adr_regroup.proofs.Programs.{after_create, after_remove}
+use Rattle.adr_regroup.proofs.program.reprogrammed.Goals as goal
+
+pub returns-in_ok-copy-in-Create-clause-seated : goal.returns-in_ok-copy-in-Create-clause-seated
+returns-in_ok-copy-in-Create-clause-seated c index seated =
+    subst (λ (s : Seating). AreSeatedFor c.args.tie c.args.new.now.objects s) (sym c.in_ok-copy-in-Create.ensures)
+    (after_create c.args.tie c.args.old.now.objects c.args.new.now.objects c.in-Create.field-0 c.args.schedule.now c.book_laws.ensures.whole
+    (subst (λ (e : Edit). is_of_program e ≡ true) c.in-Create.is c.requires.program)
+    (subst (λ (e : Edit). step c.args.old.now.objects e ≡ Ok c.args.new.now.objects) c.in-Create.is c.requires.accepted) seated)
+
+pub returns-in_ok-after-in-Change-clause-seated : goal.returns-in_ok-after-in-Change-clause-seated
+returns-in_ok-after-in-Change-clause-seated c index seated =
+    subst (λ (b : Book). AreSeatedFor c.args.tie b c.in_ok-after-in-Change.after)
+    (accepted c.args.old.now.objects c.args.new.now.objects (Change c.in-Change.object) (subst (λ (e : Edit). step c.args.old.now.objects e ≡ Ok c.args.new.now.objects) c.in-Change.is c.requires.accepted)).1
+    (c.in_ok-after-in-Change.ensures.seated index seated)
+
+pub returns-in_ok-copy-in-Remove-clause-seated : goal.returns-in_ok-copy-in-Remove-clause-seated
+returns-in_ok-copy-in-Remove-clause-seated c index seated =
+    subst (λ (s : Seating). AreSeatedFor c.args.tie c.args.new.now.objects s) (sym c.in_ok-copy-in-Remove.ensures)
+    (after_remove c.args.tie c.args.old.now.objects c.args.new.now.objects c.in-Remove.field-0 c.in-Remove.field-1 c.args.schedule.now c.book_laws.ensures.whole
+    (subst (λ (e : Edit). is_of_program e ≡ true) c.in-Remove.is c.requires.program)
+    (subst (λ (e : Edit). step c.args.old.now.objects e ≡ Ok c.args.new.now.objects) c.in-Remove.is c.requires.accepted) seated)

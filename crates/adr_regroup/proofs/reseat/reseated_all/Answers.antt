@@ -1,0 +1,27 @@
+use Rattle.std.proofs.Common.{◌≡◌, ◌+◌, ◌*◌, ◌<◌, ◌≤◌, ◌∷◌, ℕ, List, suc, true, length, ap, arith, subst}
+use Rattle.adr_schedule.specs.Moves.{is_among}
+use Rattle.adr_regroup.specs.Party.{most_reseated}
+use Rattle.adr_regroup.proofs.Reseated.{first_among, later_among}
+use Rattle.adr_regroup.proofs.reseat.reseated_all.Goals as goal
+
+left : (after meter n rest start all : ℕ) → after ≤ meter + most_reseated → rest ≡ suc n → meter + rest * most_reseated ≤ start + all → after + n * most_reseated ≤ start + all
+left after meter n rest start all h e l = by most_reseated h (subst (λ k. meter + k * most_reseated ≤ start + all) e l)
+  where
+    by : (m : ℕ) → after ≤ meter + m → meter + suc n * m ≤ start + all → after + n * m ≤ start + all
+    by m h l = omega (arith, h, l)
+
+pub reseated-requires-clause-place : goal.reseated-requires-clause-place
+reseated-requires-clause-place c =
+    let n = length c.args.new.now.objects.resources in
+    first_among c.in-Some.place.now c.in-Some.others.now n
+    (subst (λ (ps : List ℕ). (p : ℕ) → is_among ps p ≡ true → p < n) c.in-Some.ensures.cases.0 c.rest.invariant.within)
+
+pub rest-preserved : goal.rest-preserved
+rest-preserved c =
+    let n = length c.args.new.now.objects.resources in
+    record {
+      within = later_among c.in-Some.place.now c.in-Some.others.now n
+          (subst (λ (ps : List ℕ). (p : ℕ) → is_among ps p ≡ true → p < n) c.in-Some.ensures.cases.0 c.rest.invariant.within);
+      seated = c.in_ok-after.ensures.seated;
+      compared = left _ _ _ _ _ _ c.in_ok-after.ensures.compared (ap (λ (ps : List ℕ). length ps) c.in-Some.ensures.cases.0) c.rest.invariant.compared;
+    }

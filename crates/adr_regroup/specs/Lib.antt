@@ -1,0 +1,2 @@
+pub mod Party
+pub mod Program

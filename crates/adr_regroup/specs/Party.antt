@@ -1,0 +1,123 @@
+-- What an edit of a ven or of a resource asks of the schedule.
+use Rattle.std.specs.Prelude.{◌≡◌, ◌<◌, ◌≤◌, ◌+◌, ◌*◌, ℕ, Bool, true, false, List, [], length, map, flat_map, slice_get, option_map, option_to_list, Some, if◌then◌else◌}
+use Rattle.std.specs.Option.{option_map_or}
+use Rattle.std.specs.Str.{bytes_eq}
+use Rattle.adr_value.specs.declared.limits.TheConstants.{MOST_ENTRIES, MOST_VERSION}
+use Rattle.adr_value.specs.declared.payload.PayloadType.{PayloadType}
+use Rattle.adr_object.specs.declared.object.Edit.{Edit}
+use Rattle.adr_object.specs.declared.object.Edit.TheVariants.{Create, Change, Remove}
+use Rattle.adr_object.specs.declared.object.Object.{Object}
+use Rattle.adr_object.specs.declared.object.Object.TheVariants.{Ven as ven, Resource as resource}
+use Rattle.adr_object.specs.declared.object.Kind.TheVariants.{Ven as ven_kind, Resource as resource_kind}
+use Rattle.adr_object.specs.Object.{id_of}
+use Rattle.adr_object.specs.declared.party.Resource.{Resource}
+use Rattle.adr_object.specs.declared.party.Ven.{Ven}
+use Rattle.adr_store.specs.Numbers.{by_number}
+use Rattle.adr_model.specs.declared.entry.Entry.{Entry}
+use Rattle.adr_model.specs.declared.entry.Tie.{Tie}
+use Rattle.adr_model.specs.declared.written.Written.{Written}
+use Rattle.adr_model.specs.Book.{Book}
+use Rattle.adr_model.specs.Governor.{applies_to, entries_of}
+use Rattle.adr_model.specs.Lists.{In}
+use Rattle.adr_model.specs.Rank.{ranked}
+use Rattle.adr_audience.specs.Asks.{applies_with}
+use Rattle.adr_stretch.specs.declared.grouped.TypeEntries.{TypeEntries}
+use Rattle.adr_stretch.specs.Grouped.{entries_under, HaveOwnTypes}
+use Rattle.adr_stretch.specs.Right.{has_number}
+use Rattle.adr_lines.specs.declared.indexes.Indexes.{Indexes}
+use Rattle.adr_schedule.specs.Moves.{is_among}
+use Rattle.adr_schedule.specs.Seating.{has_at, AreRight, Seating}
+use Rattle.adr_group.specs.Repair.{most_possible}
+
+-- the numbers of the writes of the events at the places
+abbrev pub numbers_at : List Written → List ℕ → List ℕ
+numbers_at events places = flat_map (λ p. option_to_list (option_map (λ w. w.written) (slice_get events p))) places
+
+-- the writes are those of the events of the book that apply to the resource of the ven
+pub record AreWritesWith (book : Book) (r : Resource) (v : Ven) (numbers : List ℕ) : Type 0 where
+  pub has : (w : Written) → In w book.events → has_number numbers w.written ≡ applies_with book r v w.event
+  pub known : (n : ℕ) → has_number numbers n ≡ true → (w : Written) × In w book.events × (w.written ≡ n)
+
+-- the entries of the event of that number
+abbrev pub entries_by : List Written → ℕ → PayloadType → List Entry
+entries_by events n payload_type = option_map_or (entries_of payload_type) (by_number events n) []
+
+-- the same, unless the number is among the others
+abbrev pub entries_unless : List Written → List ℕ → ℕ → PayloadType → List Entry
+entries_unless events others n payload_type = if has_number others n then [] else entries_by events n payload_type
+
+-- the entries of the events of those numbers that are not among the others
+abbrev pub entries_but : List Written → List ℕ → List ℕ → PayloadType → List Entry
+entries_but events numbers others payload_type = flat_map (λ n. entries_unless events others n payload_type) numbers
+
+-- repair inside the entries of one event compares at most so much
+abbrev pub IsMostOf : Tie → List Written → Indexes → ℕ → Type 0
+IsMostOf tie events indexes most =
+    (w : Written) (groups : List TypeEntries) → In w events → HaveOwnTypes groups
+    → ((k : PayloadType) → entries_under groups k ≡ map (ranked tie) (entries_of k w)) → most_possible groups indexes ≤ most
+
+-- ---- the resources whose groups change
+
+-- the id of the object that the edit is of
+abbrev pub id_of_edit : Edit → List ℕ
+id_of_edit (Create o) = id_of o
+id_of_edit (Change o) = id_of o
+id_of_edit (Remove kind id) = id
+
+-- the edit leaves events and programs
+pub record KeepsEvents (old new : Book) : Type 0 where
+  pub events : new.events ≡ old.events
+  pub programs : new.programs ≡ old.programs
+
+-- the writes are those of the events that apply to the resource at the place
+pub record AreWritesAt (book : Book) (place : ℕ) (numbers : List ℕ) : Type 0 where
+  pub has : (r : Resource) (w : Written) → slice_get book.resources place ≡ Some r → In w book.events → has_number numbers w.written ≡ applies_to book r w
+  pub known : (n : ℕ) → has_number numbers n ≡ true → (w : Written) × In w book.events × (w.written ≡ n)
+
+-- the groups are right of the events, and each place but these has the writes of the events that apply to its resource
+pub record AreSeatedBut (tie : Tie) (book : Book) (places : List ℕ) (s : Seating) : Type 0 where
+  pub count : length s.seats ≡ length book.resources
+  pub right : AreRight tie book.events s
+  pub writes : (place : ℕ) (r : Resource) (w : Written) → slice_get book.resources place ≡ Some r → In w book.events
+      → is_among places place ≡ false → has_at s place w.written ≡ applies_to book r w
+  pub known : (place n : ℕ) → has_at s place n ≡ true → (w : Written) × In w book.events × (w.written ≡ n)
+
+-- a place has no more writes than there are versions
+abbrev pub most_writes : ℕ
+most_writes = MOST_VERSION + 1
+
+-- inside the entries of one event no more is compared, within the limits
+abbrev pub most_by_event : ℕ
+most_by_event = MOST_ENTRIES * (MOST_ENTRIES * (2 * MOST_ENTRIES + 1))
+
+-- to give a place other writes compares no more, within the limits
+abbrev pub most_reseated : ℕ
+most_reseated = (most_writes + most_writes) * most_by_event
+
+-- the edit is of a ven
+abbrev pub is_ven : Object → Bool
+is_ven (ven v) = true
+is_ven _ = false
+
+abbrev pub is_of_ven : Edit → Bool
+is_of_ven (Create o) = is_ven o
+is_of_ven (Change o) = is_ven o
+is_of_ven (Remove ven_kind id) = true
+is_of_ven (Remove _ id) = false
+
+-- the edit is of a resource
+abbrev pub is_resource : Object → Bool
+is_resource (resource r) = true
+is_resource _ = false
+
+abbrev pub is_of_resource : Edit → Bool
+is_of_resource (Create o) = is_resource o
+is_of_resource (Change o) = is_resource o
+is_of_resource (Remove resource_kind id) = true
+is_of_resource (Remove _ id) = false
+
+-- of the places before that one these are those of the ven's resources
+pub record AreOfVen (book : Book) (id : List ℕ) (reached : ℕ) (places : List ℕ) : Type 0 where
+  pub of_ven : (p : ℕ) (r : Resource) → slice_get book.resources p ≡ Some r → p < reached → is_among places p ≡ bytes_eq id r.ven_id
+  pub before : (p : ℕ) → is_among places p ≡ true → p < reached
+  pub few : length places ≤ reached

@@ -1,0 +1,12 @@
+#![tactic(auto)]
+//! What an edit of a program, of a ven or of a resource does to the groups of timelines: events come to apply to other
+//! resources, and groups are repaired there alone.
+
+mod parties;
+mod party;
+mod places;
+mod program;
+mod reseat;
+
+pub use parties::{after_resource, after_ven};
+pub use program::after_program;

@@ -1,0 +1,151 @@
+//! What an edit of a ven or of a resource does to the schedule.
+ghost use Rattle.std.specs.Prelude.{◌≡◌, ◌≤◌, ◌+◌, ◌*◌, ◌<◌, ◌^◌, ◌++◌, ℕ, Some, length, map, IfOk, OnOk};
+ghost use Rattle.adr_value.specs.Answer.{OnlyNoMemory};
+ghost use Rattle.adr_value.specs.declared.payload.PayloadType.{PayloadType as AnyType};
+ghost use Rattle.adr_model.specs.Rank.{ranked};
+ghost use Rattle.adr_audience.specs.Keys.{AreKeysOf};
+ghost use Rattle.adr_stretch.specs.Grouped.{entries_under};
+ghost use Rattle.adr_lines.specs.declared.indexes.Indexes.{Indexes as AnyIndexes};
+ghost use Rattle.adr_group.specs.Group.{AreWindowsOf, Lines};
+ghost use Rattle.adr_group.specs.Repair.{most_possible};
+ghost use Rattle.adr_lines.specs.Exchange.{IsIndexOf};
+ghost use Rattle.adr_schedule.specs.Place.{IsRewritten};
+ghost use Rattle.adr_schedule.specs.Seating.{group_at, AreRight};
+ghost use Rattle.adr_regroup.specs.Party.{entries_but, entries_unless, numbers_at as the_numbers_at, AreWritesWith, IsMostOf};
+
+use adr_audience::Audiences;
+use adr_book::Book;
+use adr_group::Writes;
+use adr_lines::Indexes;
+use adr_model::Tie;
+use adr_object::{Resource, Ven};
+use adr_rule::Meter;
+use adr_schedule::Schedule;
+use adr_stretch::{TypeEntries, event_entries};
+use adr_value::Refusal;
+use std::alloc::Global;
+
+/// The numbers of the writes of the events at these places.
+fn numbers_at(alloc: Global, book: &Book, places: &[usize]) -> Result<Vec<u64>, Refusal>
+    ensures ok { IfOk result (λ numbers. numbers.items ≡ the_numbers_at book.now.objects.events places.now) }
+    ensures refusal { OnlyNoMemory result }
+{
+    let mut numbers = Vec::new(alloc);
+    let mut rest = places;
+    'rest: while let Some((place, more)) = rest.split_first() {
+        if let Some(number) = book.written_at(*place) {
+            numbers.push(number)?;
+        }
+        rest = more;
+    }
+    Ok(numbers)
+}
+
+/// The numbers of the writes of the events of the book that apply to the resource of the ven.
+pub(crate) fn writes_for(
+    alloc: Global,
+    book: &Book,
+    keys: &Audiences,
+    resource: &Resource,
+    ven: &Ven,
+) -> Result<Writes, Refusal>
+    requires { AreKeysOf book.now.objects keys.now }
+    ensures writes { IfOk result (λ writes. AreWritesWith book.now.objects resource.now ven.now writes) }
+    ensures refusal { OnlyNoMemory result }
+{
+    book.book_laws();
+    let places = keys.events_for(book.objects(), resource, ven)?;
+    let numbers = numbers_at(alloc, book, &places)?;
+    Ok(Writes::of(numbers))
+}
+
+/// Adds the entries of the event of that number, unless it is among the others.
+fn add_event(
+    alloc: Global,
+    tie: Tie,
+    book: &Book,
+    number: u64,
+    others: &Writes,
+    windows: &mut Vec<TypeEntries>,
+) -> Result<(), Refusal>
+    ensures entries { OnOk result ((k : AnyType) → entries_under windows.new.items k ≡ entries_under windows.old.items k ++ map (ranked tie) (entries_unless book.now.objects.events others.now number k)) }
+    ensures most { OnOk result ((indexes : AnyIndexes) (most : ℕ) → IsMostOf tie book.now.objects.events indexes most → most_possible windows.new.items indexes ≤ most_possible windows.old.items indexes + most) }
+    ensures refusal { OnlyNoMemory result }
+{
+    if others.has(number) {
+        return Ok(());
+    }
+    let Some(event) = book.event_by(number) else {
+        return Ok(());
+    };
+    let mut groups = event_entries(alloc, tie, event, number)?;
+    windows.append(&mut groups)?;
+    Ok(())
+}
+
+/// Adds the entries of the events of those numbers that are not among the others.
+fn add_events(
+    alloc: Global,
+    tie: Tie,
+    book: &Book,
+    numbers: &[u64],
+    others: &Writes,
+    windows: &mut Vec<TypeEntries>,
+) -> Result<(), Refusal>
+    ensures entries { OnOk result ((k : AnyType) → entries_under windows.new.items k ≡ entries_under windows.old.items k ++ map (ranked tie) (entries_but book.now.objects.events numbers.now others.now k)) }
+    ensures most { OnOk result ((indexes : AnyIndexes) (most : ℕ) → IsMostOf tie book.now.objects.events indexes most → most_possible windows.new.items indexes ≤ most_possible windows.old.items indexes + length numbers.now * most) }
+    ensures refusal { OnlyNoMemory result }
+{
+    let mut rest = numbers;
+    'rest: while let Some((number, more)) = rest.split_first() {
+        add_event(alloc, tie, book, *number, others, windows)?;
+        rest = more;
+    }
+    Ok(())
+}
+
+/// The entries of each event on which the writes differ.
+fn difference(
+    alloc: Global,
+    tie: Tie,
+    book: &Book,
+    old: &Writes,
+    new: &Writes,
+) -> Result<Vec<TypeEntries>, Refusal>
+    ensures windows { IfOk result (λ windows. AreWindowsOf book.now.objects.events old.now new.now (entries_under windows.items)) }
+    ensures most { IfOk result (λ windows. (indexes : AnyIndexes) (most : ℕ) → IsMostOf tie book.now.objects.events indexes most → most_possible windows.items indexes ≤ (length old.now + length new.now) * most) }
+    ensures refusal { OnlyNoMemory result }
+{
+    book.book_laws();
+    let mut windows = Vec::new(alloc);
+    add_events(alloc, tie, book, old.numbers(), new, &mut windows)?;
+    add_events(alloc, tie, book, new.numbers(), old, &mut windows)?;
+    Ok(windows)
+}
+
+/// The schedule with these writes at the place, which shares the group of the place `like` where that has them.
+pub(crate) fn with_writes(
+    alloc: Global,
+    tie: Tie,
+    book: &Book,
+    indexes: &Indexes,
+    schedule: &Schedule,
+    place: usize,
+    like: Option<usize>,
+    writes: &Writes,
+    meter: &mut Meter,
+) -> Result<Schedule, Refusal>
+    requires within { place < length schedule.now.seats }
+    requires room { (most : ℕ) × IsMostOf tie book.now.objects.events indexes.now most × ((g : Lines) → group_at schedule.now place ≡ Some g → meter.old + (length g.writes + length writes.now) * most < 2 ^ 128) }
+    ensures writes { IfOk result (λ after. IsRewritten place writes.now schedule.now after) }
+    ensures right { IfOk result (λ after. IsIndexOf tie book.now.objects.events indexes.now → AreRight tie book.now.objects.events schedule.now → AreRight tie book.now.objects.events after) }
+    ensures compared { (g : Lines) (most : ℕ) → group_at schedule.now place ≡ Some g → IsMostOf tie book.now.objects.events indexes.now most → meter.new ≤ meter.old + (length g.writes + length writes.now) * most }
+    ensures refusal { OnlyNoMemory result }
+{
+    schedule.schedule_laws();
+    let Some(group) = schedule.group(place) else {
+        unreachable!();
+    };
+    let windows = difference(alloc, tie, book, group.writes(), writes)?;
+    schedule.rewritten(alloc, indexes, place, like, writes, &windows, meter)
+}

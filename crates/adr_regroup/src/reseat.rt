@@ -1,0 +1,161 @@
+//! Places get the writes of the events that apply to their resources now.
+ghost use Rattle.std.specs.Prelude.{◌≡◌, ◌<◌, ◌≤◌, ◌+◌, ◌*◌, ◌^◌, ◌∷◌, [], ℕ, true, Some, length, IfOk};
+ghost use Rattle.std.specs.List.Sorted.{IsStrictlyIncreasing};
+ghost use Rattle.adr_value.specs.Answer.{OnlyNoMemory};
+ghost use Rattle.adr_audience.specs.Keys.{AreKeysOf};
+ghost use Rattle.adr_group.specs.Group.{Lines};
+ghost use Rattle.adr_lines.specs.Exchange.{IsIndexOf};
+ghost use Rattle.adr_schedule.specs.Moves.{is_among};
+ghost use Rattle.adr_schedule.specs.Seating.{group_at, AreSeatedFor};
+ghost use Rattle.adr_regroup.specs.Party.{most_reseated, AreSeatedBut, AreWritesAt, KeepsEvents};
+
+use crate::party::{with_writes, writes_for};
+use adr_audience::Audiences;
+use adr_book::Book;
+use adr_group::Writes;
+use adr_lines::{Indexes, index_laws};
+use adr_model::Tie;
+use adr_rule::Meter;
+use adr_schedule::Schedule;
+use adr_value::Refusal;
+use std::alloc::Global;
+
+/// The writes of the events that apply to the resource at the place of the new book, by the keys of the old one.
+fn writes_at(
+    alloc: Global,
+    old: &Book,
+    new: &Book,
+    keys: &Audiences,
+    place: usize,
+) -> Result<Writes, Refusal>
+    requires place { place < length new.now.objects.resources }
+    requires keys { AreKeysOf old.now.objects keys.now }
+    requires kept { KeepsEvents old.now.objects new.now.objects }
+    ensures writes { IfOk result (AreWritesAt new.now.objects place) }
+    ensures refusal { OnlyNoMemory result }
+{
+    new.book_laws();
+    let Some(resource) = new.resource_at(place) else {
+        unreachable!();
+    };
+    let Some(ven) = new.ven(&resource.ven_id) else {
+        unreachable!();
+    };
+    let writes = writes_for(alloc, old, keys, resource, ven)?;
+    Ok(writes)
+}
+
+/// The law of the writes of a group: they ascend.
+fn writes_ascend(schedule: &Schedule, place: usize)
+    ensures { (g : Lines) → group_at schedule.now place ≡ Some g → IsStrictlyIncreasing g.writes }
+{
+    if let Some(group) = schedule.group(place) {
+        let _ = group.writes().numbers();
+    }
+}
+
+/// How many places before it are looked at for a group that a place can share.
+const NEAR: usize = 64;
+
+/// Whether the group of the place has these writes.
+fn has_writes(schedule: &Schedule, place: usize, writes: &Writes) -> bool {
+    match schedule.group(place) {
+        Some(group) => group.writes().same(writes),
+        None => false,
+    }
+}
+
+/// A place whose group has these writes, if that one does or one a little before the place. It may be any: a group is
+/// shared only where its writes are the same.
+fn place_like(
+    schedule: &Schedule,
+    like: Option<usize>,
+    place: usize,
+    writes: &Writes,
+) -> Option<usize> {
+    if let Some(near) = like {
+        if has_writes(schedule, near, writes) {
+            return like;
+        }
+    }
+    for near in place.saturating_sub(NEAR)..place {
+        if has_writes(schedule, near, writes) {
+            return Some(near);
+        }
+    }
+    None
+}
+
+/// The schedule where the place has the writes of the events that apply to its resource, which leaves the others to be
+/// seen to.
+fn reseated(
+    alloc: Global,
+    tie: Tie,
+    old: &Book,
+    new: &Book,
+    keys: &Audiences,
+    indexes: &Indexes,
+    schedule: &Schedule,
+    place: usize,
+    others: &[usize],
+    like: Option<usize>,
+    meter: &mut Meter,
+) -> Result<Schedule, Refusal>
+    requires place { place < length new.now.objects.resources }
+    requires keys { AreKeysOf old.now.objects keys.now }
+    requires kept { KeepsEvents old.now.objects new.now.objects }
+    requires indexed { IsIndexOf tie new.now.objects.events indexes.now }
+    requires seated { AreSeatedBut tie new.now.objects (place ∷ others.now) schedule.now }
+    requires room { meter.old + most_reseated < 2 ^ 128 }
+    ensures seated { IfOk result (AreSeatedBut tie new.now.objects others.now) }
+    ensures compared { meter.new ≤ meter.old + most_reseated }
+    ensures refusal { OnlyNoMemory result }
+{
+    new.book_laws();
+    index_laws();
+    schedule.schedule_laws();
+    let writes = writes_at(alloc, old, new, keys, place)?;
+    let _ = writes.numbers();
+    writes_ascend(schedule, place);
+    let like = place_like(schedule, like, place, &writes);
+    let after = with_writes(
+        alloc, tie, new, indexes, schedule, place, like, &writes, meter,
+    )?;
+    Ok(after)
+}
+
+/// The schedule where each of the places has the writes of the events that apply to its resource. A place shares the group
+/// of the last one that was seen to, or of one a little before it, where that has the same writes.
+pub(crate) fn reseated_all(
+    alloc: Global,
+    tie: Tie,
+    old: &Book,
+    new: &Book,
+    keys: &Audiences,
+    indexes: &Indexes,
+    schedule: Schedule,
+    places: &[usize],
+    meter: &mut Meter,
+) -> Result<Schedule, Refusal>
+    requires places { (p : ℕ) → is_among places.now p ≡ true → p < length new.now.objects.resources }
+    requires keys { AreKeysOf old.now.objects keys.now }
+    requires kept { KeepsEvents old.now.objects new.now.objects }
+    requires indexed { IsIndexOf tie new.now.objects.events indexes.now }
+    requires seated { AreSeatedBut tie new.now.objects places.now schedule }
+    requires room { meter.old + length places.now * most_reseated < 2 ^ 128 }
+    ensures seated { IfOk result (AreSeatedFor tie new.now.objects) }
+    ensures compared { meter.new ≤ meter.old + length places.now * most_reseated }
+    ensures refusal { OnlyNoMemory result }
+{
+    let mut after = schedule;
+    let mut like = None;
+    let mut rest = places;
+    'rest: while let Some((place, others)) = rest.split_first() {
+        after = reseated(
+            alloc, tie, old, new, keys, indexes, &after, *place, others, like, meter,
+        )?;
+        like = Some(*place);
+        rest = others;
+    }
+    Ok(after)
+}
