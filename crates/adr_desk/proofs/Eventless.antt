@@ -5,14 +5,10 @@ use Rattle.std.proofs.lemmas.Bool.Decides.{eqb_tells}
 use Rattle.adr_model.specs.declared.entry.Tie.{Tie}
 use Rattle.adr_model.specs.Book.{Book}
 use Rattle.adr_model.specs.Lists.{In}
-use Rattle.adr_audience.specs.Keys.{AreKeysOf, Keys}
-use Rattle.adr_lines.specs.declared.indexes.Indexes.{Indexes}
-use Rattle.adr_lines.specs.Exchange.{IsIndexOf}
 use Rattle.adr_group.specs.Group.{Lines}
 use Rattle.adr_schedule.specs.Place.{HasPlace}
-use Rattle.adr_schedule.specs.Seating.{group_at, has_at, Seating, AreRight}
-use Rattle.adr_desk.specs.Desk.{IsDesk}
-use Rattle.adr_desk.proofs.Shifted.{has_group, has_place, number_at}
+use Rattle.adr_schedule.specs.Seating.{group_at, has_at, Seating, AreRight, AreSeatedFor}
+use Rattle.adr_regroup.proofs.Placing.{has_group, has_place, number_at}
 
 -- a place more has no writes, and the others have none still
 pub none_has : (old new : Seating) → HasPlace old new → ((p : ℕ) → p < length old.seats → (g : Lines) × (group_at old p ≡ Some g))
@@ -37,16 +33,12 @@ none_has old new h held none p n = by (has_at new p n) refl
             absurd (both_ways (has_at new p n) (sym (number_at new p o.0 n same) ∙ number_at old p o.0 n o.1 ∙ none p n) e)
         inside g at (inr l) = absurd (both_ways (has_at new p n) (subst (λ q. has_at new q n ≡ false) (sym l) (h.none n)) e)
 
--- the desk of a book without events
-pub empty_desk : (tie : Tie) (book : Book) (keys : Keys) (indexes : Indexes) (s : Seating) → book.events ≡ [] → AreKeysOf book keys → ((tie : Tie) → IsIndexOf tie [] indexes)
-    → length s.seats ≡ length book.resources → ((p n : ℕ) → has_at s p n ≡ false) → ((tie : Tie) → AreRight tie [] s) → IsDesk tie book keys indexes s
-empty_desk tie book keys indexes s no_events k i count none right = record {
-  keys_are = k;
-  indexed = subst (λ es. IsIndexOf tie es indexes) (sym no_events) (i tie);
-  seated = record {
-    count = count;
-    right = subst (λ es. AreRight tie es s) (sym no_events) (right tie);
-    writes = λ p r w at m. absurd (subst (λ es. In w es) no_events m);
-    known = λ p n h. absurd (both_ways (has_at s p n) (none p n) h);
-  };
+-- a book without events
+pub eventless_seated : (tie : Tie) (book : Book) (s : Seating) → book.events ≡ [] → length s.seats ≡ length book.resources → ((p n : ℕ) → has_at s p n ≡ false)
+    → ((tie : Tie) → AreRight tie [] s) → AreSeatedFor tie book s
+eventless_seated tie book s no_events count none right = record {
+  count = count;
+  right = subst (λ es. AreRight tie es s) (sym no_events) (right tie);
+  writes = λ p r w at m. absurd (subst (λ es. In w es) no_events m);
+  known = λ p n h. absurd (both_ways (has_at s p n) (none p n) h);
 }

@@ -15,7 +15,7 @@ use Rattle.adr_audience.specs.Laws.{applies_in, applying_places}
 use Rattle.adr_stretch.specs.Grouped.{written_event}
 use Rattle.adr_schedule.specs.Moves.{is_among}
 use Rattle.adr_desk.specs.Edited.{made_of}
-use Rattle.adr_desk.proofs.Places.{among_applying}
+use Rattle.adr_regroup.proofs.Applying.{among_applying}
 
 pub places_apply : (book : Book) (event : Event) (program : Program) (places : List ℕ) → program_by book event.program_id ≡ Some program → places ≡ applying_places book event program
     → (p : ℕ) (r : Resource) (n : ℕ) → slice_get book.resources p ≡ Some r → is_among places p ≡ applies_to book r (written_event event n)

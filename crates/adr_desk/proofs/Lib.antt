@@ -1,16 +1,8 @@
 pub mod Edited
 pub mod Eventless
-pub mod Governed
 pub mod Joining
+pub mod LastKind
 pub mod Made
-pub mod PartyNumbers
-pub mod PartyWindows
-pub mod Places
-pub mod Possible
-pub mod ProgramEvents
-pub mod ProgramRoom
-pub mod Programs
 pub mod Room
 pub mod Shifted
 pub mod Sides
-pub mod Turned

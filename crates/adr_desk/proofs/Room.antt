@@ -14,23 +14,9 @@ use Rattle.adr_stretch.specs.declared.grouped.TypeEntries.{TypeEntries}
 use Rattle.adr_stretch.specs.Counted.{entries_in_groups}
 use Rattle.adr_stretch.proofs.Counted.{groups_are_counted}
 use Rattle.adr_group.proofs.Room.{repairs_have_room}
+use Rattle.adr_regroup.proofs.ProgramRoom.{event_fits}
 use Rattle.adr_desk.specs.Edited.{with_come}
 use Rattle.adr_desk.specs.Room.{AreGroupsOf, EditsHaveRoom}
-
--- one of the events has no more entries than all
-one_fits : (events : List Written) (w : Written) → In w events → entry_count w.event ≤ sum_by (λ v. entry_count v.event) events
-one_fits [] w m = absurd m
-one_fits (v ∷ events) w (inl same) =
-    let whole = sum_by-cons (λ (u : Written). entry_count u.event) v events in
-    let here : entry_count v.event ≡ entry_count w.event = ap (λ (u : Written). entry_count u.event) same in
-    omega (arith, whole, here)
-one_fits (v ∷ events) w (inr m) =
-    let whole = sum_by-cons (λ (u : Written). entry_count u.event) v events in
-    omega (arith, whole, one_fits events w m)
-
--- an event of a book within the limits
-pub event_fits : (book : Book) → IsWithin limits MOST_VERSION book → (w : Written) → In w book.events → entry_count w.event ≤ MOST_ENTRIES
-event_fits book within w m = let one = one_fits book.events w m in let all = within.entries in omega (arith, one, all)
 
 -- the events of the book and the one that comes
 pub events_fit : (old : Book) (come : Option Written) → IsWithin limits MOST_VERSION old → ((w : Written) → come ≡ Some w → entry_count w.event ≤ MOST_ENTRIES)

@@ -1,6 +1,7 @@
 -- The seating after an edit of an event.
 use Rattle.std.proofs.Common.{◌≡◌, ℕ, zero, suc, ◌<◌, ◌⊎◌, inl, inr, Bool, true, false, if◌then◌else◌, List, [], ◌∷◌, length, slice_get, Option, Some, None, refl, ap, sym, subst, ◌∙◌, arith, eqb-true, eq-eqb}
 use Rattle.std.proofs.lemmas.Bool.{both_ways}
+use Rattle.std.proofs.lemmas.Option.{slice_get_within}
 use Rattle.std.specs.Prelude.{option_to_list}
 use Rattle.std.specs.Option.{option_map_or, option_and_then}
 use Rattle.adr_object.specs.declared.party.Resource.{Resource}
@@ -15,6 +16,7 @@ use Rattle.adr_group.specs.Group.{Lines, RightMoves}
 use Rattle.adr_group.specs.Writes.{is_number}
 use Rattle.adr_schedule.specs.Moves.{is_among}
 use Rattle.adr_schedule.specs.Seating.{group_at, has_at, shifted, Seating, AreRight, AreSeatedFor, IsShifted}
+use Rattle.adr_regroup.proofs.Placing.{there, has_group, has_place, number_at}
 use Rattle.adr_desk.specs.Edited.{number_of, with_come, IsExchanged}
 
 -- ---- numbers
@@ -47,37 +49,6 @@ module _ (gone come : Option ℕ) (n : ℕ) where
   shift_gone : is_number come n ≡ false → is_number gone n ≡ true → (j was : Bool) → (j ≡ false → was ≡ false) → (if j then shifted gone come was n else was) ≡ false
   shift_gone c g true was h = rw (c, g) refl
   shift_gone c g false was h = h refl
-
--- ---- places
-
-pub place_within : {X : Type 0} (xs : List X) (p : ℕ) (x : X) → slice_get xs p ≡ Some x → p < length xs
-place_within [] p x h = absurd (cc)
-place_within (y ∷ ys) zero x h = omega arith
-place_within (y ∷ ys) (suc p) x h = let r : p < length ys = place_within ys p x h in omega arith
-
-pub there : {X : Type 0} (xs : List X) (p : ℕ) → p < length xs → (x : X) × (slice_get xs p ≡ Some x)
-there [] p h = absurd (omega arith)
-there (y ∷ ys) zero h = (y, refl)
-there (y ∷ ys) (suc p) h = there ys p (omega arith)
-
--- who has a write has a group, and so a place
-pub has_group : (s : Seating) (p n : ℕ) → has_at s p n ≡ true → (g : Lines) × (group_at s p ≡ Some g)
-has_group s p n h = by (group_at s p) refl h
-  where
-    by : (o : Option Lines) → group_at s p ≡ o → option_map_or (λ g. has_number g.writes n) o false ≡ true → (g : Lines) × (group_at s p ≡ Some g)
-    by None e k = absurd (cc)
-    by (Some g) e k = (g, e)
-
-pub has_place : (s : Seating) (p : ℕ) (g : Lines) → group_at s p ≡ Some g → p < length s.seats
-has_place s p g h = by (slice_get s.seats p) refl h
-  where
-    by : (o : Option ℕ) → slice_get s.seats p ≡ o → option_and_then (λ slot. Rattle.adr_schedule.specs.Slots.in_slot s.groups slot) o ≡ Some g → p < length s.seats
-    by None e k = absurd (cc)
-    by (Some slot) e k = place_within s.seats p slot e
-
--- the writes of a place's group
-pub number_at : (s : Seating) (p : ℕ) (g : Lines) (n : ℕ) → group_at s p ≡ Some g → has_number g.writes n ≡ has_at s p n
-number_at s p g n h = sym (ap (λ o. option_map_or (λ x. has_number x.writes n) o false) h)
 
 pub in_come : (come : Option Written) (w : Written) → In w (option_to_list come) → come ≡ Some w
 in_come None w m = absurd m
@@ -185,7 +156,7 @@ module _ (tie : Tie) (law : RightMoves tie) (old new : Book) (gone come : Option
       here = ap (λ rs. slice_get rs p) (sym x.resources) ∙ at
 
       inside : p < length s.seats
-      inside = subst (λ k. p < k) (sym seated.count) (place_within old.resources p r here)
+      inside = subst (λ k. p < k) (sym seated.count) (slice_get_within old.resources p r here)
 
       by : (In w old.events × (gone ≡ Some w → ⊥)) ⊎ (come ≡ Some w) → has_at after p w.written ≡ applies_to new r w
       by (inr e) = come_stands p r w inside here e

@@ -1,4 +1,4 @@
--- A book, and timelines that show what governs.
+-- What a desk keeps beside a book and its timelines.
 use Rattle.std.specs.Prelude.{◌≡◌, ◌*◌, ◌^◌, ◌<◌, ⊤, List, ◌++◌, length, map, Option, Some, None}
 use Rattle.adr_value.specs.declared.payload.PayloadType.{PayloadType}
 use Rattle.adr_model.specs.declared.entry.Tie.{Tie}
@@ -6,7 +6,6 @@ use Rattle.adr_model.specs.declared.written.Written.{Written}
 use Rattle.adr_model.specs.Book.{Book}
 use Rattle.adr_model.specs.Governor.{entries_of}
 use Rattle.adr_model.specs.Rank.{ranked}
-use Rattle.adr_book.specs.Ledger.{Ledger}
 use Rattle.adr_stretch.specs.declared.grouped.TypeEntries.{TypeEntries}
 use Rattle.adr_stretch.specs.Grouped.{entries_under, HaveOwnTypes}
 use Rattle.adr_audience.specs.Keys.{AreKeysOf, Keys}
@@ -18,10 +17,10 @@ use Rattle.adr_group.specs.Repair.{most_possible}
 use Rattle.adr_desk.specs.Edited.{with_come}
 use Rattle.adr_desk.specs.Room.{AreGroupsOf}
 
--- what a desk is seen as: the rule for ties, and the book
-pub record Desked : Type 0 where
-  pub tie : Tie
-  pub book : Ledger
+-- the keys and the indexes are those of the book
+pub record AreOf (tie : Tie) (book : Book) (keys : Keys) (indexes : Indexes) : Type 0 where
+  pub keys_are : AreKeysOf book keys
+  pub indexed : IsIndexOf tie book.events indexes
 
 -- the keys, the indexes and the groups are those of the book
 pub record IsDesk (tie : Tie) (book : Book) (keys : Keys) (indexes : Indexes) (schedule : Seating) : Type 0 where

@@ -1,13 +1,13 @@
 //! The desk.
-ghost use Rattle.std.specs.Prelude.{◌≡◌, ◌≢◌, ◌++◌, ◌∷◌, [], ℤ, true, None, Ok, IsOk, IfOk, IfSome, OnOk, OnErr};
+ghost use Rattle.std.specs.Prelude.{◌≡◌, ◌≢◌, ◌++◌, ◌∷◌, [], ℤ, None, Ok, IsOk, IfOk, IfSome, OnOk, OnErr};
 ghost use Rattle.std.specs.Option.{option_copied, option_map_or};
 ghost use Rattle.adr_value.specs.Answer.{Answers, OnlyNoMemory, result_map};
 ghost use Rattle.adr_model.specs.Book.{empty};
 ghost use Rattle.adr_model.specs.Edits.{full_at, made as made_book, step_to};
 ghost use Rattle.adr_model.specs.Governor.{governs};
 ghost use Rattle.adr_model.specs.Timeline.{shows, IsCanonical};
+ghost use Rattle.adr_model.specs.Touches.{touches};
 ghost use Rattle.adr_book.specs.Ledger.{sealed_of};
-ghost use Rattle.adr_desk.specs.Edited.{is_of_event};
 
 use crate::empty::without_events;
 use crate::make::{Made, make};
@@ -16,24 +16,24 @@ use adr_audience::Audiences;
 use adr_book::{Book, judge};
 use adr_lines::Indexes;
 use adr_model::Tie;
-use adr_object::{Edit, Id, Kind};
+use adr_object::{Edit, Id};
+use adr_resolution::Resolution;
 use adr_schedule::Schedule;
+use adr_shared::Shared;
 use adr_timeline::Timeline;
 use adr_value::{PayloadType, Refusal};
 use std::alloc::Global;
 use std::marker::Model;
 use std::mem;
 
-/// A book, and a timeline for each resource and payload type of which something governs at some instant. Contracts see
-/// the book and the rule for ties.
+/// A book with its timelines, which edits repair where they touch them. Contracts see the book and the rule for ties.
 ///
-/// Resources to which the same events apply share their timelines. An edit repairs timelines where it touches them.
+/// Beside them it keeps what an edit asks: what resources offer and events ask for, and the entries of all events by
+/// payload type.
 pub struct Desk {
-    tie: Tie,
-    book: Book,
+    resolution: Resolution,
     keys: Audiences,
     indexes: Indexes,
-    schedule: Schedule,
     alloc: Global,
 }
 
@@ -41,47 +41,45 @@ pub struct Desk {
 impl Drop for Desk {
     fn drop(self) {
         let Desk {
-            tie: _,
-            book,
+            resolution,
             keys,
             indexes,
-            schedule,
             alloc: _,
         } = self;
-        drop(book);
+        drop(resolution);
         drop(keys);
         drop(indexes);
-        drop(schedule);
     }
 }
 
 impl Model for Desk {
-    ghost use Rattle.adr_desk.specs.Desk.{Desked, IsDesk};
+    ghost use Rattle.adr_resolution.specs.Resolved.{Resolved};
+    ghost use Rattle.adr_desk.specs.Desk.{AreOf};
 
-    ghost Value = { Desked };
+    ghost Value = { Resolved };
 
-    ghost view = { λ d. record { tie = d.tie; book = d.book } };
+    ghost view = { λ d. d.resolution };
 
-    ghost invariant = { λ d. IsDesk d.tie d.book.objects d.keys d.indexes d.schedule };
+    ghost invariant = { λ d. AreOf d.resolution.tie d.resolution.book.objects d.keys d.indexes };
 }
 
 impl Desk {
-    /// The desk of an empty book, under a rule for ties that stays.
-    pub fn new(alloc: Global, tie: Tie) -> Desk
-        ensures tie { result.tie ≡ tie }
-        ensures base { result.book.base ≡ empty }
-        ensures objects { result.book.objects ≡ empty }
-        ensures closed { result.book.closed ≡ [] }
-        ensures pending { result.book.pending ≡ [] }
+    /// The desk of an empty book, under a rule for ties that stays. `NoMemory` where there is no room for it.
+    pub fn new(alloc: Global, tie: Tie) -> Result<Desk, Refusal>
+        ensures tie { IfOk result (λ desk. desk.tie ≡ tie) }
+        ensures base { IfOk result (λ desk. desk.book.base ≡ empty) }
+        ensures objects { IfOk result (λ desk. desk.book.objects ≡ empty) }
+        ensures closed { IfOk result (λ desk. desk.book.closed ≡ []) }
+        ensures pending { IfOk result (λ desk. desk.book.pending ≡ []) }
+        ensures refusal { OnlyNoMemory result }
     {
-        Desk {
-            tie,
-            book: Book::new(alloc),
+        let schedule = Shared::new(alloc, Schedule::new(alloc))?;
+        Ok(Desk {
+            resolution: Resolution::of(tie, Book::new(alloc), schedule),
             keys: Audiences::new(alloc),
             indexes: Indexes::new(alloc),
-            schedule: Schedule::new(alloc),
             alloc,
-        }
+        })
     }
 
     /// The desk of a book that has no events yet, with the programs, vens and resources that it has. `NoMemory` where there
@@ -93,13 +91,11 @@ impl Desk {
         ensures refusal { OnlyNoMemory result }
     {
         let keys = Audiences::of(alloc, book.objects())?;
-        let schedule = without_events(alloc, book.count(Kind::Resource))?;
+        let resolution = without_events(alloc, tie, book)?;
         Ok(Desk {
-            tie,
-            book,
+            resolution,
             keys,
             indexes: Indexes::new(alloc),
-            schedule,
             alloc,
         })
     }
@@ -108,14 +104,14 @@ impl Desk {
     pub fn tie(&self) -> Tie
         ensures { result ≡ self.now.tie }
     {
-        self.tie
+        self.resolution.tie()
     }
 
     /// The book.
     pub fn book(&self) -> &Book
         ensures { result.now ≡ self.now.book }
     {
-        &self.book
+        self.resolution.book()
     }
 
     /// The timeline of the resource and the payload type, which is not empty; None where nothing governs at any
@@ -125,9 +121,39 @@ impl Desk {
         ensures canonical { IfSome result (λ l. IsCanonical l.now) }
         ensures lasts { IfSome result (λ l. l.now ≢ []) }
     {
-        let place = self.book.resource_place(id)?;
-        let group = self.schedule.group(place)?;
-        group.timeline(payload_type)
+        self.resolution.timeline(id, payload_type)
+    }
+
+    /// The book with its timelines, as they stand.
+    pub fn resolution(&self) -> &Resolution
+        ensures { result.now ≡ self.now }
+    {
+        &self.resolution
+    }
+
+    /// A copy of the book with its timelines whose open batch is closed, which shares all with the desk: what a
+    /// publication shows. `NoMemory` where there is no room for the batch.
+    pub fn sealed(&self) -> Result<Resolution, Refusal>
+        ensures tie { IfOk result (λ sealed. sealed.tie ≡ self.now.tie) }
+        ensures base { IfOk result (λ sealed. sealed.book.base ≡ self.now.book.base) }
+        ensures objects { IfOk result (λ sealed. sealed.book.objects ≡ self.now.book.objects) }
+        ensures closed { IfOk result (λ sealed. sealed.book.closed ≡ self.now.book.closed ++ self.now.book.pending ∷ []) }
+        ensures pending { IfOk result (λ sealed. sealed.book.pending ≡ []) }
+        ensures refusal { OnlyNoMemory result }
+    {
+        let mut sealed = self.resolution.copy()?;
+        sealed.seal()?;
+        Ok(sealed)
+    }
+
+    /// Goes on from a resolution of the same objects under the same rule, as `sealed` answers it: its journal becomes
+    /// the desk's.
+    pub fn go_on_from(&mut self, resolution: Resolution)
+        requires tie { resolution.tie ≡ self.old.tie }
+        requires objects { resolution.book.objects ≡ self.old.book.objects }
+        ensures { self.new ≡ resolution }
+    {
+        drop(mem::replace(&mut self.resolution, resolution));
     }
 
     /// Closes the open batch of the journal, also an empty one. `NoMemory` leaves all as it was.
@@ -140,7 +166,7 @@ impl Desk {
         ensures unchanged { OnErr result (self.new ≡ self.old) }
         ensures refusal { OnlyNoMemory result }
     {
-        self.book.seal()
+        self.resolution.seal()
     }
 
     /// Makes the objects of `at` the base, lets the closed batches go and answers the base's version: see
@@ -156,50 +182,50 @@ impl Desk {
         ensures unchanged { OnErr result (self.new ≡ self.old) }
         ensures refusal { OnlyNoMemory result }
     {
-        self.book.condense(at)
+        self.resolution.condense(at)
     }
 
-    /// Makes an edit of an event that the book accepts.
+    /// Makes an edit that the book accepts.
     fn make(&mut self, edit: &Edit) -> Result<Receipt, Refusal>
-        requires event { is_of_event edit.now ≡ true }
-        requires accepted { IsOk (step_to (full_at self.old.book.base.version) self.old.book.objects edit.now) }
+        requires { IsOk (step_to (full_at self.old.book.base.version) self.old.book.objects edit.now) }
         ensures tie { self.new.tie ≡ self.old.tie }
         ensures base { self.new.book.base ≡ self.old.book.base }
         ensures objects { OnOk result (step_to (full_at self.old.book.base.version) self.old.book.objects edit.now ≡ Ok self.new.book.objects) }
         ensures pending { OnOk result (self.new.book.pending ≡ self.old.book.pending ++ edit.now ∷ []) }
         ensures closed { self.new.book.closed ≡ self.old.book.closed }
         ensures version { IfOk result (λ receipt. receipt.version ≡ self.new.book.objects.version) }
+        ensures touched { IfOk result (λ receipt. receipt.touched ≡ touches self.old.book.objects self.new.book.objects) }
         ensures unchanged { OnErr result (self.new ≡ self.old) }
         ensures refusal { OnlyNoMemory result }
     {
         let made = make(
             self.alloc,
-            self.tie,
-            &self.book,
+            &self.resolution,
             &mut self.keys,
             &mut self.indexes,
-            &self.schedule,
             edit,
         )?;
         let Made {
-            book,
-            schedule,
+            resolution,
+            touched,
             compares,
         } = made;
-        drop(mem::replace(&mut self.book, book));
-        drop(mem::replace(&mut self.schedule, schedule));
+        drop(mem::replace(&mut self.resolution, resolution));
         Ok(Receipt {
-            version: self.book.version(),
+            version: self.resolution.book().version(),
+            touched,
             compares,
         })
     }
 
-    /// Makes an edit of an event, repairs timelines where it touches them, and answers the version and how much was
-    /// compared; or the least of the edit's faults, and then all is as it was. Edits of other objects are not taken yet.
+    /// Makes an edit, repairs timelines where it touches them, and answers the version, where that was and how much was
+    /// compared; or the least of the edit's faults, and then all is as it was.
     ///
-    /// Cost: the resources to which the event applies, and for each group of them the entries that meet the event's.
+    /// Cost: of an event, the resources to which it applies, and for each group of them the entries that meet the
+    /// event's; of a program that changes, a look at each event, and for those of the program that of the resources to
+    /// which it comes to apply or does no more; of a resource, or of each of a ven that changes, the events that apply
+    /// to it and their entries. A table of eight bytes a resource is copied where a resource's events change.
     pub fn apply(&mut self, edit: Edit) -> Result<Receipt, Refusal>
-        requires { is_of_event edit ≡ true }
         ensures answer { Answers (result_map (λ _. made_book self.old.book.objects edit) result) (step_to (full_at self.old.book.base.version) self.old.book.objects edit) }
         ensures tie { self.new.tie ≡ self.old.tie }
         ensures base { self.new.book.base ≡ self.old.book.base }
@@ -207,9 +233,10 @@ impl Desk {
         ensures pending { OnOk result (self.new.book.pending ≡ self.old.book.pending ++ edit ∷ []) }
         ensures closed { self.new.book.closed ≡ self.old.book.closed }
         ensures version { IfOk result (λ receipt. receipt.version ≡ self.new.book.objects.version) }
+        ensures touched { IfOk result (λ receipt. receipt.touched ≡ touches self.old.book.objects self.new.book.objects) }
         ensures unchanged { OnErr result (self.new ≡ self.old) }
     {
-        judge(&self.book, &edit)?;
+        judge(self.resolution.book(), &edit)?;
         self.make(&edit)
     }
 }

@@ -5,14 +5,13 @@
 mod desk;
 mod empty;
 mod events;
+mod kinds;
 mod laws;
 mod make;
 mod making;
-mod party;
-mod program;
 mod receipt;
 mod side;
 
 pub use desk::Desk;
 pub use laws::edits_have_room;
-pub use receipt::Receipt;
+pub use receipt::{Receipt, Touched};

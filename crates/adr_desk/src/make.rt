@@ -1,26 +1,36 @@
 //! An accepted edit, made beside the old book.
-ghost use Rattle.std.specs.Prelude.{◌≡◌, ◌++◌, ◌∷◌, [], true, Ok, IsOk, IfOk, OnErr};
+ghost use Rattle.std.specs.Prelude.{◌≡◌, ◌++◌, ◌∷◌, [], true, false, Ok, IsOk, IfOk, OnOk, OnErr};
 ghost use Rattle.adr_value.specs.Answer.{OnlyNoMemory};
-ghost use Rattle.adr_model.specs.Edits.{full_at, step_to};
-ghost use Rattle.adr_desk.specs.Desk.{IsDesk};
-ghost use Rattle.adr_desk.specs.Edited.{is_of_event};
+ghost use Rattle.adr_model.specs.Edits.{full_at, made, step, step_to};
+ghost use Rattle.adr_model.specs.Touches.{touches};
+ghost use Rattle.adr_model.specs.Whole.{IsWhole};
+ghost use Rattle.adr_audience.specs.Keys.{AreKeysOf};
+ghost use Rattle.adr_lines.specs.Exchange.{IsIndexOf};
+ghost use Rattle.adr_schedule.specs.Seating.{AreSeatedFor};
+ghost use Rattle.adr_desk.specs.Desk.{AreOf, IsDesk};
+ghost use Rattle.adr_desk.specs.Edited.{is_of_event as the_is_of_event};
 
+use crate::kinds::{is_of_event, is_of_program, is_of_ven};
 use crate::making::after_event;
+use crate::receipt::Touched;
 use adr_audience::Audiences;
 use adr_book::Book;
 use adr_lines::Indexes;
 use adr_model::{Tie, edit_laws};
 use adr_object::Edit;
+use adr_regroup::{after_program, after_resource, after_ven};
+use adr_resolution::Resolution;
 use adr_rule::Meter;
 use adr_schedule::Schedule;
+use adr_shared::Shared;
 use adr_value::Refusal;
 use std::alloc::Global;
 
-/// The book after an edit, which shares with the old one all that stays, and its groups.
+/// The book after an edit with its timelines, which shares with the old one all that stays.
 #[derive(Drop)]
 pub(crate) struct Made {
-    pub(crate) book: Book,
-    pub(crate) schedule: Schedule,
+    pub(crate) resolution: Resolution,
+    pub(crate) touched: Touched,
     pub(crate) compares: u128,
 }
 
@@ -39,36 +49,156 @@ fn committed(book: &Book, edit: &Edit) -> Result<Book, Refusal>
     Ok(after)
 }
 
-/// Makes an accepted edit of an event. A refused call leaves keys and indexes of the old book.
-pub(crate) fn make(
+/// The groups after an accepted edit of a program, a ven or a resource.
+fn regrouped(
     alloc: Global,
     tie: Tie,
-    book: &Book,
+    old: &Book,
+    new: &Book,
+    keys: &Audiences,
+    indexes: &Indexes,
+    schedule: &Schedule,
+    edit: &Edit,
+    meter: &mut Meter,
+) -> Result<Schedule, Refusal>
+    requires other { the_is_of_event edit.now ≡ false }
+    requires accepted { step old.now.objects edit.now ≡ Ok new.now.objects }
+    requires keys { AreKeysOf old.now.objects keys.now }
+    requires indexed { IsIndexOf tie old.now.objects.events indexes.now }
+    requires seated { AreSeatedFor tie old.now.objects schedule.now }
+    requires begun { meter.old ≡ 0 }
+    ensures seated { IfOk result (AreSeatedFor tie new.now.objects) }
+    ensures refusal { OnlyNoMemory result }
+{
+    if is_of_program(edit) {
+        after_program(alloc, tie, old, new, keys, indexes, schedule, edit, meter)
+    } else if is_of_ven(edit) {
+        after_ven(alloc, tie, old, new, keys, indexes, schedule, edit, meter)
+    } else {
+        after_resource(alloc, tie, old, new, keys, indexes, schedule, edit, meter)
+    }
+}
+
+/// The groups after an accepted edit of a program, a ven or a resource, and then the keys. A refused call leaves the keys.
+fn followed(
+    alloc: Global,
+    tie: Tie,
+    old: &Book,
+    new: &Book,
+    keys: &mut Audiences,
+    indexes: &Indexes,
+    schedule: &Schedule,
+    edit: &Edit,
+    meter: &mut Meter,
+) -> Result<Shared<Schedule>, Refusal>
+    requires other { the_is_of_event edit.now ≡ false }
+    requires whole { IsWhole old.now.objects }
+    requires accepted { step old.now.objects edit.now ≡ Ok new.now.objects }
+    requires desk { IsDesk tie old.now.objects keys.old indexes.now schedule.now }
+    requires begun { meter.old ≡ 0 }
+    ensures seated { IfOk result (AreSeatedFor tie new.now.objects) }
+    ensures keys { OnOk result (AreKeysOf (made old.now.objects edit.now) keys.new) }
+    ensures unchanged { OnErr result (keys.new ≡ keys.old) }
+    ensures refusal { OnlyNoMemory result }
+{
+    let after = regrouped(alloc, tie, old, new, keys, indexes, schedule, edit, meter)?;
+    let after = Shared::new(alloc, after)?;
+    keys.follow(old.objects(), edit)?;
+    Ok(after)
+}
+
+/// Makes an accepted edit of a program, a ven or a resource to the keys, and answers the groups after it. A refused call
+/// leaves the keys.
+fn after_other(
+    alloc: Global,
+    tie: Tie,
+    old: &Book,
+    new: &Book,
+    keys: &mut Audiences,
+    indexes: &Indexes,
+    schedule: &Schedule,
+    edit: &Edit,
+    meter: &mut Meter,
+) -> Result<Shared<Schedule>, Refusal>
+    requires other { the_is_of_event edit.now ≡ false }
+    requires accepted { step old.now.objects edit.now ≡ Ok new.now.objects }
+    requires desk { IsDesk tie old.now.objects keys.old indexes.now schedule.now }
+    requires begun { meter.old ≡ 0 }
+    ensures ok { IfOk result (λ after. IsDesk tie new.now.objects keys.new indexes.now after) }
+    ensures err { OnErr result (keys.new ≡ keys.old) }
+    ensures refusal { OnlyNoMemory result }
+{
+    old.book_laws();
+    let after = followed(alloc, tie, old, new, keys, indexes, schedule, edit, meter)?;
+    Ok(after)
+}
+
+/// Makes an accepted edit to the keys and the indexes, and answers the groups after it. A refused call leaves keys and
+/// indexes of the old book.
+fn grouped(
+    alloc: Global,
+    tie: Tie,
+    old: &Book,
+    new: &Book,
     keys: &mut Audiences,
     indexes: &mut Indexes,
     schedule: &Schedule,
     edit: &Edit,
+    meter: &mut Meter,
+) -> Result<Shared<Schedule>, Refusal>
+    requires accepted { step old.now.objects edit.now ≡ Ok new.now.objects }
+    requires desk { IsDesk tie old.now.objects keys.old indexes.old schedule.now }
+    requires begun { meter.old ≡ 0 }
+    ensures ok { IfOk result (λ after. IsDesk tie new.now.objects keys.new indexes.new after) }
+    ensures err { OnErr result (IsDesk tie old.now.objects keys.new indexes.new schedule.now) }
+    ensures refusal { OnlyNoMemory result }
+{
+    if is_of_event(edit) {
+        after_event(alloc, tie, old, new, keys, indexes, schedule, edit, meter)
+    } else {
+        after_other(alloc, tie, old, new, keys, indexes, schedule, edit, meter)
+    }
+}
+
+/// Makes an accepted edit. A refused call leaves keys and indexes of the old book.
+pub(crate) fn make(
+    alloc: Global,
+    old: &Resolution,
+    keys: &mut Audiences,
+    indexes: &mut Indexes,
+    edit: &Edit,
 ) -> Result<Made, Refusal>
-    requires event { is_of_event edit.now ≡ true }
-    requires accepted { IsOk (step_to (full_at book.now.base.version) book.now.objects edit.now) }
-    requires desk { IsDesk tie book.now.objects keys.old indexes.old schedule.now }
-    ensures desk { IfOk result (λ made. IsDesk tie made.book.objects keys.new indexes.new made.schedule) }
-    ensures objects { IfOk result (λ made. step_to (full_at book.now.base.version) book.now.objects edit.now ≡ Ok made.book.objects) }
-    ensures pending { IfOk result (λ made. made.book.pending ≡ book.now.pending ++ edit.now ∷ []) }
-    ensures closed { IfOk result (λ made. made.book.closed ≡ book.now.closed) }
-    ensures base { IfOk result (λ made. made.book.base ≡ book.now.base) }
-    ensures err { OnErr result (IsDesk tie book.now.objects keys.new indexes.new schedule.now) }
+    requires accepted { IsOk (step_to (full_at old.now.book.base.version) old.now.book.objects edit.now) }
+    requires desk { AreOf old.now.tie old.now.book.objects keys.old indexes.old }
+    ensures desk { IfOk result (λ made. AreOf made.resolution.tie made.resolution.book.objects keys.new indexes.new) }
+    ensures tie { IfOk result (λ made. made.resolution.tie ≡ old.now.tie) }
+    ensures objects { IfOk result (λ made. step_to (full_at old.now.book.base.version) old.now.book.objects edit.now ≡ Ok made.resolution.book.objects) }
+    ensures pending { IfOk result (λ made. made.resolution.book.pending ≡ old.now.book.pending ++ edit.now ∷ []) }
+    ensures closed { IfOk result (λ made. made.resolution.book.closed ≡ old.now.book.closed) }
+    ensures base { IfOk result (λ made. made.resolution.book.base ≡ old.now.book.base) }
+    ensures touched { IfOk result (λ made. made.touched ≡ touches old.now.book.objects made.resolution.book.objects) }
+    ensures err { OnErr result (AreOf old.now.tie old.now.book.objects keys.new indexes.new) }
     ensures refusal { OnlyNoMemory result }
 {
     edit_laws();
+    let book = old.book();
     let after = committed(book, edit)?;
+    let touched = Touched::between(book.copy()?, after.copy()?);
     let mut meter = Meter::new();
-    let schedule = after_event(
-        alloc, tie, book, &after, keys, indexes, schedule, edit, &mut meter,
+    let schedule = grouped(
+        alloc,
+        old.tie(),
+        book,
+        &after,
+        keys,
+        indexes,
+        old.schedule(),
+        edit,
+        &mut meter,
     )?;
     Ok(Made {
-        book: after,
-        schedule,
+        resolution: Resolution::of(old.tie(), after, schedule),
+        touched,
         compares: meter.count(),
     })
 }

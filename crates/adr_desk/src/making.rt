@@ -26,6 +26,7 @@ use adr_model::Tie;
 use adr_object::Edit;
 use adr_rule::Meter;
 use adr_schedule::{Change, Schedule, Side};
+use adr_shared::Shared;
 use adr_stretch::TypeEntries;
 use adr_value::Refusal;
 use std::alloc::Global;
@@ -105,7 +106,7 @@ fn followed(
     change: &Change,
     alone: &Change,
     meter: &mut Meter,
-) -> Result<Schedule, Refusal>
+) -> Result<Shared<Schedule>, Refusal>
     requires whole { IsWhole book.now.objects }
     requires accepted { IsOk (step book.now.objects edit.now) }
     requires keys { AreKeysOf book.now.objects keys.old }
@@ -125,6 +126,7 @@ fn followed(
     let after = regrouped(
         alloc, tie, book, keys, indexes, schedule, edit, change, alone, meter,
     )?;
+    let after = Shared::new(alloc, after)?;
     keys.follow(book.objects(), edit)?;
     Ok(after)
 }
@@ -142,7 +144,7 @@ fn exchanged(
     change: &Change,
     alone: &Change,
     meter: &mut Meter,
-) -> Result<Schedule, Refusal>
+) -> Result<Shared<Schedule>, Refusal>
     requires whole { IsWhole old.now.objects }
     requires accepted { step old.now.objects edit.now ≡ Ok new.now.objects }
     requires exchange { IsExchanged old.now.objects new.now.objects (gone_of old.now.objects edit.now) (come_of old.now.objects edit.now) }
@@ -185,7 +187,7 @@ pub(crate) fn after_event(
     schedule: &Schedule,
     edit: &Edit,
     meter: &mut Meter,
-) -> Result<Schedule, Refusal>
+) -> Result<Shared<Schedule>, Refusal>
     requires event { is_of_event edit.now ≡ true }
     requires accepted { step old.now.objects edit.now ≡ Ok new.now.objects }
     requires desk { IsDesk tie old.now.objects keys.old indexes.old schedule.now }

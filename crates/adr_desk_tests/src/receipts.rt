@@ -1,0 +1,280 @@
+//! What the receipts of edits tell.
+use crate::reading::{edit, word};
+use adr_desk::{Desk, Receipt};
+use adr_model::{Tie, Touch};
+use adr_object::Edit;
+use adr_time::{End, Moment, Span};
+use adr_value::Refusal;
+use std::alloc::Global;
+use std::test::Fail;
+
+/// Edits, each behind `>` and after those that it is made upon; then, behind `=`, a line `RESOURCE TYPE START END` for
+/// each touch in order, with hours of one day; behind `least` and `most`, how many ranks are compared. A written event has
+/// its targets, its priority, the hour of its start, how long an interval lasts, and a word of payload types for each
+/// interval; any other object has its body.
+const EDITS: &str = r#"a create of an event
+  create program p1 {"programName":"P"}
+  create ven v1 {"venName":"V"}
+  create resource r1 {"resourceName":"R","venID":"v1"}
+> create event e1 null null 0 "PT1H" PRICE
+= r1 PRICE 0 1
+most 3
+
+a create of a program
+> create program p1 {"programName":"P"}
+most 0
+
+a create of a ven
+  create program p1 {"programName":"P"}
+> create ven v1 {"venName":"V"}
+most 0
+
+a create of a resource without events
+  create program p1 {"programName":"P"}
+  create ven v1 {"venName":"V"}
+> create resource r1 {"resourceName":"R","venID":"v1"}
+most 0
+
+a delete of an event under which another stands
+  create program p1 {"programName":"P"}
+  create ven v1 {"venName":"V"}
+  create resource r1 {"resourceName":"R","venID":"v1"}
+  create event e1 null null 0 "P9999Y" PRICE
+  create event e2 null 1 1 "PT1H" PRICE
+> delete event e2 -
+= r1 PRICE 1 2
+most 3
+
+a change of a ven
+  create program p1 {"programName":"P"}
+  create ven v1 {"venName":"V","targets":[{"type":"GROUP","values":["A"]}]}
+  create resource r1 {"resourceName":"R","venID":"v1"}
+  create event e1 [{"type":"GROUP","values":["A"]}] null 0 "PT2H" PRICE
+  create event e2 [{"type":"GROUP","values":["B"]}] null 0 "PT2H" PRICE
+> change ven v1 {"venName":"V","targets":[{"type":"GROUP","values":["B"]}]}
+= r1 PRICE 0 2
+= r1 PRICE 0 2
+most 6
+
+a change of a program that its events don't ask for
+  create program p1 {"programName":"P"}
+  create ven v1 {"venName":"V"}
+  create resource r1 {"resourceName":"R","venID":"v1"}
+  create event e1 null null 6 "PT1H" PRICE
+> change program p1 {"programName":"P2"}
+most 0
+
+a change of an event
+  create program p1 {"programName":"P"}
+  create ven v1 {"venName":"V"}
+  create resource r1 {"resourceName":"R","venID":"v1"}
+  create event e1 null 3 0 "PT2H" PRICE
+  create event e2 null 3 0 "PT2H" PRICE
+> change event e1 null 3 0 "PT2H" PRICE
+= r1 PRICE 0 2
+= r1 PRICE 0 2
+most 20
+
+a change of a resource
+  create program p1 {"programName":"P"}
+  create ven v1 {"venName":"V"}
+  create resource r1 {"resourceName":"R","venID":"v1"}
+  create ven v2 {"venName":"W"}
+  create event e1 [{"type":"VEN_NAME","values":["W"]}] null 0 "PT2H" PRICE
+> change resource r1 {"resourceName":"R","venID":"v2"}
+= r1 PRICE 0 2
+most 3
+
+a delete of a ven
+  create program p1 {"programName":"P"}
+  create ven v1 {"venName":"V"}
+  create resource r1 {"resourceName":"R","venID":"v1"}
+  create ven v2 {"venName":"W"}
+  create event e1 [{"type":"VEN_NAME","values":["W"]}] null 0 "PT2H" PRICE
+  change resource r1 {"resourceName":"R","venID":"v2"}
+> delete ven v1 -
+most 0
+
+a delete of a resource
+  create program p1 {"programName":"P"}
+  create ven v1 {"venName":"V"}
+  create resource r1 {"resourceName":"R","venID":"v1"}
+  create resource r2 {"resourceName":"Q","venID":"v1"}
+  create event e1 [{"type":"RESOURCE_NAME","values":["R"]}] null 0 "PT2H" PRICE,X_LOAD
+> delete resource r1 -
+= r1 PRICE 0 2
+= r1 X_LOAD 0 2
+most 0
+
+a create of a resource to which an event applies
+  create program p1 {"programName":"P"}
+  create ven v1 {"venName":"V"}
+  create resource r1 {"resourceName":"R","venID":"v1"}
+  create resource r2 {"resourceName":"Q","venID":"v1"}
+  create event e1 [{"type":"RESOURCE_NAME","values":["R"]}] null 0 "PT2H" PRICE,X_LOAD
+  delete resource r1 -
+> create resource r1 {"resourceName":"R","venID":"v1"}
+= r1 PRICE 0 2
+= r1 X_LOAD 0 2
+most 6
+
+a create of an event beside another
+  create program p1 {"programName":"P"}
+  create ven v1 {"venName":"V"}
+  create resource r1 {"resourceName":"R","venID":"v1"}
+  create event e1 null null 0 "PT2H" PRICE
+> create event e2 null 5 1 "PT2H" PRICE
+= r1 PRICE 1 3
+least 1
+
+a create of an event beside the last of two
+  create program p1 {"programName":"P"}
+  create ven v1 {"venName":"V"}
+  create resource r1 {"resourceName":"R","venID":"v1"}
+  create event e1 null null 0 "PT2H" PRICE
+  create event e2 null 5 1 "PT2H" PRICE
+> create event e3 null 0 2 "PT2H" PRICE
+= r1 PRICE 2 4
+least 1"#;
+
+/// The JSON of intervals for the words of a line, each with the payload types of its word, which commas part.
+fn intervals(alloc: Global, line: &str) -> Result<String, Refusal> {
+    let payloads = line.replace(alloc, ',', r#"","values":[1]},{"type":""#)?;
+    let intervals = payloads
+        .as_str()
+        .replace(alloc, ' ', r#"","values":[1]}]},{"payloads":[{"type":""#)?;
+    Ok(format!(in alloc; r#"[{{"payloads":[{{"type":"{intervals}","values":[1]}}]}}]"#)?)
+}
+
+/// The line of an event's verb, id, targets, priority, start and length, with its body.
+fn event_line(alloc: Global, words: [&str; 6], intervals: &str) -> Result<String, Refusal> {
+    let [verb, id, targets, priority, start, length] = words;
+    Ok(format!(in alloc;
+        r#"{verb} event {id} {{"programID":"p1","priority":{priority},"targets":{targets},"intervalPeriod":{{"start":"1970-01-01T0{start}Z","duration":{length}}},"intervals":{intervals}}}"#
+    )?)
+}
+
+/// The edit that writes the event of `ID TARGETS PRIORITY START LENGTH TYPES ..`.
+fn event_edit(alloc: Global, verb: &str, line: &str) -> Result<Edit, Refusal> {
+    let (id, line) = word(line)?;
+    let (targets, line) = word(line)?;
+    let (priority, line) = word(line)?;
+    let (start, line) = word(line)?;
+    let (length, line) = word(line)?;
+    let intervals = intervals(alloc, line)?;
+    let words = [verb, id, targets, priority, start, length];
+    let line = event_line(alloc, words, intervals.as_str())?;
+    edit(alloc, line.as_str())
+}
+
+fn any_edit(alloc: Global, line: &str) -> Result<Edit, Refusal> {
+    match line.split_once(" event ") {
+        Some((verb, event)) if verb != "delete" => event_edit(alloc, verb, event),
+        _ => edit(alloc, line),
+    }
+}
+
+fn make(desk: &mut Desk, alloc: Global, line: &str) -> Result<Receipt, Refusal> {
+    let edit = any_edit(alloc, line)?;
+    desk.apply(edit)
+}
+
+/// Makes the edits of the lines that begin with two spaces.
+fn prepare(desk: &mut Desk, alloc: Global, row: &str) -> Result<(), Refusal> {
+    for line in row.lines() {
+        if let Some(edit) = line.strip_prefix("  ") {
+            let receipt = make(desk, alloc, edit)?;
+            drop(receipt);
+        }
+    }
+    Ok(())
+}
+
+/// What stands behind the word at the begin of a line of the row.
+fn behind<'a>(row: &'a str, word: &str) -> Option<&'a str> {
+    for line in row.lines() {
+        if let Some(rest) = line.strip_prefix(word) {
+            return Some(rest);
+        }
+    }
+    None
+}
+
+fn number(row: &str, word: &str) -> Option<u128> {
+    let number = behind(row, word)?.parse::<u64>().ok()?;
+    Some(u128::from(number))
+}
+
+fn hour(word: &str) -> Option<Moment> {
+    let hours = i128::from(word.parse::<u8>().ok()?);
+    Moment::of(hours * 3_600_000_000_000)
+}
+
+/// The window between two hours.
+fn window(line: &str) -> Option<Span> {
+    let (start, end) = line.split_once(' ')?;
+    Some(Span {
+        start: hour(start)?,
+        end: End::At(hour(end)?),
+    })
+}
+
+/// Whether the touch is that of a line `RESOURCE TYPE START END`.
+fn is_touch(touch: &Touch, line: &str) -> Result<bool, Refusal> {
+    let (resource, line) = word(line)?;
+    let (kind, line) = word(line)?;
+    Ok(
+        touch.resource.text() == resource
+            && touch.kind.name() == kind
+            && window(line) == Some(touch.window),
+    )
+}
+
+/// Whether the touches are those of the row's lines.
+fn are_touches(touches: &[Touch], row: &str) -> Result<bool, Refusal> {
+    let mut touches = touches.iter();
+    for line in row.lines() {
+        if let Some(wanted) = line.strip_prefix("= ") {
+            match touches.next() {
+                Some(touch) if is_touch(touch, wanted)? => {}
+                _ => return Ok(false),
+            }
+        }
+    }
+    Ok(touches.next().is_none())
+}
+
+/// Whether the receipt tells what the row says.
+fn tells(alloc: Global, receipt: &Receipt, row: &str) -> Result<bool, Refusal> {
+    let touches = receipt.touched.to_vec(alloc)?;
+    let are_touches = are_touches(touches.as_slice(), row);
+    drop(touches);
+    let most = number(row, "most ").is_none_or(|most| receipt.compares <= most);
+    let least = number(row, "least ").is_none_or(|least| least <= receipt.compares);
+    Ok(are_touches? && most && least)
+}
+
+fn is_told_after(alloc: Global, desk: &mut Desk, row: &str) -> Result<bool, Refusal> {
+    prepare(desk, alloc, row)?;
+    let line = behind(row, "> ").ok_or(Refusal::BadLine)?;
+    let receipt = make(desk, alloc, line)?;
+    let tells = tells(alloc, &receipt, row);
+    drop(receipt);
+    tells
+}
+
+fn is_told(alloc: Global, tie: Tie, row: &str) -> Result<bool, Refusal> {
+    let mut desk = Desk::new(alloc, tie)?;
+    let is_told = is_told_after(alloc, &mut desk, row);
+    drop(desk);
+    is_told
+}
+
+#[test]
+fn receipts_tell_what_edits_touch_and_compare(rt: HostRuntime) -> Result<(), Fail> {
+    for row in EDITS.split("\n\n") {
+        assert!(rt; is_told(rt.alloc(), Tie::Newest, row)?, "{row}");
+        assert!(rt; is_told(rt.alloc(), Tie::LatestStart, row)?, "{row}");
+    }
+    Ok(())
+}
