@@ -2,3 +2,4 @@ pub mod Numbered
 pub mod Segments
 pub mod States
 pub mod Walked
+pub mod Tabled

@@ -8,7 +8,7 @@ ghost use Rattle.adr_model.specs.Answer.{state_text};
 ghost use Rattle.adr_model.specs.Queries.{end_within, is_bare_byte, segment_text, type_text};
 ghost use Rattle.adr_calendar.specs.Shown.{shown_text, shown_view};
 
-use crate::printing::{put, put_end, put_id, put_quoted, put_values};
+use crate::printing::{put, put_end, put_id, put_natural, put_quoted, put_values};
 use adr_object::Id;
 use adr_time::{End, Moment, print_moment};
 use adr_value::{Datum, Refusal};
@@ -26,8 +26,8 @@ pub fn put_version(out: &mut Vec<u8>, version: u64) -> Result<(), Refusal>
     ensures ok { OnOk result (out.new.items ≡ out.old.items ++ (codes "version " ++ decimal version)) }
     ensures memory { OnlyNoMemory result }
 {
-    let text = format!(in *out.allocator(); "version {version}")?;
-    put(out, text.as_bytes())
+    put(out, b"version ")?;
+    put_natural(out, u128::from(version))
 }
 
 /// Appends what is shown and until when: `event e1 interval 0 until end values 10`, or `none until end`.

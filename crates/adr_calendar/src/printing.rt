@@ -1,13 +1,14 @@
 //! The bytes of numbers, texts, values and ends.
-ghost use Rattle.std.specs.Prelude.{◌≡◌, ◌++◌, ◌<◌, OnOk, codes};
-ghost use Rattle.std.specs.Fmt.{signed_decimal};
+ghost use Rattle.std.specs.Prelude.{◌≡◌, ◌++◌, ◌<◌, ◌≤◌, ◌^◌, OnOk, codes, replicate};
+ghost use Rattle.std.specs.Fmt.{decimal, sign_text, signed_decimal};
 ghost use Rattle.std.specs.List.{flat_map};
 ghost use Rattle.adr_value.specs.Answer.{OnlyNoMemory};
-ghost use Rattle.adr_value.specs.Text.{number_text};
+ghost use Rattle.adr_value.specs.Text.{fraction_text, number_text, places_text};
 ghost use Rattle.adr_model.specs.Answer.{hex_digit, quoted_byte, quoted, datum_text, values_text, end_text};
 
 use adr_time::{End, print_moment};
 use adr_value::{Datum, Decimal, Refusal};
+use itoa::Buffer;
 
 /// Appends bytes.
 pub fn put(out: &mut Vec<u8>, text: &[u8]) -> Result<(), Refusal>
@@ -18,12 +19,79 @@ pub fn put(out: &mut Vec<u8>, text: &[u8]) -> Result<(), Refusal>
     Ok(())
 }
 
+/// Appends so many zeros.
+fn put_zeros(out: &mut Vec<u8>, count: usize) -> Result<(), Refusal>
+    ensures ok { OnOk result (out.new.items ≡ out.old.items ++ replicate count 48) }
+    ensures memory { OnlyNoMemory result }
+{
+    for _place in 0..count {
+        out.push(b'0')?;
+    }
+    Ok(())
+}
+
+/// Appends a number in so many digits, with zeros before it.
+fn put_places(out: &mut Vec<u8>, places: u8, value: u128) -> Result<(), Refusal>
+    ensures ok { OnOk result (out.new.items ≡ out.old.items ++ places_text places value) }
+    ensures memory { OnlyNoMemory result }
+{
+    let mut buffer = Buffer::new();
+    let digits = buffer.format(value).as_bytes();
+    put_zeros(out, usize::from(places).saturating_sub(digits.len()))?;
+    put(out, digits)
+}
+
+/// Appends the point and the digits after it, if there are any.
+fn put_fraction(out: &mut Vec<u8>, places: u8, power: u128, size: u128) -> Result<(), Refusal>
+    requires places { places ≤ 36 }
+    requires power { power ≡ 10 ^ places }
+    requires positive { 0 < power }
+    ensures ok { OnOk result (out.new.items ≡ out.old.items ++ fraction_text places size) }
+    ensures memory { OnlyNoMemory result }
+{
+    if places == 0 {
+        return Ok(());
+    }
+    put(out, b".")?;
+    put_places(out, places, size % power)
+}
+
+/// Appends a minus sign, if there is to be one.
+fn put_sign(out: &mut Vec<u8>, is_negative: bool) -> Result<(), Refusal>
+    ensures ok { OnOk result (out.new.items ≡ out.old.items ++ sign_text is_negative) }
+    ensures memory { OnlyNoMemory result }
+{
+    if is_negative { put(out, b"-") } else { Ok(()) }
+}
+
 fn put_decimal(out: &mut Vec<u8>, number: Decimal) -> Result<(), Refusal>
     ensures ok { OnOk result (out.new.items ≡ out.old.items ++ number_text number) }
     ensures memory { OnlyNoMemory result }
 {
-    let text = format!(in *out.allocator(); "{number}")?;
-    put(out, text.as_bytes())
+    let size = number.coefficient().unsigned_abs();
+    let places = number.scale();
+    let power = power_of_ten(places);
+    put_sign(out, number.coefficient() < 0)?;
+    put_natural(out, size / power)?;
+    put_fraction(out, places, power, size)
+}
+
+// 10 to the power of `places`.
+fn power_of_ten(places: u8) -> u128
+    requires { places ≤ 36 }
+    ensures value { result ≡ 10 ^ places }
+    ensures positive { 0 < result }
+{
+    10u128.pow(places as u32)
+}
+
+/// Appends a whole number that is not below zero.
+pub(crate) fn put_natural(out: &mut Vec<u8>, number: u128) -> Result<(), Refusal>
+    ensures ok { OnOk result (out.new.items ≡ out.old.items ++ decimal number) }
+    ensures memory { OnlyNoMemory result }
+{
+    let mut buffer = Buffer::new();
+    put(out, buffer.format(number).as_bytes())
 }
 
 /// Appends the id of an interval.
@@ -31,8 +99,8 @@ pub(crate) fn put_id(out: &mut Vec<u8>, id: i64) -> Result<(), Refusal>
     ensures ok { OnOk result (out.new.items ≡ out.old.items ++ signed_decimal id) }
     ensures memory { OnlyNoMemory result }
 {
-    let text = format!(in *out.allocator(); "{id}")?;
-    put(out, text.as_bytes())
+    let mut buffer = Buffer::new();
+    put(out, buffer.format(id).as_bytes())
 }
 
 fn hex_byte(digit: u8) -> u8

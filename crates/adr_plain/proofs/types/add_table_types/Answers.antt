@@ -1,4 +1,4 @@
-use Rattle.adr_plain.proofs.Governed.{table_walked_on}
+use Rattle.adr_calendar.proofs.Tabled.{table_walked_on}
 use Rattle.adr_plain.specs.Scan.{type_if_governed}
 use Rattle.adr_plain.proofs.types.add_table_types.Goals as goal
 
