@@ -1,0 +1,4 @@
+pub mod Prefixes
+pub mod Linked
+pub mod Turns
+pub mod Histories
