@@ -1,0 +1,79 @@
+-- The next publication follows from the last one.
+use Rattle.std.proofs.Common.{◌≡◌, ◌+◌, ◌*◌, List, [], ◌∷◌, ◌++◌, length, sym, ap, subst, arith, length-append, ◌∙◌, Result, Ok, Err, OnOk, OnErr}
+use Rattle.std.proofs.lemmas.List.{append-nil}
+use Rattle.logbook.specs.Pages.{Book as History}
+use Rattle.adr_object.specs.declared.object.Edit.{Edit}
+use Rattle.adr_model.specs.Book.{Book, empty}
+use Rattle.adr_model.specs.Edits.{after_from}
+use Rattle.adr_model.specs.Machine.{Publication, opening}
+use Rattle.adr_model.proofs.EditLemmas.{journals_go_on}
+use Rattle.adr_book.specs.Ledger.{Ledger, closed_edits, journal_of, sealed_of}
+use Rattle.adr_diary.specs.declared.diary.Entry.{Entry}
+use Rattle.adr_diary.specs.History.{begun, published_by, EndsInAttempt}
+use Rattle.adr_diary.specs.Publications.{publication_of}
+use Rattle.adr_diary.proofs.Histories.{first_attempt}
+use Rattle.adr_diary.proofs.Linked.{ends_opened}
+use Rattle.adr_board.specs.declared.shown.Showing.{Showing}
+use Rattle.adr_snapshot.specs.Published.{PublishedBook}
+use Rattle.adr_board.specs.Rules.{IsCarried, IsLast, MayFollow, publication_in}
+use Rattle.adr_board.proofs.Steps.{followed}
+
+-- from what the closed batches lead to the open one leads to the objects
+pub leads_on : (book : Ledger) (before : Book) (p : Publication) → after_from book.base (journal_of book) ≡ book.objects → before ≡ sealed_of book → p ≡ publication_of book → p.book ≡ after_from before p.batch
+leads_on book before p leads is same =
+    let on : after_from book.base (journal_of book) ≡ after_from (sealed_of book) book.pending = journals_go_on book.base (closed_edits book.closed) book.pending in
+    let next : book.objects ≡ after_from before book.pending = sym leads ∙ (on ∙ ap (λ (b : Book). after_from b book.pending) (sym is)) in
+    subst (λ (q : Publication). q.book ≡ after_from before q.batch) (sym same) next
+
+-- where no batch is open the closed ones lead to the objects
+pub all_closed : (book : Ledger) → after_from book.base (journal_of book) ≡ book.objects → book.pending ≡ [] → sealed_of book ≡ book.objects
+all_closed book leads none =
+    let whole : closed_edits book.closed ++ book.pending ≡ closed_edits book.closed = ap (λ (l : List Edit). closed_edits book.closed ++ l) none ∙ append-nil (closed_edits book.closed) in
+    sym (ap (λ (l : List Edit). after_from book.base l) whole) ∙ leads
+
+-- a base with no closed batches
+pub no_batches : (book : Ledger) (base : Book) → book.base ≡ base → book.closed ≡ [] → base ≡ sealed_of book
+unfolding after_from
+no_batches book base is none = sym is ∙ sym (ap (λ (l : List (List Edit)). after_from book.base (closed_edits l)) none)
+
+-- a condensed book is still what its closed batches lead to, up to the last publication
+pub condensed : {X E : Type 0} (r : Result X E) (last at : Book) (old new : Ledger) → at ≡ last → last ≡ sealed_of old → OnOk r (new.base ≡ at) → OnOk r (new.closed ≡ []) → OnErr r (new ≡ old) → last ≡ sealed_of new
+condensed (Ok x) last at old new same is base closed kept = no_batches new last (base ∙ same) closed
+condensed (Err e) last at old new same is base closed kept = subst (λ (b : Ledger). last ≡ sealed_of b) (sym kept) is
+
+-- what is the same after a refusal is so in each part
+pub same_part : {X E D P : Type 0} (r : Result X E) (part : D → P) (new old : D) → OnErr r (new ≡ old) → OnErr r (part new ≡ part old)
+same_part (Ok x) part new old same = tt
+same_part (Err e) part new old same = ap part same
+
+-- what is to be shown may follow what is shown
+pub may_follow : (history : History) (v : List Publication) (s t : Showing) (last : PublishedBook) (log : List Entry)
+    → last ≡ s.snapshot → IsLast v last → t.snapshot.number ≡ last.number + 1 → (publication_in t.snapshot).book ≡ after_from last.book.objects (publication_in t.snapshot).batch
+    → t.page.book ≡ history → t.page.log ≡ log ++ begun (publication_in t.snapshot) ∷ [] → published_by log ≡ v → length log ≡ 2 * t.attempt
+    → MayFollow history v s t
+may_follow history v s t last log is ends next link same log_is says long =
+    let p = publication_in t.snapshot in
+    let numbered : length (v ++ p ∷ []) ≡ t.snapshot.number + 1 = omega (arith, length-append v (p ∷ []), ends.numbered, next) in
+    let at : EndsInAttempt (v ++ p ∷ []) t.page.log t.snapshot.number t.attempt p =
+    record { earlier = log; log_is = log_is; long = long; list_is = ap (λ (l : List Publication). l ++ p ∷ []) (sym says); numbered = numbered } in
+    (subst (λ (x : PublishedBook). IsLast v x) is ends, next ∙ ap (λ (x : PublishedBook). x.number + 1) is, link ∙ ap (λ (x : PublishedBook). after_from x.book.objects p.batch) is, (same, at))
+
+-- what is shown after a publication is the last of the longer list
+pub shown_last : (history : History) (v w : List Publication) (s t : Showing) (last : PublishedBook) → MayFollow history v s t → w ≡ v ++ publication_in t.snapshot ∷ [] → last ≡ t.snapshot → IsLast w last
+shown_last history v w s t last may more is =
+    let ends = followed history v s t may in
+    subst (λ (l : List Publication). IsLast l last) (sym more) (subst (λ (x : PublishedBook). IsLast (v ++ publication_in t.snapshot ∷ []) x) (sym is) ends)
+
+-- number 0 is carried with the history that begins with it
+pub first_carried : (history : History) (t : Showing) → t.snapshot.number ≡ 0 → publication_in t.snapshot ≡ opening → t.page.book ≡ history → t.page.log ≡ begun opening ∷ [] → t.attempt ≡ 0 → IsCarried history (opening ∷ []) t
+first_carried history t number is same log_is place =
+    let begins : t.page.log ≡ begun (publication_in t.snapshot) ∷ [] = log_is ∙ ap (λ (r : Publication). begun r ∷ []) (sym is) in
+    (same, first_attempt t.page.log t.snapshot.number t.attempt (publication_in t.snapshot) begins number place is)
+
+-- a new board's publication is its last
+pub opened_last : (v : List Publication) (s : PublishedBook) → v ≡ opening ∷ [] → s.number ≡ 0 → publication_in s ≡ opening → IsLast v s
+opened_last v s is number publication = rw (is, number, publication) ends_opened
+
+-- and what the closed batches of its desk lead to
+pub opened_objects : (s : PublishedBook) (book : Ledger) → publication_in s ≡ opening → book.base ≡ empty → book.closed ≡ [] → s.book.objects ≡ sealed_of book
+opened_objects s book publication base closed = ap (λ (p : Publication). p.book) publication ∙ no_batches book empty base closed

@@ -1,0 +1,5 @@
+pub mod Lasts
+pub mod Steps
+pub mod Sights
+pub mod Following
+pub mod Named

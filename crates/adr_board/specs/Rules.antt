@@ -1,0 +1,64 @@
+-- The rule of a board over what its threads share, as a table of steps.
+--
+--   step                                      whose view becomes what
+--   a reader's place is taken or given back   that reader's: publication 0; it ends
+--   the swap in a publication                 the editor's: one publication longer
+--   the enter in a look                       that reader's: the list whose last publication it sees
+--   the leaving in a look                     none changes
+--   an edit, a condense, a tell, a learn      none changes; they touch nothing that is shared
+use Rattle.std.specs.Prelude.{◌≡◌, ℕ, ◌+◌, List, [], ◌∷◌, ◌++◌}
+use Rattle.std.specs.Arc.{arc_value}
+use mathlib.Core.Option.{some}
+use mathlib.Core.List.{IsPrefix}
+use lib.ListN.{get_elem?}
+use Rattle.logbook.specs.Pages.{Book as History}
+use Rattle.adr_model.specs.Edits.{after_from}
+use Rattle.adr_model.specs.Machine.{Publication}
+use Rattle.adr_diary.specs.declared.diary.Entry.{Entry}
+use Rattle.adr_diary.specs.History.{EndsInAttempt}
+use Rattle.adr_diary.specs.Publications.{EndsWith}
+use Rattle.adr_snapshot.specs.Published.{PublishedBook, last_batch}
+use Rattle.adr_board.specs.declared.shown.Shown.{Shown}
+use Rattle.adr_board.specs.declared.shown.Showing.{Showing}
+
+-- the publication that a snapshot is of: its objects, and the batch that was closed last
+abbrev pub publication_in : PublishedBook → Publication
+publication_in s = record { book = s.book.objects; batch = last_batch s.book.closed }
+
+-- the snapshot is that of the last of these publications
+abbrev pub IsLast : List Publication → PublishedBook → Type 0
+IsLast published s = EndsWith published s.number (publication_in s)
+
+-- these are the publications that the history says which is shown beside the snapshot, and it is that of this board
+abbrev pub IsCarried : History → List Publication → Showing → Type 0
+IsCarried history published s = (s.page.book ≡ history) × EndsInAttempt published s.page.log s.snapshot.number s.attempt (publication_in s.snapshot)
+
+-- what one of the two copies shows
+abbrev pub showing : Shown → Showing
+showing x = record { snapshot = arc_value x.snapshot; attempt = x.attempt; page = x.page }
+
+-- The rule: there is one list of publications, each of which follows from the one before. Its last is shown, with its history, and what each
+-- thread has seen begins it
+abbrev pub Keeps : History → Shown → List (List Publication) → Type 0
+Keeps history x views =
+    (published : List Publication) × IsLast published (showing x).snapshot × IsCarried history published (showing x)
+    × ((seat : ℕ) (v : List Publication) → get_elem? views seat ≡ some v → IsPrefix v published)
+
+-- A look: what is seen becomes a list whose last publication is the one shown. It begins with all that was seen
+abbrev pub Looks : History → List Publication → Shown → Shown → List Publication → Type 0
+Looks history v x y w = IsPrefix v w × IsLast w (showing y).snapshot × IsCarried history w (showing y)
+
+-- A publication: what was seen, which is the whole list, gets what is shown now
+abbrev pub Adds : List Publication → Shown → Shown → List Publication → Type 0
+Adds v x y w = w ≡ v ++ publication_in (showing y).snapshot ∷ []
+
+-- the list is that of all publications, of which s is the last, and t may be the next
+abbrev pub MayFollow : History → List Publication → Showing → Showing → Type 0
+MayFollow history published s t =
+    IsLast published s.snapshot × (t.snapshot.number ≡ s.snapshot.number + 1)
+    × (t.snapshot.book.objects ≡ after_from s.snapshot.book.objects (last_batch t.snapshot.book.closed))
+    × IsCarried history (published ++ publication_in t.snapshot ∷ []) t
+
+-- a look at the last of these publications: the history, the number and the place of its attempt
+abbrev pub IsSight : List Publication → List Entry → ℕ → ℕ → Type 0
+IsSight published log number attempt = (p : Publication) × EndsInAttempt published log number attempt p

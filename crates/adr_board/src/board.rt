@@ -1,0 +1,658 @@
+//! The editor of a board, its readers, and what it tells them.
+ghost use Rattle.std.specs.Prelude.{◌≡◌, ◌⊎◌, ◌+◌, ◌<◌, ◌≤◌, ◌++◌, ◌∷◌, [], length, All, IfErr, IfNone, IfOk, IfSome, IsTrue, Ok, OnErr, OnOk, vec_len};
+ghost use Rattle.std.specs.Arc.{arc_value};
+ghost use Rattle.std.specs.List.{flat_map};
+ghost use mathlib.Core.List.{IsPrefix};
+ghost use Rattle.left_right.specs.Sides.{view as known};
+ghost use Rattle.adr_value.specs.Answer.{Answers, OnlyNoMemory, result_map};
+ghost use Rattle.adr_value.specs.declared.refusal.Refusal.TheVariants.{NoRuntime, NoMemory, Full};
+ghost use Rattle.adr_model.specs.Book.{empty};
+ghost use Rattle.adr_model.specs.Edits.{full_at, made as made_book, step_to};
+ghost use Rattle.adr_model.specs.Machine.{opening};
+ghost use Rattle.adr_model.specs.Touches.{touches};
+ghost use Rattle.adr_book.specs.Ledger.{sealed_of};
+ghost use Rattle.adr_snapshot.specs.Types.{ArePrivate, edit_names, HasPrivateNames};
+ghost use Rattle.adr_diary.specs.History.{HasLast, begun, published_by, seen_by};
+ghost use Rattle.adr_diary.specs.Publications.{publication_of};
+ghost use Rattle.adr_board.specs.Boards.{Grows, last_of, newcomer, with_published};
+ghost use Rattle.adr_board.specs.Rules.{IsCarried, IsLast, IsSight, MayFollow, publication_in, showing};
+
+use crate::rule::{Add, Look, Naming, RuledReader, RuledWriter};
+use crate::shown::Shown;
+use adr_book::Book;
+use adr_desk::{Desk, Receipt};
+use adr_diary::{Diary, Page};
+use adr_model::Tie;
+use adr_object::Edit;
+use adr_resolution::Resolution;
+use adr_snapshot::{Snapshot, has_private_names, names_stay_private};
+use adr_value::Refusal;
+use adr_value::limits::MOST_PUBLICATIONS;
+use core::mem::replace_with;
+use std::alloc::Global;
+use std::marker::{Model, PhantomData};
+use std::sync::{Arc, Wait};
+
+/// The number of a publication, and the version that it shows.
+#[derive(Clone, Copy, Debug, PartialEq, Eq)]
+pub struct Published {
+    pub number: u64,
+    pub version: u64,
+}
+
+/// What the editor told. Contracts see the publications that there were.
+#[derive(Drop)]
+pub struct Told<J: Naming> {
+    number: u64,
+    attempt: u64,
+    page: Page,
+    of: PhantomData<J>,
+}
+
+impl<J: Naming> Model for Told<J> {
+    ghost use Rattle.std.specs.Prelude.{◌≡◌, List};
+    ghost use Rattle.adr_model.specs.Machine.{Publication};
+    ghost use Rattle.adr_book.specs.Ledger.{sealed_of};
+    ghost use Rattle.adr_diary.specs.History.{HasLast, published_by};
+
+    ghost Value = { List Publication };
+
+    ghost view = { λ t. published_by t.page.log };
+
+    ghost invariant = { λ t. (t.page.book ≡ J.history) × HasLast t.page.log t.number t.attempt };
+}
+
+impl<J: Naming> Told<J> {
+    /// The number of the last publication that there was.
+    pub fn number(&self) -> u64
+        ensures { length self.now ≡ result + 1 }
+    {
+        self.number
+    }
+
+    /// A copy. It takes no memory.
+    pub fn again(&self) -> Told<J>
+        ensures { result ≡ self.now }
+    {
+        Told {
+            number: self.number,
+            attempt: self.attempt,
+            page: self.page.again(),
+            of: PhantomData,
+        }
+    }
+
+    /// The longer of two, which the other begins.
+    fn longer(&self, other: &Told<J>) -> Told<J>
+        ensures one { (result ≡ self.now) ⊎ (result ≡ other.now) }
+        ensures this { IsPrefix self.now result }
+        ensures that { IsPrefix other.now result }
+    {
+        let mut both = self.page.again();
+        both.learn(&other.page);
+        if self.number < other.number {
+            other.again()
+        } else {
+            self.again()
+        }
+    }
+
+    // Whether the publications that a look shows begin with these. They always do where these were learnt before the
+    // look, but only the look's number shows it.
+    fn begins(&self, sight: &Sight) -> bool
+        requires { (sight.now.page.book ≡ J.history) × IsSight (seen_by sight.now.page.log) sight.now.page.log sight.now.number sight.now.attempt }
+        ensures { IsTrue result → IsPrefix self.now (seen_by sight.now.page.log) }
+    {
+        let mut both = self.page.again();
+        both.learn(&sight.page);
+        if self.number < sight.number {
+            return true;
+        }
+        self.attempt == sight.attempt
+    }
+}
+
+/// One of the readers. Contracts see the publications that it has seen, and those that it has learnt of.
+#[derive(Drop)]
+pub struct Reader<J: Naming> {
+    raw: RuledReader<J>,
+    page: Page,
+    told: Told<J>,
+}
+
+impl<J: Naming> Model for Reader<J> {
+    ghost use Rattle.adr_board.specs.Boards.{View};
+
+    ghost Value = { View };
+
+    ghost use Rattle.std.specs.Prelude.{◌≡◌};
+    ghost use mathlib.Core.List.{IsPrefix};
+    ghost use Rattle.left_right.specs.Sides.{view as known};
+    ghost use Rattle.adr_diary.specs.History.{seen_by};
+
+    ghost view = { λ r. record { seen = seen_by r.page.log; learnt = r.told } };
+
+    ghost invariant = { λ r. IsPrefix (seen_by r.page.log) (known r.raw.place) };
+}
+
+// What a look finds: the history of the last publication, its number and the place of its attempt, and a share of it.
+#[derive(Drop)]
+struct Sight {
+    page: Page,
+    number: u64,
+    attempt: u64,
+    share: Result<Arc<Snapshot>, Refusal>,
+}
+
+// Enters, takes a share of what is shown, and leaves.
+fn enter<J: Naming>(reader: RuledReader<J>) -> (RuledReader<J>, Option<Sight>)
+    ensures sight { IfSome result.1 (λ g. IsPrefix (known reader.place) (known result.0.place) × (seen_by g.page.log ≡ known result.0.place) × (g.page.book ≡ J.history) × IsSight (seen_by g.page.log) g.page.log g.number g.attempt) }
+    ensures share { IfSome result.1 (λ g. IfOk g.share (λ s. IsLast (known result.0.place) (arc_value s)) × IfErr g.share (λ e. e ≡ NoMemory)) }
+    ensures none { IfNone result.1 (known result.0.place ≡ known reader.place) }
+{
+    match reader.enter_as::<Look<J>>() {
+        Ok(reading) => {
+            let shown = reading.get();
+            let sight = Sight {
+                page: shown.page.again(),
+                number: shown.snapshot.number(),
+                attempt: shown.attempt,
+                share: Arc::try_clone(&shown.snapshot).map_err(|_| Refusal::NoMemory),
+            };
+            (reading.leave(), Some(sight))
+        }
+        Err(reader) => (reader, None),
+    }
+}
+
+// The same in place.
+fn glance<J: Naming>(reader: &mut RuledReader<J>) -> Option<Sight>
+    ensures sight { IfSome result (λ g. IsPrefix (known reader.old.place) (known reader.new.place) × (seen_by g.page.log ≡ known reader.new.place) × (g.page.book ≡ J.history) × IsSight (seen_by g.page.log) g.page.log g.number g.attempt) }
+    ensures share { IfSome result (λ g. IfOk g.share (λ s. IsLast (known reader.new.place) (arc_value s)) × IfErr g.share (λ e. e ≡ NoMemory)) }
+    ensures none { IfNone result (known reader.new.place ≡ known reader.old.place) }
+{
+    replace_with(reader, (), |reader, _| enter(reader))
+}
+
+impl<J: Naming> Reader<J> {
+    /// The last publication. It waits for nobody.
+    ///
+    /// `NoMemory` where the snapshot can't be shared once more; `NoRuntime` once the editor has closed the board.
+    pub fn look(&mut self) -> Result<Arc<Snapshot>, Refusal>
+        ensures last { IfOk result (λ s. IsLast self.new.seen (arc_value s)) }
+        ensures grows { IfOk result (λ _. Grows self.old self.new) }
+        ensures refused { IfErr result (λ e. ((e ≡ NoMemory) × Grows self.old self.new) ⊎ ((e ≡ NoRuntime) × (self.new ≡ self.old))) }
+    {
+        let Some(sight) = glance(&mut self.raw) else {
+            return Err(Refusal::NoRuntime);
+        };
+        if !self.told.begins(&sight) {
+            return Err(Refusal::NoRuntime);
+        }
+        let Sight {
+            page,
+            number: _,
+            attempt: _,
+            share,
+        } = sight;
+        self.page = page;
+        share
+    }
+
+    /// Takes in what the editor told. From now on a look shows no less. It takes no memory.
+    pub fn learn(&mut self, told: &Told<J>)
+        ensures seen { self.new.seen ≡ self.old.seen }
+        ensures kept { IsPrefix self.old.learnt self.new.learnt }
+        ensures learnt { IsPrefix told.now self.new.learnt }
+        ensures one { (self.new.learnt ≡ self.old.learnt) ⊎ (self.new.learnt ≡ told.now) }
+    {
+        self.told = self.told.longer(told);
+    }
+}
+
+// Shows readers this, whatever operation was left pending.
+fn show<J: Naming, R: Wait>(
+    writer: RuledWriter<J>,
+    rt: &R,
+    shown: Shown,
+) -> (RuledWriter<J>, Result<(), Refusal>)
+    requires { MayFollow J.history (known writer.desk.place) (showing writer.desk.shown.value) (showing shown) }
+    ensures ok { IfOk result.1 (λ _. (showing result.0.desk.shown.value ≡ showing shown) × (known result.0.desk.place ≡ known writer.desk.place ++ publication_in (showing shown).snapshot ∷ [])) }
+    ensures err { IfErr result.1 (λ e. (e ≡ NoMemory) × (result.0.desk.shown.value ≡ writer.desk.shown.value) × (known result.0.desk.place ≡ known writer.desk.place)) }
+{
+    let mut writer = writer;
+    let Ok(()) = writer.append(shown) else {
+        return (writer, Err(Refusal::NoMemory));
+    };
+    match writer.publish_as::<Add, R>(rt) {
+        (writer, Ok(())) => (writer, Ok(())),
+        (writer, Err(_)) => (writer, Err(Refusal::NoMemory)),
+    }
+}
+
+// The same in place.
+fn show_next<J: Naming, R: Wait>(
+    writer: &mut RuledWriter<J>,
+    rt: &R,
+    shown: Shown,
+) -> Result<(), Refusal>
+    requires { MayFollow J.history (known writer.old.desk.place) (showing writer.old.desk.shown.value) (showing shown) }
+    ensures ok { IfOk result (λ _. (showing writer.new.desk.shown.value ≡ showing shown) × (known writer.new.desk.place ≡ known writer.old.desk.place ++ publication_in (showing shown).snapshot ∷ [])) }
+    ensures err { IfErr result (λ e. (e ≡ NoMemory) × (writer.new.desk.shown.value ≡ writer.old.desk.shown.value) × (known writer.new.desk.place ≡ known writer.old.desk.place)) }
+{
+    replace_with(
+        writer,
+        (rt, shown),
+        |writer, (rt, shown)| show(writer, rt, shown),
+    )
+}
+
+// What a publication is made of, before anything changes.
+struct Prepared {
+    sealed: Resolution,
+    shown: Arc<Snapshot>,
+    last: Arc<Snapshot>,
+}
+
+#[tactic(auto, using(crate::proofs::Lasts::sealed_publication, crate::proofs::Following::all_closed))]
+fn prepare(alloc: Global, desk: &Desk, number: u64) -> Result<Prepared, Refusal>
+    requires { HasPrivateNames desk.now.book.objects }
+    ensures tie { IfOk result (λ p. (p.sealed.tie ≡ desk.now.tie) × ((arc_value p.shown).tie ≡ desk.now.tie)) }
+    ensures objects { IfOk result (λ p. p.sealed.book.objects ≡ desk.now.book.objects) }
+    ensures base { IfOk result (λ p. p.sealed.book.base ≡ desk.now.book.base) }
+    ensures closed { IfOk result (λ p. p.sealed.book.closed ≡ desk.now.book.closed ++ desk.now.book.pending ∷ []) }
+    ensures pending { IfOk result (λ p. p.sealed.book.pending ≡ []) }
+    ensures leads { IfOk result (λ p. sealed_of p.sealed.book ≡ p.sealed.book.objects) }
+    ensures publication { IfOk result (λ p. publication_in (arc_value p.shown) ≡ publication_of desk.now.book) }
+    ensures number { IfOk result (λ p. (arc_value p.shown).number ≡ number) }
+    ensures last { IfOk result (λ p. arc_value p.last ≡ arc_value p.shown) }
+    ensures refusal { OnlyNoMemory result }
+{
+    let sealed = desk.sealed()?;
+    let _leads = sealed.book().journal();
+    let snapshot = Snapshot::of(alloc, number, sealed.copy()?);
+    let Ok(shown) = Arc::new(alloc, snapshot) else {
+        return Err(Refusal::NoMemory);
+    };
+    let Ok(last) = Arc::try_clone(&shown) else {
+        return Err(Refusal::NoMemory);
+    };
+    Ok(Prepared {
+        sealed,
+        shown,
+        last,
+    })
+}
+
+/// The one writer. Contracts see its desk's rule for ties and book, and the publications.
+///
+/// It is not `Drop`: end it by `close`.
+pub struct Editor<J: Naming> {
+    alloc: Global,
+    desk: Desk,
+    last: Arc<Snapshot>,
+    attempt: u64,
+    writer: RuledWriter<J>,
+    diary: Diary,
+}
+
+impl<J: Naming> Model for Editor<J> {
+    ghost use Rattle.adr_board.specs.Boards.{Board};
+
+    ghost Value = { Board };
+
+    ghost use Rattle.std.specs.Prelude.{◌≡◌, ◌≤◌};
+    ghost use Rattle.std.specs.Arc.{arc_value};
+    ghost use Rattle.left_right.specs.Sides.{view as known};
+    ghost use Rattle.adr_book.specs.Ledger.{sealed_of};
+    ghost use Rattle.adr_book.specs.Ledger.{sealed_of};
+    ghost use Rattle.adr_diary.specs.History.{HasLast, published_by};
+    ghost use Rattle.adr_snapshot.specs.Types.{HasPrivateNames};
+    ghost use Rattle.adr_board.specs.Rules.{IsLast, showing};
+
+    ghost view = { λ e. record { tie = e.desk.tie; book = e.desk.book; published = known e.writer.desk.place } };
+
+    ghost invariant = { λ e. (arc_value e.last ≡ (showing e.writer.desk.shown.value).snapshot) × IsLast (known e.writer.desk.place) (arc_value e.last) × ((arc_value e.last).book.objects ≡ sealed_of e.desk.book) × ((arc_value e.last).tie ≡ e.desk.tie) × ((arc_value e.last).number ≤ 1000000) × (e.diary.page.book ≡ J.history) × (published_by e.diary.page.log ≡ known e.writer.desk.place) × HasLast e.diary.page.log (arc_value e.last).number e.attempt × HasPrivateNames e.desk.book.objects };
+}
+
+impl<J: Naming> Editor<J> {
+    /// Makes an edit, as the desk's `apply` does. Readers see it once it is published.
+    pub fn apply(&mut self, edit: Edit) -> Result<Receipt, Refusal>
+        ensures answer { Answers (result_map (λ _. made_book self.old.book.objects edit) result) (step_to (full_at self.old.book.base.version) self.old.book.objects edit) }
+        ensures tie { self.new.tie ≡ self.old.tie }
+        ensures base { self.new.book.base ≡ self.old.book.base }
+        ensures objects { OnOk result (step_to (full_at self.old.book.base.version) self.old.book.objects edit ≡ Ok self.new.book.objects) }
+        ensures pending { OnOk result (self.new.book.pending ≡ self.old.book.pending ++ edit ∷ []) }
+        ensures closed { self.new.book.closed ≡ self.old.book.closed }
+        ensures version { IfOk result (λ receipt. receipt.version ≡ self.new.book.objects.version) }
+        ensures touched { IfOk result (λ receipt. receipt.touched ≡ touches self.old.book.objects self.new.book.objects) }
+        ensures published { self.new.published ≡ self.old.published }
+        ensures unchanged { OnErr result (self.new ≡ self.old) }
+    {
+        has_private_names(&edit);
+        names_stay_private();
+        self.desk.apply(edit)
+    }
+
+    /// The desk.
+    pub fn desk(&self) -> &Desk
+        ensures tie { result.now.tie ≡ self.now.tie }
+        ensures book { result.now.book ≡ self.now.book }
+    {
+        &self.desk
+    }
+
+    /// The last publication.
+    pub fn last(&self) -> &Arc<Snapshot>
+        ensures last { IsLast self.now.published (arc_value result.now) }
+        ensures tie { (arc_value result.now).tie ≡ self.now.tie }
+    {
+        &self.last
+    }
+
+    /// All publications so far, for readers to learn. It takes no memory.
+    pub fn tell(&self) -> Told<J>
+        ensures { result ≡ self.now.published }
+    {
+        Told {
+            number: self.last.number(),
+            attempt: self.attempt,
+            page: self.diary.page.again(),
+            of: PhantomData,
+        }
+    }
+    /// Closes the open batch, and shows the desk to readers under the next number, also where nothing is new.
+    ///
+    /// It waits for readers that are just taking a share of the publication before the last. `Full` after 1,000,000
+    /// publications, else `NoMemory`; both leave all as it was. Cost: a copy of the book and its timelines, which shares
+    /// all with the desk.
+    pub fn publish<R: Wait>(&mut self, rt: &R) -> Result<Published, Refusal>
+        ensures board { OnOk result (self.new ≡ with_published self.old) }
+        ensures number { IfOk result (λ p. p.number ≡ length self.old.published) }
+        ensures version { IfOk result (λ p. p.version ≡ self.old.book.objects.version) }
+        ensures most { IfOk result (λ p. p.number ≤ MOST_PUBLICATIONS) }
+        ensures refused { IfErr result (λ e. (e ≡ NoMemory) ⊎ ((e ≡ Full) × (length self.old.published ≡ MOST_PUBLICATIONS + 1))) }
+        ensures unchanged { OnErr result (self.new ≡ self.old) }
+    {
+        let number = self.last.number();
+        if number >= MOST_PUBLICATIONS {
+            return Err(Refusal::Full);
+        }
+        let _leads = self.desk.book().journal();
+        let place = self.diary.attempts;
+        let Some(attempt) = self.diary.begin(self.desk.book()) else {
+            return Err(Refusal::NoMemory);
+        };
+        let prepared = match prepare(self.alloc, &self.desk, number + 1) {
+            Ok(prepared) => prepared,
+            Err(refusal) => {
+                self.diary.end(attempt, self.desk.book(), false);
+                return Err(refusal);
+            }
+        };
+        let Prepared {
+            sealed,
+            shown,
+            last,
+        } = prepared;
+        let shown = Shown {
+            snapshot: shown,
+            attempt: place,
+            page: attempt.page.again(),
+        };
+        match show_next(&mut self.writer, rt, shown) {
+            Ok(()) => {
+                self.diary.end(attempt, self.desk.book(), true);
+                self.desk.go_on_from(sealed);
+                self.last = last;
+                self.attempt = place;
+                Ok(Published {
+                    number: number + 1,
+                    version: self.desk.book().version(),
+                })
+            }
+            Err(refusal) => {
+                self.diary.end(attempt, self.desk.book(), false);
+                Err(refusal)
+            }
+        }
+    }
+
+    /// Counts the accepted edits from the last publication on, lets the closed batches go and answers that publication's
+    /// version. Readers see nothing of it. `NoMemory` leaves all as it was.
+    pub fn condense(&mut self) -> Result<u64, Refusal>
+        ensures version { IfOk result (λ version. version ≡ (last_of self.old.published).book.version) }
+        ensures base { OnOk result (self.new.book.base ≡ (last_of self.old.published).book) }
+        ensures closed { OnOk result (self.new.book.closed ≡ []) }
+        ensures pending { self.new.book.pending ≡ self.old.book.pending }
+        ensures objects { self.new.book.objects ≡ self.old.book.objects }
+        ensures tie { self.new.tie ≡ self.old.tie }
+        ensures published { self.new.published ≡ self.old.published }
+        ensures unchanged { OnErr result (self.new ≡ self.old) }
+        ensures refusal { OnlyNoMemory result }
+    {
+        self.desk.condense(self.last.book())
+    }
+
+    /// Ends the board: a look then answers `NoRuntime`. It waits for readers that are taking a share.
+    pub fn close<R: Wait>(self, rt: &R) {
+        let Editor {
+            alloc: _,
+            desk,
+            last,
+            attempt: _,
+            writer,
+            diary,
+        } = self;
+        drop(desk);
+        drop(last);
+        drop(diary);
+        writer.take(rt);
+    }
+}
+
+/// A board that has not been opened yet. Its history has no name.
+#[derive(Drop)]
+pub struct NewBoard {
+    pub diary: Diary,
+    ghost empty: { diary.page.log ≡ [] },
+}
+
+impl NewBoard {
+    /// A board to be opened.
+    pub fn new() -> NewBoard {
+        NewBoard {
+            diary: Diary::new(),
+        }
+    }
+}
+
+// What a board starts with: publication 0 alone.
+struct Started<J: Naming> {
+    writer: RuledWriter<J>,
+    last: Arc<Snapshot>,
+    attempt: u64,
+    page: Page,
+    diary: Diary,
+}
+
+fn start<J: Naming>(
+    alloc: Global,
+    board: NewBoard,
+    tie: Tie,
+    readers: usize,
+) -> Result<Started<J>, Refusal>
+    requires history { board.diary.page.book ≡ J.history }
+    requires readers { (0 < readers) × (readers ≤ 64) }
+    ensures shown { IfOk result (λ t. arc_value t.last ≡ (showing t.writer.desk.shown.value).snapshot) }
+    ensures number { IfOk result (λ t. (arc_value t.last).number ≡ 0) }
+    ensures publication { IfOk result (λ t. publication_in (arc_value t.last) ≡ opening) }
+    ensures tie { IfOk result (λ t. (arc_value t.last).tie ≡ tie) }
+    ensures known { IfOk result (λ t. known t.writer.desk.place ≡ opening ∷ []) }
+    ensures seen { IfOk result (λ t. seen_by t.page.log ≡ opening ∷ []) }
+    ensures history { IfOk result (λ t. t.diary.page.book ≡ J.history) }
+    ensures says { IfOk result (λ t. published_by t.diary.page.log ≡ opening ∷ []) }
+    ensures last { IfOk result (λ t. HasLast t.diary.page.log 0 t.attempt) }
+{
+    let NewBoard { mut diary } = board;
+    let snapshot = Snapshot::first(alloc, tie)?;
+    snapshot.snapshot_laws();
+    let place = diary.attempts;
+    let Some(attempt) = diary.begin(snapshot.book()) else {
+        return Err(Refusal::NoMemory);
+    };
+    let page = attempt.page.again();
+    let Ok(last) = Arc::new(alloc, snapshot) else {
+        return Err(Refusal::NoMemory);
+    };
+    let Ok(shown) = Arc::try_clone(&last) else {
+        return Err(Refusal::NoMemory);
+    };
+    let Ok(other) = Arc::try_clone(&last) else {
+        return Err(Refusal::NoMemory);
+    };
+    let first = Shown {
+        snapshot: shown,
+        attempt: place,
+        page: page.again(),
+    };
+    let second = Shown {
+        snapshot: other,
+        attempt: place,
+        page: page.again(),
+    };
+    match RuledWriter::<J>::new(alloc, first, second, readers) {
+        Ok(writer) => {
+            diary.end(attempt, last.book(), true);
+            Ok(Started {
+                writer,
+                last,
+                attempt: place,
+                page,
+                diary,
+            })
+        }
+        Err(_) => Err(Refusal::NoMemory),
+    }
+}
+
+fn seat_readers<J: Naming>(
+    alloc: Global,
+    writer: &RuledWriter<J>,
+    told: &Told<J>,
+    page: &Page,
+    readers: usize,
+) -> Result<Vec<Reader<J>>, Refusal>
+    requires told { told.now ≡ opening ∷ [] }
+    requires seen { seen_by page.now.log ≡ opening ∷ [] }
+    ensures count { IfOk result (λ list. vec_len list ≡ readers) }
+    ensures readers { IfOk result (λ list. All (λ r. r ≡ newcomer) list.items) }
+{
+    let mut list = Vec::new(alloc);
+    for _reader in 0..readers {
+        let Ok(raw) = writer.factory().reader() else {
+            return Err(Refusal::NoRuntime);
+        };
+        let reader = Reader {
+            raw,
+            page: page.again(),
+            told: told.again(),
+        };
+        if list.push(reader).is_err() {
+            return Err(Refusal::NoMemory);
+        }
+    }
+    Ok(list)
+}
+
+fn names_in(edits: &[Edit])
+    ensures { ArePrivate (flat_map edit_names edits.now) }
+{
+    for edit in edits {
+        has_private_names(edit);
+    }
+}
+
+// A desk whose batches are all open has private types under names of their own, as its edits have.
+#[tactic(auto, using(crate::proofs::Named::first_batch_private))]
+fn names_of_first_batch(desk: &Desk)
+    requires base { desk.now.book.base ≡ empty }
+    requires closed { desk.now.book.closed ≡ [] }
+    ensures { HasPrivateNames desk.now.book.objects }
+{
+    let journal = desk.book().journal();
+    names_stay_private();
+    names_in(journal.pending());
+}
+
+/// A board, by its editor and its readers.
+pub struct Board;
+
+impl Board {
+    /// A board with publication 0 alone, which is the empty book, an empty desk, and so many readers.
+    /// The handle is there for its way out, where a reader's place is refused.
+    pub fn open<J: Naming, R: Wait>(
+        alloc: Global,
+        rt: &R,
+        board: NewBoard,
+        tie: Tie,
+        readers: usize,
+    ) -> Result<(Editor<J>, Vec<Reader<J>>), Refusal>
+        requires history { board.diary.page.book ≡ J.history }
+        requires readers { (0 < readers) × (readers ≤ 64) }
+        ensures tie { IfOk result (λ b. b.0.tie ≡ tie) }
+        ensures base { IfOk result (λ b. b.0.book.base ≡ empty) }
+        ensures objects { IfOk result (λ b. b.0.book.objects ≡ empty) }
+        ensures closed { IfOk result (λ b. b.0.book.closed ≡ []) }
+        ensures pending { IfOk result (λ b. b.0.book.pending ≡ []) }
+        ensures published { IfOk result (λ b. b.0.published ≡ opening ∷ []) }
+        ensures count { IfOk result (λ b. vec_len b.1 ≡ readers) }
+        ensures newcomers { IfOk result (λ b. All (λ r. r ≡ newcomer) b.1.items) }
+    {
+        Board::over(alloc, rt, board, Desk::new(alloc, tie)?, readers)
+    }
+
+    /// The same with a desk that stays the editor's. Publication 0 is the empty book here too.
+    pub fn over<J: Naming, R: Wait>(
+        alloc: Global,
+        rt: &R,
+        board: NewBoard,
+        desk: Desk,
+        readers: usize,
+    ) -> Result<(Editor<J>, Vec<Reader<J>>), Refusal>
+        requires history { board.diary.page.book ≡ J.history }
+        requires readers { (0 < readers) × (readers ≤ 64) }
+        requires base { desk.book.base ≡ empty }
+        requires closed { desk.book.closed ≡ [] }
+        ensures tie { IfOk result (λ b. b.0.tie ≡ desk.tie) }
+        ensures book { IfOk result (λ b. b.0.book ≡ desk.book) }
+        ensures published { IfOk result (λ b. b.0.published ≡ opening ∷ []) }
+        ensures count { IfOk result (λ b. vec_len b.1 ≡ readers) }
+        ensures newcomers { IfOk result (λ b. All (λ r. r ≡ newcomer) b.1.items) }
+    {
+        names_of_first_batch(&desk);
+        let started = start(alloc, board, desk.tie(), readers)?;
+        let Started {
+            writer,
+            last,
+            attempt,
+            page,
+            diary,
+        } = started;
+        let editor = Editor {
+            alloc,
+            desk,
+            last,
+            attempt,
+            writer,
+            diary,
+        };
+        match seat_readers(alloc, &editor.writer, &editor.tell(), &page, readers) {
+            Ok(list) => Ok((editor, list)),
+            Err(refusal) => {
+                editor.close(rt);
+                Err(refusal)
+            }
+        }
+    }
+}

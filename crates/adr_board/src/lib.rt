@@ -1,0 +1,10 @@
+#![tactic(auto)]
+//! A desk whose publications many threads read while one thread goes on editing.
+
+mod board;
+mod rule;
+mod shown;
+
+pub use adr_desk::{Desk, Receipt};
+pub use board::{Board, Editor, NewBoard, Published, Reader, Told};
+pub use rule::Naming;

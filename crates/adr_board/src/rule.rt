@@ -1,0 +1,62 @@
+//! The rule under which readers and the editor share the last publication.
+use crate::shown::Shown;
+use adr_diary::Publication;
+use crossbeam_utils::rule::{Outcome, Protocol};
+use left_right::reader::Reader;
+use left_right::writer::Writer;
+use std::collections::LinkedList;
+use std::marker::{Brand, PhantomData};
+
+/// Names a board in types: which history its snapshots carry. A call that opens a board picks it, and an editor, its
+/// readers and what it told go together by it.
+pub trait Naming {
+    ghost use Rattle.logbook.specs.Pages.{Book};
+
+    ghost history: { Book };
+}
+
+impl Naming for Brand {
+    ghost history = { record { number = 0; log_name = 0; cells_name = 0 } };
+}
+
+/// What a thread knows: the publications that it has seen. No value of it is made.
+pub type View = LinkedList<Publication>;
+
+/// The rule of the board.
+pub struct OneList<J: Naming> {
+    of: PhantomData<J>,
+}
+
+impl<J: Naming> Protocol<Shown, View> for OneList<J> {
+    ghost use Rattle.std.specs.Prelude.{[], ◌∷◌};
+    ghost use Rattle.adr_model.specs.Machine.{opening};
+    ghost use Rattle.adr_board.specs.Rules.{Keeps};
+
+    ghost holds = { Keeps J.history };
+
+    ghost first = { opening ∷ [] };
+}
+
+/// What a look tells.
+pub struct Look<J: Naming> {
+    of: PhantomData<J>,
+}
+
+impl<J: Naming> Outcome<Shown, View> for Look<J> {
+    ghost use Rattle.adr_board.specs.Rules.{Looks};
+
+    ghost then = { Looks J.history };
+}
+
+/// What a publication tells.
+pub struct Add;
+
+impl Outcome<Shown, View> for Add {
+    ghost use Rattle.adr_board.specs.Rules.{Adds};
+
+    ghost then = { Adds };
+}
+
+pub type RuledReader<J> = Reader<Shown, View, OneList<J>>;
+
+pub type RuledWriter<J> = Writer<Shown, Shown, View, OneList<J>>;

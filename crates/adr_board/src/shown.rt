@@ -1,0 +1,44 @@
+//! What readers are shown, of which `left_right` holds two copies.
+ghost use Rattle.adr_board.specs.Rules.{showing};
+
+use adr_diary::Page;
+use adr_snapshot::Snapshot;
+use left_right::Absorb;
+use std::alloc::AllocError;
+use std::sync::Arc;
+
+/// A share of the last publication's snapshot, with the place of its attempt and the history up to that.
+#[derive(Drop)]
+pub struct Shown {
+    pub snapshot: Arc<Snapshot>,
+    pub attempt: u64,
+    pub page: Page,
+}
+
+/// What a copy shows, whoever shares it. No value of it is made.
+pub struct Showing {
+    pub snapshot: Snapshot,
+    pub attempt: u64,
+    pub page: Page,
+}
+
+/// The one operation: this is shown now.
+impl Absorb<Shown> for Shown {
+    type State = Showing;
+
+    ghost state = { λ s. showing s };
+
+    ghost applied = { λ _ operation. showing operation };
+
+    fn absorb_first(&mut self, operation: &Shown, _other: &Shown) -> Result<(), AllocError> {
+        self.snapshot = Arc::try_clone(&operation.snapshot)?;
+        self.attempt = operation.attempt;
+        self.page = operation.page.again();
+        Ok(())
+    }
+
+    fn absorb_second(&mut self, operation: Shown, _other: &Shown) -> Result<(), Shown> {
+        *self = operation;
+        Ok(())
+    }
+}
