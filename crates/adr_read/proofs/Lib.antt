@@ -9,3 +9,11 @@ pub mod StartLemmas
 pub mod Reading
 pub mod Whole
 pub mod Parts
+pub mod GoodTokens
+pub mod Punctuated
+pub mod Strings
+pub mod Numerals
+pub mod Cuts
+pub mod Shielding
+pub mod SeenTokens
+pub mod Unshielded

@@ -9,7 +9,7 @@ use Rattle.adr_value.specs.Faults.{least, none, IsRefusedFor}
 use Rattle.adr_value.specs.declared.refusal.Refusal.{Refusal}
 use Rattle.adr_value.specs.declared.refusal.Refusal.TheVariants.{NoMemory, NotObject}
 use Rattle.adr_read.specs.declared.element.Context.{Context}
-use Rattle.adr_read.specs.Body.{value_of, object_or}
+use Rattle.adr_read.specs.Body.{object_or}
 use Rattle.adr_read.specs.Looking.{text_of}
 use Rattle.adr_read.specs.Sets.{of_kind, optional, unless}
 use Rattle.adr_read.specs.Values.{text_faults, text_in, equal_faults}
@@ -47,8 +47,8 @@ nothing_left B None empty h = h
 nothing_left B (Some x) empty h = absurd cc
 
 -- what is an object has its members, and what is none is refused
-pub object_told : {M : Type 0} (text : List ℕ) (d : Data) (r : Option M) (A : M → Data → Type 0) → value_of text ≡ Some d
+pub object_told : {M : Type 0} (value : Option Data) (d : Data) (r : Option M) (A : M → Data → Type 0) → value ≡ Some d
     → MatchOption r (as_object d ≡ None) (λ m. (ms : Members) × (d ≡ object ms) × A m d)
-    → MatchResult (ok_or r NotObject) (λ m. (x : Data) × (object_or (value_of text) ≡ Ok x) × A m x) (λ f. (f ≡ NoMemory) ⊎ (object_or (value_of text) ≡ Err f))
-object_told text d None A is none = inr (ap object_or is ∙ ap (λ o. if is_some o then Ok d else Err NotObject) none)
-object_told text d (Some m) A is found = (d, ap object_or is ∙ ap (λ x. if is_some (as_object x) then Ok d else Err NotObject) found.1, found.2)
+    → MatchResult (ok_or r NotObject) (λ m. (x : Data) × (object_or value ≡ Ok x) × A m x) (λ f. (f ≡ NoMemory) ⊎ (object_or value ≡ Err f))
+object_told value d None A is none = inr (ap object_or is ∙ ap (λ o. if is_some o then Ok d else Err NotObject) none)
+object_told value d (Some m) A is found = (d, ap object_or is ∙ ap (λ x. if is_some (as_object x) then Ok d else Err NotObject) found.1, found.2)

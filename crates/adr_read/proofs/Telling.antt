@@ -1,12 +1,12 @@
 -- What a call tells, from what the calls within it tell.
 use Rattle.std.proofs.Common.{◌≡◌, ◌≢◌, ℕ, List, [], ◌∷◌, ◌++◌, ◌||◌, ◌&&◌, Bool, true, false, not, Option, Some, None, Bor, refl, ap, ◌∙◌}
-use Rattle.std.specs.Prelude.{Result, Ok, Err, OnOk, IfErr}
+use Rattle.std.specs.Prelude.{Result, Ok, Err, OnOk, IfErr, if◌then◌else◌}
 use Rattle.std.specs.Str.{bytes_eq}
 use Rattle.std.proofs.lemmas.Slice.Eq.{bytes_eq-Decides}
 use Rattle.json.specs.Token.{Token}
-use Rattle.json.specs.Reads.{token_of}
-use Rattle.json.specs.declared.token.Token as rust
-use Rattle.json.specs.declared.token.Token.TheVariants.{BeginObject, EndObject, BeginArray, EndArray, Key, String, Number, Bool as TruthToken, Null, Bad}
+use Rattle.adr_read.specs.Tokens.{fits, token_of}
+use Rattle.adr_read.specs.declared.tokens.Token as rust
+use Rattle.adr_read.specs.declared.tokens.Token.TheVariants.{BeginObject, EndObject, BeginArray, EndArray, Key, String, Number, Float, Truth as TruthToken, Null, Bad}
 use Rattle.serde_json.specs.Data.{Data, Members, object, put}
 use Rattle.serde_json.specs.Find.{get_member, as_object}
 use Rattle.serde_json.proofs.Views.{get_member-put}
@@ -94,6 +94,18 @@ only_left name (x ∷ xs) ys e has =
 
 -- ---- tokens
 
+number_opens_no_object : (b : Bool) (s : List ℕ) → (if b then Token.string (0 ∷ s) else Token.bad) ≢ Token.begin_object
+number_opens_no_object true s is = absurd cc
+number_opens_no_object false s is = absurd cc
+
+number_opens_no_array : (b : Bool) (s : List ℕ) → (if b then Token.string (0 ∷ s) else Token.bad) ≢ Token.begin_array
+number_opens_no_array true s is = absurd cc
+number_opens_no_array false s is = absurd cc
+
+number_is_not_null : (b : Bool) (s : List ℕ) → token_is_null (if b then Token.string (0 ∷ s) else Token.bad) ≡ false
+number_is_not_null true s = refl
+number_is_not_null false s = refl
+
 pub not_begin_object : (t : rust.Token) → t ≢ BeginObject → token_of t ≢ Token.begin_object
 not_begin_object BeginObject other is = other refl
 not_begin_object EndObject other is = absurd cc
@@ -101,7 +113,8 @@ not_begin_object BeginArray other is = absurd cc
 not_begin_object EndArray other is = absurd cc
 not_begin_object (Key s) other is = absurd cc
 not_begin_object (String s) other is = absurd cc
-not_begin_object (Number s) other is = absurd cc
+not_begin_object (Number s) other is = number_opens_no_object (fits s.now) s.now is
+not_begin_object (Float s) other is = absurd cc
 not_begin_object (TruthToken b) other is = absurd cc
 not_begin_object Null other is = absurd cc
 not_begin_object Bad other is = absurd cc
@@ -113,7 +126,8 @@ not_begin_array BeginArray other is = other refl
 not_begin_array EndArray other is = absurd cc
 not_begin_array (Key s) other is = absurd cc
 not_begin_array (String s) other is = absurd cc
-not_begin_array (Number s) other is = absurd cc
+not_begin_array (Number s) other is = number_opens_no_array (fits s.now) s.now is
+not_begin_array (Float s) other is = absurd cc
 not_begin_array (TruthToken b) other is = absurd cc
 not_begin_array Null other is = absurd cc
 not_begin_array Bad other is = absurd cc
@@ -125,32 +139,35 @@ not_null BeginArray other = refl
 not_null EndArray other = refl
 not_null (Key s) other = refl
 not_null (String s) other = refl
-not_null (Number s) other = refl
+not_null (Number s) other = number_is_not_null (fits s.now) s.now
+not_null (Float s) other = refl
 not_null (TruthToken b) other = refl
 not_null Null other = absurd (other refl)
 not_null Bad other = refl
 
-pub not_string : (t : rust.Token) → ((s : Bor (List ℕ)) → t ≢ String s) → token_str (token_of t) ≡ None
-not_string BeginObject other = refl
-not_string EndObject other = refl
-not_string BeginArray other = refl
-not_string EndArray other = refl
-not_string (Key s) other = refl
-not_string (String s) other = absurd (other s refl)
-not_string (Number s) other = refl
-not_string (TruthToken b) other = refl
-not_string Null other = refl
-not_string Bad other = refl
+pub not_string : (t : rust.Token) → ((s : Bor (List ℕ)) → t ≢ String s) → ((s : Bor (List ℕ)) → t ≢ Number s) → token_str (token_of t) ≡ None
+not_string BeginObject other no_number = refl
+not_string EndObject other no_number = refl
+not_string BeginArray other no_number = refl
+not_string EndArray other no_number = refl
+not_string (Key s) other no_number = refl
+not_string (String s) other no_number = absurd (other s refl)
+not_string (Number s) other no_number = absurd (no_number s refl)
+not_string (Float s) other no_number = refl
+not_string (TruthToken b) other no_number = refl
+not_string Null other no_number = refl
+not_string Bad other no_number = refl
 
 -- what is no text, no truth value and no object is no datum
-pub no_datum : (t : rust.Token) (d : Data) → Begins (token_of t) d → ((s : Bor (List ℕ)) → t ≢ String s) → ((b : Bool) → t ≢ TruthToken b) → as_object d ≡ None → least (datum_faults d) ≡ 11
-no_datum BeginObject d begins no_text no_truth none = let some = ap as_object begins.1 in absurd cc
-no_datum EndObject d begins no_text no_truth none = absurd begins
-no_datum BeginArray d begins no_text no_truth none = rw begins.1 refl
-no_datum EndArray d begins no_text no_truth none = absurd begins
-no_datum (Key s) d begins no_text no_truth none = absurd begins
-no_datum (String s) d begins no_text no_truth none = absurd (no_text s refl)
-no_datum (Number s) d begins no_text no_truth none = rw begins.1 refl
-no_datum (TruthToken b) d begins no_text no_truth none = absurd (no_truth b refl)
-no_datum Null d begins no_text no_truth none = rw begins refl
-no_datum Bad d begins no_text no_truth none = absurd begins
+pub no_datum : (t : rust.Token) (d : Data) → Begins (token_of t) d → ((s : Bor (List ℕ)) → t ≢ String s) → ((b : Bool) → t ≢ TruthToken b) → ((s : Bor (List ℕ)) → t ≢ Number s) → as_object d ≡ None → least (datum_faults d) ≡ 11
+no_datum BeginObject d begins no_text no_truth no_number none = let some = ap as_object begins.1 in absurd cc
+no_datum EndObject d begins no_text no_truth no_number none = absurd begins
+no_datum BeginArray d begins no_text no_truth no_number none = rw begins.1 refl
+no_datum EndArray d begins no_text no_truth no_number none = absurd begins
+no_datum (Key s) d begins no_text no_truth no_number none = absurd begins
+no_datum (String s) d begins no_text no_truth no_number none = absurd (no_text s refl)
+no_datum (Number s) d begins no_text no_truth no_number none = absurd (no_number s refl)
+no_datum (Float s) d begins no_text no_truth no_number none = rw begins.1 refl
+no_datum (TruthToken b) d begins no_text no_truth no_number none = absurd (no_truth b refl)
+no_datum Null d begins no_text no_truth no_number none = rw begins refl
+no_datum Bad d begins no_text no_truth no_number none = absurd begins

@@ -10,3 +10,5 @@ pub mod Names
 pub mod Larger
 pub mod Listed
 pub mod Gathering
+pub mod Tokens
+pub mod Seen

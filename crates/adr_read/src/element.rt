@@ -1,16 +1,15 @@
 //! What it is to be read from a value of a body.
-ghost use Rattle.std.specs.Prelude.{◌≡◌, ◌≢◌, ◌∷◌, List, pos};
-ghost use Rattle.json.specs.Print.{IsPrintable};
-ghost use Rattle.json.specs.Reads.{token_of};
+ghost use Rattle.std.specs.Prelude.{◌≡◌, ◌∷◌, List, pos};
 ghost use Rattle.serde_json.specs.Data.{Data};
 ghost use Rattle.adr_value.specs.Faults.{Gives};
 ghost use Rattle.adr_value.specs.declared.refusal.Refusal.{Refusal};
 ghost use Rattle.adr_read.specs.Coming.{coming, Tells};
+ghost use Rattle.adr_read.specs.Tokens.{token_of, IsSound};
 ghost use Rattle.adr_read.specs.declared.element.Context.{Context};
 
+use crate::tokens::{Token, Tokens};
 use adr_time::Moment;
 use adr_value::Refusal;
-use json::{Reader, Token};
 use std::alloc::Global;
 
 /// Where a value stands.
@@ -49,10 +48,10 @@ pub(crate) trait Read: Sized + Drop {
         alloc: Global,
         context: &Context,
         depth: usize,
-        reader: &mut Reader<'_>,
+        reader: &mut Tokens<'_>,
         token: Token<'_>,
     ) -> Reading<Self>
-        requires printable { token ≢ Token.Bad → IsPrintable (token_of token) }
+        requires sound { IsSound token }
         ensures { Tells (coming depth (token_of token.entry ∷ reader.old)) reader.new
             (λ d r. Gives r (faults d) (stands_for context.now d)) result };
 }

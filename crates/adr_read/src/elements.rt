@@ -1,19 +1,18 @@
 //! The elements of a list, one after the other.
-ghost use Rattle.std.specs.Prelude.{◌≡◌, ◌≢◌, ◌≤◌, ◌∷◌, ◌++◌, [], ℕ, ℤ, pos, List, length, MatchOption, None, Some, OnOk, IfOk, IfErr, IfSome, nat_lt, min, ◌+◌, if◌then◌else◌};
+ghost use Rattle.std.specs.Prelude.{◌≡◌, ◌≤◌, ◌∷◌, ◌++◌, [], ℕ, ℤ, pos, List, length, MatchOption, None, Some, OnOk, IfOk, IfErr, IfSome, nat_lt, min, ◌+◌, if◌then◌else◌};
 ghost use Rattle.json.specs.Json.{items, value, after_end_array};
-ghost use Rattle.json.specs.Print.{IsPrintable};
-ghost use Rattle.json.specs.Reads.{token_of};
 ghost use Rattle.serde_json.specs.Data.{Data, array};
 ghost use Rattle.serde_json.specs.Read.{of_items, converted};
 ghost use Rattle.serde_json.specs.View.{items_of};
 ghost use Rattle.adr_value.specs.Faults.{Gives};
 ghost use Rattle.adr_read.specs.Listed.{AreOf};
 ghost use Rattle.adr_read.specs.Sets.{list_faults, list_in};
+ghost use Rattle.adr_read.specs.Tokens.{token_of, IsSound};
 
 use crate::element::{Context, Read};
+use crate::tokens::{Token, Tokens};
 use adr_time::Moment;
 use adr_value::{BoundedVec, Faults, Refusal};
-use json::{Reader, Token};
 use std::alloc::Global;
 
 /// The elements of a list as far as they were read: their values where none has a fault, else the least fault.
@@ -111,10 +110,10 @@ impl<T: Read, const LIMIT: usize> Elements<T, LIMIT> {
 }
 
 /// The token that the next element begins with, or nothing at the list's end.
-pub(crate) fn next_element<'a>(reader: &mut Reader<'a>) -> Result<Option<Token<'a>>, Refusal>
+pub(crate) fn next_element<'a>(reader: &mut Tokens<'a>) -> Result<Option<Token<'a>>, Refusal>
     ensures found { IfOk result (λ r. MatchOption r (after_end_array reader.old ≡ Some reader.new)
         (λ t. (after_end_array reader.old ≡ None) × (reader.old ≡ token_of t ∷ reader.new))) }
-    ensures printable { IfOk result (λ r. IfSome r (λ t. t ≢ Token.Bad → IsPrintable (token_of t))) }
+    ensures sound { IfOk result (λ r. IfSome r IsSound) }
     ensures bad { IfErr result (λ f. (f ≡ Refusal.BadJson)
         × ((depth n : ℕ) → converted of_items (items (value depth) n reader.old) ≡ None)) }
 {

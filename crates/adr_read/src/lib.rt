@@ -13,6 +13,7 @@ mod period;
 mod read;
 mod skip;
 mod text;
+mod tokens;
 mod values;
 
 pub use read::{limit_laws, read_event, read_program, read_resource, read_ven};

@@ -1,12 +1,11 @@
 //! Lists of values, and the targets and payloads that hold them.
-ghost use Rattle.std.specs.Prelude.{◌≡◌, ◌≢◌, ◌∷◌, ◌++◌, codes, pos, Option, [], unwrap_or};
-ghost use Rattle.json.specs.Print.{IsPrintable};
-ghost use Rattle.json.specs.Reads.{token_of};
+ghost use Rattle.std.specs.Prelude.{◌≡◌, ◌∷◌, ◌++◌, codes, pos, Option, [], unwrap_or};
 ghost use Rattle.serde_json.specs.Data.{Data};
 ghost use Rattle.adr_value.specs.Faults.{Gives};
 ghost use Rattle.adr_read.specs.Coming.{coming, Tells};
 ghost use Rattle.adr_read.specs.Looking.{the, member_at};
 ghost use Rattle.adr_read.specs.Sets.{of_object, required, list_faults, list_in};
+ghost use Rattle.adr_read.specs.Tokens.{token_of, IsSound};
 ghost use Rattle.adr_read.specs.Values.{datum_faults, type_in, map_faults, values_in, target_in, payload_faults, payload_in};
 
 use crate::element::{Context, Read, Reading};
@@ -14,9 +13,9 @@ use crate::elements::{Elements, next_element};
 use crate::members::{Member, read_members};
 use crate::name::MemberName;
 use crate::skip::skip;
+use crate::tokens::{Token, Tokens};
 use adr_object::{Payload, Target};
 use adr_value::{BoundedVec, Datum, Name, PayloadType, Refusal, both};
-use json::{Reader, Token};
 use std::alloc::Global;
 
 type Values = BoundedVec<Datum, 256>;
@@ -30,7 +29,7 @@ impl<T: Read, const LIMIT: usize> Read for BoundedVec<T, LIMIT> {
         alloc: Global,
         context: &Context,
         depth: usize,
-        reader: &mut Reader<'_>,
+        reader: &mut Tokens<'_>,
         token: Token<'_>,
     ) -> Reading<BoundedVec<T, LIMIT>> {
         let Token::BeginArray = token else {
@@ -54,10 +53,10 @@ fn typed_values<K: Read>(
     alloc: Global,
     context: &Context,
     depth: usize,
-    reader: &mut Reader<'_>,
+    reader: &mut Tokens<'_>,
     token: Token<'_>,
 ) -> Reading<(K, Values)>
-    requires printable { token ≢ Token.Bad → IsPrintable (token_of token) }
+    requires sound { IsSound token }
     ensures { Tells (coming depth (token_of token.entry ∷ reader.old)) reader.new (λ d r. Gives r
         (of_object d (required K.faults (member_at (codes "type") d)
         ++ required (list_faults 256 datum_faults) (member_at (codes "values") d)))
@@ -80,7 +79,7 @@ impl Read for Target {
         alloc: Global,
         context: &Context,
         depth: usize,
-        reader: &mut Reader<'_>,
+        reader: &mut Tokens<'_>,
         token: Token<'_>,
     ) -> Reading<Target> {
         match typed_values::<Name>(alloc, context, depth, reader, token)? {
@@ -109,7 +108,7 @@ impl Read for Payload {
         alloc: Global,
         context: &Context,
         depth: usize,
-        reader: &mut Reader<'_>,
+        reader: &mut Tokens<'_>,
         token: Token<'_>,
     ) -> Reading<Payload> {
         Ok(payload_of(typed_values::<PayloadType>(alloc, context, depth, reader, token)?))

@@ -1,8 +1,6 @@
 //! The members of an object, one after the other, each read by its name.
-ghost use Rattle.std.specs.Prelude.{◌≡◌, ◌≢◌, ◌∷◌, ◌++◌, ◌||◌, [], List, ℕ, ℤ, pos, Option, Some, None, false, true, option_map, unwrap_or, MatchOption, OnOk, IfOk, IfErr, IfSome};
+ghost use Rattle.std.specs.Prelude.{◌≡◌, ◌∷◌, ◌++◌, ◌||◌, [], List, ℕ, ℤ, pos, Option, Some, None, false, true, option_map, unwrap_or, MatchOption, OnOk, IfOk, IfErr, IfSome};
 ghost use Rattle.std.specs.Str.{bytes_eq};
-ghost use Rattle.json.specs.Print.{IsPrintable};
-ghost use Rattle.json.specs.Reads.{token_of};
 ghost use Rattle.serde_json.specs.Data.{Data, null, Members as DataMembers, object, no_members, put};
 ghost use Rattle.json.specs.Json.{members, value, read_key};
 ghost use Rattle.serde_json.specs.Find.{as_object};
@@ -12,15 +10,16 @@ ghost use Rattle.adr_read.specs.Coming.{coming, Tells};
 ghost use Rattle.adr_read.specs.Looking.{present, member_at};
 ghost use Rattle.adr_read.specs.Sets.{required, optional};
 ghost use Rattle.adr_read.specs.Names.{member_text};
+ghost use Rattle.adr_read.specs.Tokens.{token_of, IsSound};
 ghost use Rattle.adr_read.specs.Members.{Holds, is_among, are_apart};
 ghost use Rattle.adr_read.specs.declared.element.Context.{Context};
 
 use crate::element::{Context, Read};
 use crate::name::MemberName;
 use crate::skip::skip;
+use crate::tokens::{Token, Tokens};
 use adr_time::Moment;
 use adr_value::Refusal;
-use json::{Reader, Token};
 use std::alloc::Global;
 
 /// A member of an object, known by its name: nothing where it is absent or null, else what its last value is read as.
@@ -69,6 +68,11 @@ pub(crate) trait Members: Sized + Drop {
     /// They are what that object has, in an edit at that moment.
     ghost are_of: { ℤ → Self → Data → Type 0 };
 
+    /// The same members, none of which was met yet.
+    fn anew(&self) -> Self
+        ensures names { names result ≡ names self.now }
+        ensures fresh { (moment : ℤ) → are_of moment result (object no_members) };
+
     /// Whether one of them has that name.
     fn have(&self, name: &str) -> bool
         ensures { result ≡ is_among name.now (names self.now) };
@@ -80,12 +84,12 @@ pub(crate) trait Members: Sized + Drop {
         alloc: Global,
         moment: Moment,
         depth: usize,
-        reader: &mut Reader<'_>,
+        reader: &mut Tokens<'_>,
         name: &str,
         token: Token<'_>,
     ) -> Result<(), Refusal>
         requires apart { are_apart (names self.old) ≡ true }
-        requires printable { token ≢ Token.Bad → IsPrintable (token_of token) }
+        requires sound { IsSound token }
         ensures told { Tells (coming depth (token_of token.entry ∷ reader.old)) reader.new
             (λ d _. (ms : DataMembers) → are_of moment self.old (object ms) → are_of moment self.new (object (put name.now d ms))) result }
         ensures names { names self.new ≡ names self.old };
@@ -100,10 +104,10 @@ fn read_value<T: Read>(
     alloc: Global,
     moment: Moment,
     depth: usize,
-    reader: &mut Reader<'_>,
+    reader: &mut Tokens<'_>,
     token: Token<'_>,
 ) -> Result<Option<Result<T, Refusal>>, Refusal>
-    requires printable { token ≢ Token.Bad → IsPrintable (token_of token) }
+    requires sound { IsSound token }
     ensures { Tells (coming depth (token_of token.entry ∷ reader.old)) reader.new
         (λ d value. Holds T.faults (T.stands_for (record { moment = moment; place = pos 0 })) value (present (Some d))) result }
 {
@@ -120,6 +124,10 @@ impl<T: Read> Members for Member<T> {
 
     ghost are_of = { λ moment x d. Holds T.faults (T.stands_for (record { moment = moment; place = pos 0 })) x.value (member_at (member_text x.name) d) };
 
+    fn anew(&self) -> Member<T> {
+        Member::named(self.name)
+    }
+
     fn have(&self, name: &str) -> bool {
         name == self.name.text()
     }
@@ -129,7 +137,7 @@ impl<T: Read> Members for Member<T> {
         alloc: Global,
         moment: Moment,
         depth: usize,
-        reader: &mut Reader<'_>,
+        reader: &mut Tokens<'_>,
         name: &str,
         token: Token<'_>,
     ) -> Result<(), Refusal> {
@@ -150,6 +158,10 @@ impl<A: Members, B: Members> Members for (A, B) {
 
     ghost are_of = { λ moment x d. A.are_of moment x.0 d × B.are_of moment x.1 d };
 
+    fn anew(&self) -> (A, B) {
+        (self.0.anew(), self.1.anew())
+    }
+
     fn have(&self, name: &str) -> bool {
         self.0.have(name) || self.1.have(name)
     }
@@ -159,7 +171,7 @@ impl<A: Members, B: Members> Members for (A, B) {
         alloc: Global,
         moment: Moment,
         depth: usize,
-        reader: &mut Reader<'_>,
+        reader: &mut Tokens<'_>,
         name: &str,
         token: Token<'_>,
     ) -> Result<(), Refusal> {
@@ -176,10 +188,10 @@ impl<A: Members, B: Members> Members for (A, B) {
 }
 
 /// The name of the next member and the token that its value begins with, or nothing at the object's end.
-fn next_member<'a>(reader: &mut Reader<'a>) -> Result<Option<(&'a str, Token<'a>)>, Refusal>
+fn next_member<'a>(reader: &mut Tokens<'a>) -> Result<Option<(&'a str, Token<'a>)>, Refusal>
     ensures found { IfOk result (λ r. MatchOption r (read_key reader.old ≡ Some (None, reader.new))
         (λ m. read_key reader.old ≡ Some (Some m.0.now, token_of m.1 ∷ reader.new))) }
-    ensures printable { IfOk result (λ r. IfSome r (λ m. m.1 ≢ Token.Bad → IsPrintable (token_of m.1))) }
+    ensures sound { IfOk result (λ r. IfSome r (λ m. IsSound m.1)) }
     ensures bad { IfErr result (λ f. (f ≡ Refusal.BadJson) × ((depth n : ℕ) (found : DataMembers)
         → converted (λ ms. of_members ms found) (members (value depth) n reader.old) ≡ None)) }
 {
@@ -200,11 +212,11 @@ pub(crate) fn read_members<M: Members>(
     alloc: Global,
     moment: Moment,
     depth: usize,
-    reader: &mut Reader<'_>,
+    reader: &mut Tokens<'_>,
     token: Token<'_>,
     mut members: M,
 ) -> Result<Option<M>, Refusal>
-    requires printable { token ≢ Token.Bad → IsPrintable (token_of token) }
+    requires sound { IsSound token }
     requires apart { are_apart (M.names members) ≡ true }
     requires fresh { M.are_of moment members (object no_members) }
     ensures told { Tells (coming depth (token_of token.entry ∷ reader.old)) reader.new

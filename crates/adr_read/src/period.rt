@@ -12,10 +12,10 @@ use crate::element::{Context, Read, Reading};
 use crate::members::{Member, read_members};
 use crate::name::MemberName;
 use crate::text::text_of;
+use crate::tokens::{Token, Tokens};
 use adr_object::{Interval, Payload, Period, Shared};
 use adr_time::{Length, Moment, read_length, read_start};
 use adr_value::{BoundedVec, Refusal, both};
-use json::{Reader, Token};
 use std::alloc::Global;
 
 type Payloads = BoundedVec<Payload, 64>;
@@ -30,7 +30,7 @@ impl Read for Moment {
         alloc: Global,
         context: &Context,
         depth: usize,
-        reader: &mut Reader<'_>,
+        reader: &mut Tokens<'_>,
         token: Token<'_>,
     ) -> Reading<Moment> {
         match text_of(alloc, depth, reader, token)? {
@@ -50,7 +50,7 @@ impl Read for Length {
         alloc: Global,
         _context: &Context,
         depth: usize,
-        reader: &mut Reader<'_>,
+        reader: &mut Tokens<'_>,
         token: Token<'_>,
     ) -> Reading<Length> {
         match text_of(alloc, depth, reader, token)? {
@@ -91,7 +91,7 @@ impl Read for Period {
         alloc: Global,
         context: &Context,
         depth: usize,
-        reader: &mut Reader<'_>,
+        reader: &mut Tokens<'_>,
         token: Token<'_>,
     ) -> Reading<Period> {
         let start = Member::named(MemberName::Start);
@@ -156,7 +156,7 @@ impl Read for Interval {
         alloc: Global,
         context: &Context,
         depth: usize,
-        reader: &mut Reader<'_>,
+        reader: &mut Tokens<'_>,
         token: Token<'_>,
     ) -> Reading<Interval> {
         let id = Member::named(MemberName::Id);

@@ -1,13 +1,14 @@
 //! One value of a body, passed over token by token.
-ghost use Rattle.std.specs.Prelude.{◌≡◌, ◌≢◌, ◌∷◌, None, Some, IfErr, IsSome, OnOk};
-ghost use Rattle.json.specs.Print.{IsNumber, IsPrintable};
-ghost use Rattle.json.specs.Reads.{token_of};
+ghost use Rattle.std.specs.Prelude.{◌≡◌, ◌≢◌, ◌∷◌, true, false, None, Some, IfErr, IsSome, MatchResult, OnOk, ok_or};
+ghost use Rattle.json.specs.Print.{IsNumber};
 ghost use Rattle.serde_json.specs.Data.{Items, Members};
 ghost use Rattle.serde_json.specs.Read.{number_of};
+ghost use Rattle.adr_value.specs.Value.{number_of as decimal_named};
 ghost use Rattle.adr_read.specs.Coming.{coming, Comes, coming_items, coming_members};
+ghost use Rattle.adr_read.specs.Tokens.{fits, token_of, IsSound};
 
-use adr_value::Refusal;
-use json::{Reader, Token};
+use crate::tokens::{Token, Tokens};
+use adr_value::{Decimal, Refusal};
 use serde_json::Value;
 use std::alloc::Global;
 
@@ -16,17 +17,18 @@ use std::alloc::Global;
 pub(crate) fn skip(
     alloc: Global,
     depth: usize,
-    reader: &mut Reader<'_>,
+    reader: &mut Tokens<'_>,
     token: Token<'_>,
 ) -> Result<(), Refusal>
-    requires printable { token ≢ Token.Bad → IsPrintable (token_of token) }
+    requires sound { IsSound token }
     ensures ok { OnOk result (Comes depth (token_of token.entry ∷ reader.old) reader.new) }
     ensures bad { IfErr result (λ f. f ≢ Refusal.NoMemory
         → (f ≡ Refusal.BadJson) × (coming depth (token_of token.entry ∷ reader.old) ≡ None)) }
 {
     match token {
-        Token::String(_) | Token::Bool(_) | Token::Null => Ok(()),
-        Token::Number(text) => check_number(alloc, text),
+        Token::String(_) | Token::Truth(_) | Token::Null => Ok(()),
+        Token::Number(text) => pass_decimal(text),
+        Token::Float(text) => check_number(alloc, text),
         Token::EndObject | Token::EndArray | Token::Key(_) | Token::Bad => Err(Refusal::BadJson),
         Token::BeginArray if depth > 0 => skip_items(alloc, depth - 1, reader),
         Token::BeginObject if depth > 0 => skip_members(alloc, depth - 1, reader),
@@ -36,7 +38,7 @@ pub(crate) fn skip(
 
 /// Passes over the value that comes next.
 #[cycle(skip)]
-fn skip_next(alloc: Global, depth: usize, reader: &mut Reader<'_>) -> Result<(), Refusal>
+fn skip_next(alloc: Global, depth: usize, reader: &mut Tokens<'_>) -> Result<(), Refusal>
     ensures ok { OnOk result (Comes depth reader.old reader.new) }
     ensures bad { IfErr result (λ f. f ≢ Refusal.NoMemory
         → (f ≡ Refusal.BadJson) × (coming depth reader.old ≡ None)) }
@@ -47,7 +49,7 @@ fn skip_next(alloc: Global, depth: usize, reader: &mut Reader<'_>) -> Result<(),
 
 /// Passes over the rest of an array.
 #[cycle(skip)]
-fn skip_items(alloc: Global, depth: usize, reader: &mut Reader<'_>) -> Result<(), Refusal>
+fn skip_items(alloc: Global, depth: usize, reader: &mut Tokens<'_>) -> Result<(), Refusal>
     ensures ok { OnOk result ((ds : Items)
         × (coming_items depth reader.old ≡ Some (ds, reader.new))) }
     ensures bad { IfErr result (λ f. f ≢ Refusal.NoMemory
@@ -61,7 +63,7 @@ fn skip_items(alloc: Global, depth: usize, reader: &mut Reader<'_>) -> Result<()
 
 /// Passes over the rest of an object.
 #[cycle(skip)]
-fn skip_members(alloc: Global, depth: usize, reader: &mut Reader<'_>) -> Result<(), Refusal>
+fn skip_members(alloc: Global, depth: usize, reader: &mut Tokens<'_>) -> Result<(), Refusal>
     ensures ok { OnOk result ((ms : Members)
         × (coming_members depth reader.old ≡ Some (ms, reader.new))) }
     ensures bad { IfErr result (λ f. f ≢ Refusal.NoMemory
@@ -70,6 +72,21 @@ fn skip_members(alloc: Global, depth: usize, reader: &mut Reader<'_>) -> Result<
     'members: while let Some(_) = reader.next_key().or(Err(Refusal::BadJson))? {
         skip_next(alloc, depth, reader)?;
     }
+    Ok(())
+}
+
+/// The decimal of a number of a body. `BadJson` where it has none.
+pub(crate) fn decimal(text: &str) -> Result<Decimal, Refusal>
+    ensures { result ≡ ok_or (decimal_named text.now) Refusal.BadJson }
+{
+    Decimal::read(text).or(Err(Refusal::BadJson))
+}
+
+/// Passes where a number of a body has a decimal.
+fn pass_decimal(text: &str) -> Result<(), Refusal>
+    ensures { MatchResult result (λ _. fits text.now ≡ true) (λ f. (f ≡ Refusal.BadJson) × (fits text.now ≡ false)) }
+{
+    decimal(text)?;
     Ok(())
 }
 

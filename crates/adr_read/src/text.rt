@@ -1,14 +1,14 @@
 //! Texts and numbers of a body, in which a number is a text behind a NUL.
-ghost use Rattle.std.specs.Prelude.{◌≡◌, ◌≢◌, ◌∷◌, option_map};
-ghost use Rattle.json.specs.Print.{IsPrintable};
-ghost use Rattle.json.specs.Reads.{token_of};
+ghost use Rattle.std.specs.Prelude.{◌≡◌, ◌≢◌, ◌∷◌, ℕ, List, option_map};
 ghost use Rattle.serde_json.specs.Find.{as_str};
+ghost use Rattle.std.specs.Borrow.{Bor};
 ghost use Rattle.adr_read.specs.Coming.{coming, Tells};
 ghost use Rattle.adr_read.specs.Looking.{after_nul, text_of, decimal_of};
+ghost use Rattle.adr_read.specs.Tokens.{token_of, IsSound};
 
-use crate::skip::skip;
+use crate::skip::{decimal, skip};
+use crate::tokens::{Token, Tokens};
 use adr_value::{Decimal, Refusal};
-use json::{Reader, Token};
 use std::alloc::Global;
 
 /// What follows a NUL at the front.
@@ -18,14 +18,15 @@ pub(crate) fn after_nul(text: &str) -> Option<&str>
     text.strip_prefix('\0')
 }
 
-/// The text of a value that is a text or a number. Any other value is passed over.
+/// The text of a value that is a text, or a number of a shielded body. Any other value is passed over.
 fn string_of<'a>(
     alloc: Global,
     depth: usize,
-    reader: &mut Reader<'_>,
+    reader: &mut Tokens<'_>,
     token: Token<'a>,
 ) -> Result<Option<&'a str>, Refusal>
-    requires printable { token ≢ Token.Bad → IsPrintable (token_of token) }
+    requires sound { IsSound token }
+    requires other { (s : Bor (List ℕ)) → token ≢ Token.Number s }
     ensures { Tells (coming depth (token_of token.entry ∷ reader.old)) reader.new
         (λ d text. option_map (λ t. t.now) text ≡ as_str d) result }
 {
@@ -40,13 +41,17 @@ fn string_of<'a>(
 pub(crate) fn text_of<'a>(
     alloc: Global,
     depth: usize,
-    reader: &mut Reader<'_>,
+    reader: &mut Tokens<'_>,
     token: Token<'a>,
 ) -> Result<Option<&'a str>, Refusal>
-    requires printable { token ≢ Token.Bad → IsPrintable (token_of token) }
+    requires sound { IsSound token }
     ensures { Tells (coming depth (token_of token.entry ∷ reader.old)) reader.new
         (λ d text. option_map (λ t. t.now) text ≡ text_of d) result }
 {
+    if let Token::Number(number) = token {
+        decimal(number)?;
+        return Ok(None);
+    }
     let Some(text) = string_of(alloc, depth, reader, token)? else {
         return Ok(None);
     };
@@ -60,13 +65,16 @@ pub(crate) fn text_of<'a>(
 pub(crate) fn decimal_of(
     alloc: Global,
     depth: usize,
-    reader: &mut Reader<'_>,
+    reader: &mut Tokens<'_>,
     token: Token<'_>,
 ) -> Result<Option<Decimal>, Refusal>
-    requires printable { token ≢ Token.Bad → IsPrintable (token_of token) }
+    requires sound { IsSound token }
     ensures { Tells (coming depth (token_of token.entry ∷ reader.old)) reader.new
         (λ d number. number ≡ decimal_of d) result }
 {
+    if let Token::Number(number) = token {
+        return Ok(Some(decimal(number)?));
+    }
     let Some(text) = string_of(alloc, depth, reader, token)? else {
         return Ok(None);
     };

@@ -1,6 +1,5 @@
 //! The plain values: texts, names, ids, types, numbers and data.
 ghost use Rattle.std.specs.Prelude.{◌≡◌, ◌∷◌, ◌++◌, Option, Some, None, pos, unsigned_abs, unwrap_or, if◌then◌else◌};
-ghost use Rattle.json.specs.Reads.{token_of};
 ghost use Rattle.serde_json.specs.Data.{Data, null, string};
 ghost use Rattle.adr_value.specs.Faults.{Gives};
 ghost use Rattle.adr_value.specs.declared.datum.Datum.TheVariants.{Point};
@@ -12,10 +11,11 @@ ghost use Rattle.adr_read.specs.Values.{text_faults, name_faults, id_faults, tex
 use crate::element::{Context, Read, Reading};
 use crate::members::{Member, read_members};
 use crate::name::MemberName;
+use crate::skip::decimal;
 use crate::text::{after_nul, decimal_of, text_of};
+use crate::tokens::{Token, Tokens};
 use adr_object::Id;
 use adr_value::{Datum, Decimal, Name, PayloadType, Refusal, Text, both};
-use json::{Reader, Token};
 use std::alloc::Global;
 
 impl Read for Text {
@@ -27,7 +27,7 @@ impl Read for Text {
         alloc: Global,
         _context: &Context,
         depth: usize,
-        reader: &mut Reader<'_>,
+        reader: &mut Tokens<'_>,
         token: Token<'_>,
     ) -> Reading<Text> {
         match text_of(alloc, depth, reader, token)? {
@@ -46,7 +46,7 @@ impl Read for Name {
         alloc: Global,
         _context: &Context,
         depth: usize,
-        reader: &mut Reader<'_>,
+        reader: &mut Tokens<'_>,
         token: Token<'_>,
     ) -> Reading<Name> {
         match text_of(alloc, depth, reader, token)? {
@@ -66,7 +66,7 @@ impl Read for Id {
         alloc: Global,
         _context: &Context,
         depth: usize,
-        reader: &mut Reader<'_>,
+        reader: &mut Tokens<'_>,
         token: Token<'_>,
     ) -> Reading<Id> {
         match text_of(alloc, depth, reader, token)? {
@@ -86,7 +86,7 @@ impl Read for PayloadType {
         alloc: Global,
         _context: &Context,
         depth: usize,
-        reader: &mut Reader<'_>,
+        reader: &mut Tokens<'_>,
         token: Token<'_>,
     ) -> Reading<PayloadType> {
         match text_of(alloc, depth, reader, token)? {
@@ -105,7 +105,7 @@ impl Read for Decimal {
         alloc: Global,
         _context: &Context,
         depth: usize,
-        reader: &mut Reader<'_>,
+        reader: &mut Tokens<'_>,
         token: Token<'_>,
     ) -> Reading<Decimal> {
         match decimal_of(alloc, depth, reader, token)? {
@@ -136,7 +136,7 @@ impl Read for u32 {
         alloc: Global,
         _context: &Context,
         depth: usize,
-        reader: &mut Reader<'_>,
+        reader: &mut Tokens<'_>,
         token: Token<'_>,
     ) -> Reading<u32> {
         let Some(number) = decimal_of(alloc, depth, reader, token)? else {
@@ -167,7 +167,7 @@ impl Read for i64 {
         alloc: Global,
         _context: &Context,
         depth: usize,
-        reader: &mut Reader<'_>,
+        reader: &mut Tokens<'_>,
         token: Token<'_>,
     ) -> Reading<i64> {
         let Some(number) = decimal_of(alloc, depth, reader, token)? else {
@@ -208,12 +208,13 @@ impl Read for Datum {
         alloc: Global,
         context: &Context,
         depth: usize,
-        reader: &mut Reader<'_>,
+        reader: &mut Tokens<'_>,
         token: Token<'_>,
     ) -> Reading<Datum> {
         match token {
-            Token::Bool(truth) => return Ok(Ok(Datum::Truth(truth))),
+            Token::Truth(truth) => return Ok(Ok(Datum::Truth(truth))),
             Token::String(text) => return Ok(text_datum(alloc, text)),
+            Token::Number(number) => return Ok(Ok(Datum::Number(decimal(number)?))),
             _ => {}
         }
         let members = (Member::named(MemberName::X), Member::named(MemberName::Y));

@@ -10,7 +10,7 @@ use Rattle.adr_read.specs.Looking.{member_at}
 use Rattle.adr_read.specs.Sets.{list_in}
 use Rattle.adr_read.specs.Values.{text_in, priority_in}
 use Rattle.adr_read.specs.Periods.{period_in, interval_in}
-use Rattle.adr_read.specs.Objects.{common_faults, own_targets, event_head_faults, event_tail_faults, event_faults, event_faults_by, event_in}
+use Rattle.adr_read.specs.Objects.{common_faults, own_targets, event_head_faults, event_tail_faults, event_faults_by, event_in}
 use Rattle.adr_read.proofs.event.event.Goals as goal
 
 abbrev Head : Type 0

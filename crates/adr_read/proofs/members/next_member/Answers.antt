@@ -5,7 +5,7 @@ use Rattle.adr_read.proofs.Turns.{no_key, nothing_comes}
 use Rattle.adr_read.proofs.members.next_member.Goals as goal
 
 pub returns-in_default-clause-bad : goal.returns-in_default-clause-bad
-returns-in_default-clause-bad c = (refl, λ depth n found. no_key depth n found c.args.reader.now c.in_default.ensures.value)
+returns-in_default-clause-bad c = (refl, λ depth n found. no_key depth n found c.args.reader.now c.in_default.ensures)
 
 pub returns-in-None-clause-bad : goal.returns-in-None-clause-bad
 returns-in-None-clause-bad c =

@@ -2,7 +2,7 @@ use Rattle.std.proofs.Common.{◌≡◌, ◌∷◌, ◌∙◌, ◌-◌, Some, No
 use Rattle.std.proofs.lemmas.Result.{err_from_is_err_and}
 use Rattle.json.specs.Token.{Token}
 use Rattle.json.specs.Json.{parse_map, read_key, value}
-use Rattle.json.specs.Reads.{token_of}
+use Rattle.adr_read.specs.Tokens.{token_of}
 use Rattle.json.proofs.Grammar.{read_key-shorter}
 use Rattle.serde_json.specs.Data.{object, put}
 use Rattle.adr_read.specs.Coming.{coming}

@@ -1,6 +1,6 @@
 use Rattle.std.proofs.Common.{◌≡◌, ◌∷◌, ◌∙◌, ap, false}
 use Rattle.std.specs.Prelude.{is_some}
-use Rattle.json.specs.Reads.{token_of}
+use Rattle.adr_read.specs.Tokens.{token_of}
 use Rattle.serde_json.specs.Data.{null}
 use Rattle.serde_json.specs.Find.{as_null}
 use Rattle.adr_read.specs.Coming.{coming}

@@ -1,7 +1,7 @@
 use Rattle.std.proofs.Common.{◌≡◌, ◌∙◌, [], codes, get_or, ap}
 use Rattle.std.proofs.lemmas.Result.{err_from_is_err_and}
 use Rattle.adr_value.specs.Faults.{judged}
-use Rattle.adr_read.specs.Body.{object_named, event_named, event_named_by}
+use Rattle.adr_read.specs.Body.{object_named, event_named_by}
 use Rattle.adr_read.specs.Names.{member_text}
 use Rattle.adr_read.specs.Objects.{event_faults, event_in}
 use Rattle.adr_read.proofs.Reading.{object_refused, object_answers}

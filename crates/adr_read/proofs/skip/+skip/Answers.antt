@@ -2,8 +2,8 @@ use Rattle.std.proofs.Common.{◌≡◌, ◌⊎◌, inl, inr, ℕ, ◌-◌, ◌�
 use Rattle.std.proofs.lemmas.Result.{on_ok_weaker, err_from_is_err_and}
 use Rattle.json.specs.Token as spec
 use Rattle.json.specs.Json.{parse_map, after_end_array, read_key, value}
-use Rattle.json.specs.Reads.{token_of}
-use Rattle.json.specs.declared.token.Token.{Token}
+use Rattle.adr_read.specs.Tokens.{token_of}
+use Rattle.adr_read.specs.declared.tokens.Token.{Token}
 use Rattle.json.proofs.Grammar.{left, left-parse_map, left_none, left_some, value_is, read_key-shorter, items_end, members_end, members_no_key}
 use Rattle.serde_json.specs.Data.{array, object, item, no_members, put}
 use Rattle.serde_json.specs.Read.{of_json, of_items, of_members, converted}
@@ -11,11 +11,12 @@ use Rattle.adr_value.specs.declared.refusal.Refusal.{Refusal}
 use Rattle.adr_read.specs.Coming.{coming, Comes, coming_items}
 use Rattle.adr_read.proofs.ComingLemmas.{coming-shorter, coming-string, coming-boolean, coming-null, coming-begin_array, coming-begin_object}
 use Rattle.adr_read.proofs.SkipLemmas.{refused, or_refused, if_err, number_comes, number_missing, item_passed, item_refused, member_passed, member_refused}
+use Rattle.adr_read.proofs.SeenTokens.{passed, not_passed}
 use Rattle.adr_read.proofs.skip.+skip.Goals as goal
 
 -- ---- one value
 
-whole : (depth : ℕ) (t : Token) (ts : List spec.Token) → ((s : Bor (List ℕ)) × (t ≡ Token.String s)) ⊎ (((b : Bool) × (t ≡ Token.Bool b)) ⊎ (t ≡ Token.Null)) → Comes depth (token_of t ∷ ts) ts
+whole : (depth : ℕ) (t : Token) (ts : List spec.Token) → ((s : Bor (List ℕ)) × (t ≡ Token.String s)) ⊎ (((b : Bool) × (t ≡ Token.Truth b)) ⊎ (t ≡ Token.Null)) → Comes depth (token_of t ∷ ts) ts
 whole depth t ts (inl (s, e)) = rw e (_, coming-string depth s.now ts)
 whole depth t ts (inr (inl (b, e))) = rw e (_, coming-boolean depth b ts)
 whole depth t ts (inr (inr e)) = rw e (_, coming-null depth ts)
@@ -43,10 +44,16 @@ pub skip-returns-in-BeginArray-2-2-clause-bad : goal.skip-returns-in-BeginArray-
 skip-returns-in-BeginArray-2-2-clause-bad t c _ = (refl, too_deep c.args.depth c.args.token c.args.reader.now c.if-depth-gt0-2.false c.in-BeginArray-2.is)
 
 pub skip-returns-in-Number-clause-ok : goal.skip-returns-in-Number-clause-ok
-skip-returns-in-Number-clause-ok t c = rw c.in-Number.is (on_ok_weaker c.check_number.result (number_comes c.args.depth c.in-Number.text.now c.args.reader.now) c.check_number.ensures.ok)
+skip-returns-in-Number-clause-ok t c = rw c.in-Number.is (passed c.pass_decimal.result c.args.depth c.in-Number.text.now c.args.reader.now c.pass_decimal.ensures)
 
 pub skip-returns-in-Number-clause-bad : goal.skip-returns-in-Number-clause-bad
-skip-returns-in-Number-clause-bad t c = rw c.in-Number.is (if_err c.check_number.result (number_missing c.args.depth c.in-Number.text.now c.args.reader.now) c.check_number.ensures.bad)
+skip-returns-in-Number-clause-bad t c = rw c.in-Number.is (not_passed c.pass_decimal.result c.args.depth c.in-Number.text.now c.args.reader.now c.pass_decimal.ensures)
+
+pub skip-returns-in-Float-clause-ok : goal.skip-returns-in-Float-clause-ok
+skip-returns-in-Float-clause-ok t c = rw c.in-Float.is (on_ok_weaker c.check_number.result (number_comes c.args.depth c.in-Float.text.now c.args.reader.now) c.check_number.ensures.ok)
+
+pub skip-returns-in-Float-clause-bad : goal.skip-returns-in-Float-clause-bad
+skip-returns-in-Float-clause-bad t c = rw c.in-Float.is (if_err c.check_number.result (number_missing c.args.depth c.in-Float.text.now c.args.reader.now) c.check_number.ensures.bad)
 
 pub skip-returns-in-BeginArray-clause-ok : goal.skip-returns-in-BeginArray-clause-ok
 skip-returns-in-BeginArray-clause-ok t c =
@@ -119,7 +126,7 @@ skip_members-members-init t c = record { turns = length c.args.reader.now; held 
 pub skip_members-returns-in_err-or-clause-bad : goal.skip_members-returns-in_err-or-clause-bad
 skip_members-returns-in_err-or-clause-bad t c =
     let l = c.members in
-    let e = or_refused _ c.next_key.result c.in_err-or.field-0.0 c.in_err-or.ensures c.next_key.ensures.value in
+    let e = or_refused _ c.next_key.result c.in_err-or.field-0.0 c.in_err-or.ensures c.next_key.ensures in
     let none = l.invariant.same ∙ ap (converted (λ ms. of_members ms l.invariant.held)) (members_no_key (value c.args.depth) l.invariant.turns l.reader e.1) in
     refused c.from_residual.result (err_from_is_err_and c.from_residual.result c.from_residual.ensures.1) (λ _. (e.0, none))
 

@@ -1,5 +1,5 @@
 use Rattle.std.proofs.Common.{◌∷◌, ◌∙◌, ap, refl, sym}
-use Rattle.json.specs.Reads.{token_of}
+use Rattle.adr_read.specs.Tokens.{token_of}
 use Rattle.serde_json.specs.Data.{string}
 use Rattle.adr_read.specs.Coming.{coming}
 use Rattle.adr_read.proofs.ComingLemmas.{coming-string, coming-as_str}
@@ -13,4 +13,4 @@ returns-in-String c =
 pub returns : goal.returns
 returns c =
     let comes = c.in_ok-skip.ensures.ok in
-    (comes.0, comes.1, sym (coming-as_str c.args.depth (token_of c.args.token) c.args.reader.now c.skip.new.reader comes.0 comes.1 ∙ not_string c.args.token c.in_default.not-String))
+    (comes.0, comes.1, sym (coming-as_str c.args.depth (token_of c.args.token) c.args.reader.now c.skip.new.reader comes.0 comes.1 ∙ not_string c.args.token c.in_default.not-String c.requires.other))

@@ -1,7 +1,7 @@
 use Rattle.std.proofs.Common.{◌∷◌}
 use Rattle.std.specs.Prelude.{pos}
 use Rattle.std.specs.Str.{bytes_eq}
-use Rattle.json.specs.Reads.{token_of}
+use Rattle.adr_read.specs.Tokens.{token_of}
 use Rattle.adr_read.specs.Coming.{coming}
 use Rattle.adr_read.specs.Names.{member_text}
 use Rattle.adr_read.specs.Gathering.{kept}
