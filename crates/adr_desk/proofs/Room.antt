@@ -14,7 +14,7 @@ use Rattle.adr_stretch.specs.declared.grouped.TypeEntries.{TypeEntries}
 use Rattle.adr_stretch.specs.Counted.{entries_in_groups}
 use Rattle.adr_stretch.proofs.Counted.{groups_are_counted}
 use Rattle.adr_group.proofs.Room.{repairs_have_room}
-use Rattle.adr_regroup.proofs.ProgramRoom.{event_fits}
+use Rattle.adr_regroup.proofs.EventCosts.{event_fits}
 use Rattle.adr_desk.specs.Edited.{with_come}
 use Rattle.adr_desk.specs.Room.{AreGroupsOf, EditsHaveRoom}
 

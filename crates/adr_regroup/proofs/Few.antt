@@ -24,7 +24,7 @@ use Rattle.adr_schedule.specs.Seating.{group_at, has_at, Seating}
 use Rattle.adr_regroup.specs.Party.{most_by_event, most_reseated, most_writes, AreSeatedBut, AreWritesAt, IsMostOf}
 use Rattle.adr_regroup.proofs.Placing.{number_at}
 use Rattle.adr_regroup.proofs.Possible.{possible_in}
-use Rattle.adr_regroup.proofs.ProgramRoom.{event_costs, event_fits, most_of_type, type_costs}
+use Rattle.adr_regroup.proofs.EventCosts.{event_costs, event_fits, most_of_type, type_costs}
 
 -- ---- ascending numbers
 

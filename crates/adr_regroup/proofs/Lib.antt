@@ -1,11 +1,11 @@
 pub mod Applying
+pub mod EventCosts
 pub mod Few
 pub mod PartyEdits
 pub mod PartyNumbers
 pub mod PartyWindows
 pub mod Placing
 pub mod Possible
-pub mod ProgramRoom
 pub mod Programs
 pub mod Reseated
 pub mod Turned

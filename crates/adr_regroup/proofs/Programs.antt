@@ -1,8 +1,6 @@
--- Edits of programs: what they leave as it was, and what their turns cost.
+-- Edits of programs: what they leave as it was.
 use Rattle.std.proofs.Common.{◌≡◌, ℕ, zero, suc, ◌+◌, ◌*◌, ◌<◌, ◌≤◌, ◌||◌, Bool, true, false, not, if◌then◌else◌, List, [], ◌∷◌, ◌++◌, length, drop, filter, sum_by, slice_get, Option, Some, None, is_some, refl, ap, ap₂, sym, subst, ◌∙◌, arith, Result, Ok, Err, IsOk, nat_le}
 use Rattle.std.proofs.lemmas.Bool.{not-false}
-use Rattle.std.proofs.lemmas.List.Sums.{sum_by-cons}
-use Rattle.std.proofs.lemmas.Nat.{mul-le}
 use Rattle.std.specs.Option.{option_map_or, option_map, option_and_then}
 use Rattle.std.specs.Str.{bytes_eq}
 use Rattle.adr_value.specs.declared.limits.TheConstants.{MOST_VERSION}
@@ -23,24 +21,17 @@ use Rattle.adr_model.specs.Matching.{applies}
 use Rattle.adr_model.specs.Whole.{IsWhole}
 use Rattle.adr_model.proofs.EditLemmas.{accepted}
 use Rattle.adr_model.proofs.Steps.{no_fault, no_faults_before, no_faults_after}
-use Rattle.adr_audience.specs.Laws.{applying_places}
 use Rattle.adr_audience.proofs.Placed.{found_before, found_beside, none_has}
-use Rattle.adr_lines.specs.declared.indexes.Indexes.{Indexes}
-use Rattle.adr_schedule.specs.Moves.{is_among}
 use Rattle.adr_schedule.specs.Seating.{Seating, AreSeatedFor}
 use Rattle.adr_stretch.specs.Grouped.{written_event}
-use Rattle.adr_regroup.specs.Program.{is_of_program, most_in, most_turned, with_program, ArePartly}
-use Rattle.adr_regroup.proofs.Applying.{applying_count, fewer, scenes}
-use Rattle.adr_regroup.proofs.Turned.{all_turned}
+use Rattle.adr_regroup.specs.Program.{is_of_program}
+use Rattle.adr_regroup.proofs.Applying.{scenes}
 
 -- ---- an event by its parts
 
-pub written_at : (o : Option Written) (x : Event) (n : ℕ) → option_map (λ w. w.event) o ≡ Some x → option_map (λ w. w.written) o ≡ Some n → o ≡ Some (written_event x n)
-written_at None x n e m = absurd (cc)
-written_at (Some w) x n e m =
-    let a : w.event ≡ x = cc in
-    let b : w.written ≡ n = cc in
-    ap₂ (λ (y : Event) (k : ℕ). Some (written_event y k)) a b
+pub event_is : (o : Option Written) (x : Event) → option_map (λ w. w.event) o ≡ Some x → (n : ℕ) × (o ≡ Some (written_event x n))
+event_is None x e = absurd (cc)
+event_is (Some w) x e = let a : w.event ≡ x = cc in (w.written, ap (λ (y : Event). Some (written_event y w.written)) a)
 
 pub apart_of : (a b i j : List ℕ) → a ≡ i → b ≡ j → true ≡ not (bytes_eq a b) → bytes_eq i j ≡ false
 apart_of a b i j e f h = by (bytes_eq i j) (h ∙ ap₂ (λ x y. not (bytes_eq x y)) e f)
@@ -55,64 +46,6 @@ same_of a b i j e f h = by (bytes_eq i j) (h ∙ ap₂ (λ x y. not (bytes_eq x 
     by : (q : Bool) → false ≡ not q → q ≡ true
     by true k = refl
     by false k = absurd (cc)
-
--- ---- what turns cost
-
-pub turn_cost : (indexes : Indexes) (book : Book) (was program : Program) (o : Option Written) (w : Written) (lost gained : List ℕ) → o ≡ Some w → bytes_eq program.id w.event.program_id ≡ true
-    → lost ≡ filter (λ p. not (is_among (applying_places book w.event program) p)) (applying_places book w.event was)
-    → gained ≡ filter (λ p. not (is_among (applying_places book w.event was) p)) (applying_places book w.event program)
-    → length lost * most_in indexes w.event + length gained * most_in indexes w.event ≤ option_map_or (most_turned indexes program.id (length book.resources)) o 0
-turn_cost indexes book was program o w lost gained at own loses gains =
-    subst (λ k. length lost * most_in indexes w.event + length gained * most_in indexes w.event ≤ k) (sym cost)
-    (add_both _ _ _ _
-    (mul-le (length lost) (most_in indexes w.event) (length book.resources) (most_in indexes w.event) few_lost (omega arith))
-    (mul-le (length gained) (most_in indexes w.event) (length book.resources) (most_in indexes w.event) few_gained (omega arith)))
-  where
-    cost : option_map_or (most_turned indexes program.id (length book.resources)) o 0 ≡ length book.resources * most_in indexes w.event + length book.resources * most_in indexes w.event
-    cost =
-        ap (λ x. option_map_or (most_turned indexes program.id (length book.resources)) x 0) at
-        ∙ ap (λ b. if b then length book.resources * most_in indexes w.event + length book.resources * most_in indexes w.event else 0) own
-
-    few_lost : length lost ≤ length book.resources
-    few_lost =
-        subst (λ ps. length ps ≤ length book.resources) (sym loses)
-        (omega (arith, fewer (λ p. not (is_among (applying_places book w.event program) p)) (applying_places book w.event was), applying_count book w.event was))
-
-    few_gained : length gained ≤ length book.resources
-    few_gained =
-        subst (λ ps. length ps ≤ length book.resources) (sym gains)
-        (omega (arith, fewer (λ p. not (is_among (applying_places book w.event was) p)) (applying_places book w.event program), applying_count book w.event program))
-
-    add_both : (a b m n : ℕ) → a ≤ m → b ≤ n → a + b ≤ m + n
-    add_both a b m n h l = omega (arith, h, l)
-
-pub below : (m a b k limit : ℕ) → m + k < limit → a + b ≤ k → m + a + b < limit
-below m a b k limit h l = omega (arith, h, l)
-
-pub no_more : (after m a b k : ℕ) → after ≤ m + a + b → a + b ≤ k → after ≤ m + k
-no_more after m a b k h l = omega (arith, h, l)
-
--- what is left after one more
-pub next_cost : {X : Type 0} (f : X → ℕ) (xs : List X) (p : ℕ) → p < length xs → option_map_or f (slice_get xs p) 0 + sum_by f (drop (p + 1) xs) ≡ sum_by f (drop p xs)
-next_cost f [] p h = absurd (omega arith)
-next_cost f (x ∷ xs) zero h = sym (sum_by-cons f x xs)
-next_cost f (x ∷ xs) (suc p) h = let e : suc p + 1 ≡ suc (p + 1) = omega arith in rw e (next_cost f xs p (omega arith))
-
-none_dropped : {X : Type 0} (xs : List X) → drop 0 xs ≡ xs
-none_dropped [] = refl
-none_dropped (x ∷ xs) = refl
-
-pub start_cost : {X : Type 0} (f : X → ℕ) (xs : List X) (m : ℕ) → m + sum_by f (drop 0 xs) ≤ m + sum_by f xs
-start_cost f xs m = subst (λ ys. m + sum_by f ys ≤ m + sum_by f xs) (sym (none_dropped xs)) (omega arith)
-
-pub below_first : (m first rest left before all limit : ℕ) → first + rest ≡ left → m + left ≤ before + all → before + all < limit → m + first < limit
-below_first m first rest left before all limit e h l = omega (arith, e, h, l)
-
-pub after_first : (after m first rest left before all : ℕ) → first + rest ≡ left → m + left ≤ before + all → after ≤ m + first → after + rest ≤ before + all
-after_first after m first rest left before all e h l = omega (arith, e, h, l)
-
-pub after_failed : (after m first rest left before all : ℕ) → first + rest ≡ left → m + left ≤ before + all → after ≤ m + first → after ≤ before + all
-after_failed after m first rest left before all e h l = omega (arith, e, h, l)
 
 -- ---- a program that comes or goes
 
@@ -164,16 +97,6 @@ program_unnamed old id g =
     let second : List Refusal = fault_if (is_named old program_kind id) InUse in
     let third : List Refusal = fault_if (nat_le MOST_VERSION old.version) Full in
     unnamed_to_go first second third g)
-
-pub change_there : (old : Book) (p : Program) → IsOk (step old (Change (program_object p))) → is_some (program_by old p.id) ≡ true
-change_there old p h = by (step old (Change (program_object p))) refl h
-  where
-    by : (r : Result Book Refusal) → step old (Change (program_object p)) ≡ r → IsOk r → is_some (program_by old p.id) ≡ true
-    by (Ok b) e k = program_there old p (accepted old b (Change (program_object p)) e).0
-    by (Err f) e k = absurd (cc)
-
-pub seated_again : (tie : Tie) (old : Book) (p : Program) (s : Seating) → ArePartly tie old (with_program old p) (length old.events) s → AreSeatedFor tie (made old (Change (program_object p))) s
-seated_again tie old p s h = let a = all_turned tie old p s h in record { count = a.count; right = a.right; writes = a.writes; known = a.known }
 
 pub after_create : (tie : Tie) (old new : Book) (o : Object) (s : Seating) → IsWhole old → is_of_program (Create o) ≡ true → step old (Create o) ≡ Ok new → AreSeatedFor tie old s → AreSeatedFor tie new s
 after_create tie old new (program_object p) s whole t a h = subst (λ (b : Book). AreSeatedFor tie b s) (accepted old new (Create (program_object p)) a).1 (created_seated tie old whole s h p)

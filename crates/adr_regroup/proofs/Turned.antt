@@ -1,8 +1,8 @@
--- The seating while the events of a program turn to other resources.
-use Rattle.std.proofs.Common.{◌≡◌, ℕ, zero, suc, ◌+◌, ◌<◌, ◌==◌, ◌&&◌, ◌⊎◌, inl, inr, Bool, true, false, not, if◌then◌else◌, eqb, List, [], ◌∷◌, length, map, filter, slice_get, Option, Some, None, is_some, refl, ap, sym, subst, ◌∙◌, arith, eqb-true, eq-eqb}
-use Rattle.std.proofs.lemmas.Option.{slice_get_within}
+-- Where the events of a program come and go as it changes.
+use Rattle.std.proofs.Common.{◌≡◌, ℕ, zero, suc, ◌+◌, ◌<◌, ◌≤◌, ◌==◌, ◌&&◌, ◌||◌, ◌⊎◌, inl, inr, Bool, true, false, not, List, [], ◌∷◌, ◌++◌, length, set, get_or, filter, slice_get, Option, Some, None, is_some, refl, ap, sym, subst, ◌∙◌, arith, eqb-true, eq-eqb}
 use Rattle.std.proofs.lemmas.Bool.{both_ways, false_from_ne_true}
-use Rattle.std.specs.List.{IsDistinct}
+use Rattle.std.proofs.lemmas.List.{get_or-set_same, get_or-set_other, length-set}
+use Rattle.std.proofs.lemmas.Option.{slice_get_within}
 use Rattle.std.specs.Option.{option_map_or, option_and_then}
 use Rattle.std.specs.Str.{bytes_eq}
 use Rattle.adr_object.specs.declared.party.Program.{Program}
@@ -13,69 +13,118 @@ use Rattle.adr_model.specs.Book.{Book, program_by, ven_by}
 use Rattle.adr_model.specs.Governor.{applies_to}
 use Rattle.adr_model.specs.Lists.{In}
 use Rattle.adr_model.specs.Matching.{applies}
-use Rattle.adr_model.proofs.Lists.{In_from_each, In-map}
 use Rattle.adr_audience.specs.Laws.{applying_places}
 use Rattle.adr_audience.proofs.Placed.{found_own, found_other}
 use Rattle.adr_schedule.specs.Moves.{is_among}
-use Rattle.adr_schedule.specs.Seating.{has_at, shifted, Seating, AreRight, AreSeatedFor, IsShifted}
-use Rattle.adr_schedule.specs.Shift.{AreSidesOf, HasEntriesOf}
-use Rattle.adr_schedule.specs.declared.change.Side.{Side}
+use Rattle.adr_schedule.specs.Seating.{Seating, AreSeatedFor}
 use Rattle.adr_schedule.proofs.Numbered.{one_or_other}
-use Rattle.adr_regroup.specs.Program.{with_program, ArePartly, IsTurned}
+use Rattle.adr_regroup.specs.Party.{AreSeatedBut}
+use Rattle.adr_regroup.specs.Program.{with_program, AreMarked, AreThoseMarked, IsMarking}
 use Rattle.adr_regroup.proofs.Applying.{among_applying, among_filter, scenes}
-use Rattle.adr_regroup.proofs.Placing.{has_group, has_place}
 
--- ---- what a shift does to the number of an event, and to others
+-- ---- marks
 
-module _ (n : ℕ) where
-  goes : (j was : Bool) → (if j then shifted (Some n) None was n else was) ≡ (if j then false else was)
-  goes true was = rw (eq-eqb n n refl) refl
-  goes false was = refl
+pub no_marking : (marks : List Bool) (places : List ℕ) → IsMarking marks marks places places
+no_marking marks places = record { count = refl; left = λ p h e. (e, refl) }
 
-  comes : (j was : Bool) → (if j then shifted None (Some n) was n else was) ≡ (if j then true else was)
-  comes true was = rw (eq-eqb n n refl) refl
-  comes false was = refl
-
-  module _ (m : ℕ) (apart : (n == m) ≡ false) where
-    goes_by : (j was : Bool) → (if j then shifted (Some n) None was m else was) ≡ was
-    goes_by true was = rw apart refl
-    goes_by false was = refl
-
-    comes_by : (j was : Bool) → (if j then shifted None (Some n) was m else was) ≡ was
-    comes_by true was = rw apart refl
-    comes_by false was = refl
-
-pub turned : (n : ℕ) (lost gained : List ℕ) (s mid after : Seating) → IsShifted (Some n) None lost s mid → IsShifted None (Some n) gained mid after → IsTurned n lost gained s after
-turned n lost gained s mid after first second = record {
-  count = second.count ∙ first.count;
-  own = λ p h.
-      second.writes p n (within p h) ∙ comes n (is_among gained p) (has_at mid p n)
-      ∙ ap (λ b. if is_among gained p then true else b) (first.writes p n h ∙ goes n (is_among lost p) (has_at s p n));
-  others = λ p m h e.
-      second.writes p m (within p h) ∙ comes_by n m e (is_among gained p) (has_at mid p m)
-      ∙ first.writes p m h ∙ goes_by n m e (is_among lost p) (has_at s p m);
-}
+set_by : (marks : List Bool) (place p : ℕ) → p < length marks → get_or (set marks place true) p false ≡ false → (get_or marks p false ≡ false) × ((place == p) ≡ false)
+set_by marks place p h e = by (place == p) refl
   where
-    within : (p : ℕ) → p < length s.seats → p < length mid.seats
-    within p h = subst (λ k. p < k) (sym first.count) h
+    by : (b : Bool) → (place == p) ≡ b → (get_or marks p false ≡ false) × ((place == p) ≡ false)
+    by true q = let s : place ≡ p = eqb-true place p q in
+        absurd (both_ways (get_or (set marks place true) p false) e (subst (λ k. get_or (set marks place true) k false ≡ true) s (get_or-set_same marks place true false (subst (λ k. k < length marks) (sym s) h))))
+    by false q = (sym (get_or-set_other marks place p true false (λ s. both_ways (place == p) q (eq-eqb place p (sym s)))) ∙ e, q)
 
--- nothing turns
-pub unturned : (n : ℕ) (s : Seating) → IsTurned n [] [] s s
-unturned n s = record { count = refl; own = λ p h. refl; others = λ p m h e. refl }
+next_rest : (place p : ℕ) (places rest more : List ℕ) → rest ≡ place ∷ more → (place == p) ≡ false → is_among places p ≡ is_among rest p → is_among places p ≡ is_among more p
+next_rest place p places rest more whole apart e = e ∙ ap (λ ps. is_among ps p) whole ∙ ap (λ b. b || is_among more p) apart
 
-one_side : (a b : Side) → Some a ≡ Some b → a ≡ b
-one_side a b h = cc
+-- the next place is marked
+pub marked_next : (was marks : List Bool) (places rest more : List ℕ) (place : ℕ) → rest ≡ place ∷ more → IsMarking was marks places rest → IsMarking was (set marks place true) places more
+marked_next was marks places rest more place whole h = record {
+  count = length-set marks place true ∙ h.count;
+  left = λ p l e.
+      let s = set_by marks place p (subst (λ n. p < n) (sym h.count) l) e in
+      let q = h.left p l s.0 in
+      (q.0, next_rest place p places rest more whole s.1 q.1);
+}
 
-no_side : (b : Side) → None ≡ Some b → ⊥
-no_side b h = absurd (cc)
+-- it is no place of those that can be marked
+pub passed_next : (was marks : List Bool) (places rest more : List ℕ) (place : ℕ) → rest ≡ place ∷ more → (place < length marks → ⊥) → IsMarking was marks places rest → IsMarking was marks places more
+passed_next was marks places rest more place whole outside h = record {
+  count = h.count;
+  left = λ p l e.
+      let q = h.left p l e in
+      (q.0, next_rest place p places rest more whole (false_from_ne_true (place == p) (λ t. outside (subst (λ k. k < length marks) (sym (eqb-true place p t)) (subst (λ n. p < n) (sym h.count) l)))) q.1);
+}
 
-pub side_gone : (tie : Tie) (events : List Written) (side : Side) → HasEntriesOf tie events side → AreSidesOf tie events (record { gone = Some side; come = None })
-side_gone tie events side h other (inl e) = subst (λ (x : Side). HasEntriesOf tie events x) (one_side side other e) h
-side_gone tie events side h other (inr e) = absurd (no_side other e)
+-- ---- the places that are marked
 
-pub side_come : (tie : Tie) (events : List Written) (side : Side) → HasEntriesOf tie events side → AreSidesOf tie events (record { gone = None; come = Some side })
-side_come tie events side h other (inl e) = absurd (no_side other e)
-side_come tie events side h other (inr e) = subst (λ (x : Side). HasEntriesOf tie events x) (one_side side other e) h
+pub none_marked : (marks : List Bool) → AreThoseMarked marks 0 []
+none_marked marks = record { are = λ p h. absurd (omega (arith, h)); before = λ p h. absurd (cc); few = omega arith }
+
+module _ (marks : List Bool) (place : ℕ) (places : List ℕ) (h : AreThoseMarked marks place places) where
+  at_end : (p : ℕ) → is_among (places ++ place ∷ []) p ≡ (is_among places p || (place == p))
+  at_end p = by places
+    where
+      by : (xs : List ℕ) → is_among (xs ++ place ∷ []) p ≡ (is_among xs p || (place == p))
+      by [] = or_false (place == p)
+        where
+          or_false : (b : Bool) → (b || false) ≡ b
+          or_false true = refl
+          or_false false = refl
+      by (x ∷ xs) = ap (λ b. (x == p) || b) (by xs) ∙ sym (assoc (x == p) (is_among xs p) (place == p))
+        where
+          assoc : (a b c : Bool) → ((a || b) || c) ≡ (a || (b || c))
+          assoc true b c = refl
+          assoc false b c = refl
+
+  not_before : (p : ℕ) → place ≤ p → is_among places p ≡ false
+  not_before p l = false_from_ne_true (is_among places p) (λ t. let b = h.before p t in absurd (omega (arith, b, l)))
+
+  apart_from : (p : ℕ) → (p ≡ place → ⊥) → (place == p) ≡ false
+  apart_from p e = false_from_ne_true (place == p) (λ t. e (sym (eqb-true place p t)))
+
+  pub is_marked : get_or marks place false ≡ true → AreThoseMarked marks (place + 1) (places ++ place ∷ [])
+  is_marked set = record {
+    are = λ p l. at_end p ∙ are p l (one_or_other p place);
+    before = λ p t. before p (sym (at_end p) ∙ t);
+    few = grown;
+  }
+    where
+      are : (p : ℕ) → p < place + 1 → (p ≡ place) ⊎ (p ≡ place → ⊥) → (is_among places p || (place == p)) ≡ get_or marks p false
+      are p l (inl e) =
+          ap (λ b. b || (place == p)) (not_before p (omega (arith, e))) ∙ eq-eqb place p (sym e) ∙ sym set ∙ ap (λ k. get_or marks k false) (sym e)
+      are p l (inr e) =
+          ap (λ b. is_among places p || b) (apart_from p e) ∙ or_none (is_among places p) ∙ h.are p (omega (arith, l, e))
+        where
+          or_none : (b : Bool) → (b || false) ≡ b
+          or_none true = refl
+          or_none false = refl
+
+      before : (p : ℕ) → (is_among places p || (place == p)) ≡ true → p < place + 1
+      before p t = by (is_among places p) refl t
+        where
+          by : (b : Bool) → is_among places p ≡ b → (b || (place == p)) ≡ true → p < place + 1
+          by true e k = let l = h.before p e in omega (arith, l)
+          by false e k = let s : place ≡ p = eqb-true place p k in omega (arith, s)
+
+      long : (xs : List ℕ) → length (xs ++ place ∷ []) ≡ length xs + 1
+      long [] = refl
+      long (x ∷ xs) = let r = long xs in omega (arith, r)
+
+      grown : length (places ++ place ∷ []) ≤ place + 1
+      grown = let n = long places in let f = h.few in omega (arith, n, f)
+
+  pub is_not_marked : get_or marks place false ≡ false → AreThoseMarked marks (place + 1) places
+  is_not_marked unset = record {
+    are = λ p l. are p l (one_or_other p place);
+    before = λ p t. let l = h.before p t in omega (arith, l);
+    few = let f = h.few in omega (arith, f);
+  }
+    where
+      are : (p : ℕ) → p < place + 1 → (p ≡ place) ⊎ (p ≡ place → ⊥) → is_among places p ≡ get_or marks p false
+      are p l (inl e) = not_before p (omega (arith, e)) ∙ sym unset ∙ ap (λ k. get_or marks k false) (sym e)
+      are p l (inr e) = h.are p (omega (arith, l, e))
 
 -- ---- places of a list
 
@@ -84,7 +133,7 @@ In_at [] i x h = absurd (cc)
 In_at (y ∷ ys) zero x h = let e : y ≡ x = cc in inl e
 In_at (y ∷ ys) (suc i) x h = inr (In_at ys i x h)
 
-pub at_In : {X : Type 0} (xs : List X) (x : X) → In x xs → (i : ℕ) × (slice_get xs i ≡ Some x)
+at_In : {X : Type 0} (xs : List X) (x : X) → In x xs → (i : ℕ) × (slice_get xs i ≡ Some x)
 at_In [] x m = absurd m
 at_In {X = X} (y ∷ ys) x (inl e) = (0, ap (λ (z : X). Some z) e)
 at_In (y ∷ ys) x (inr m) = let r = at_In ys x m in (suc r.0, r.1)
@@ -92,132 +141,96 @@ at_In (y ∷ ys) x (inr m) = let r = at_In ys x m in (suc r.0, r.1)
 same_at : (o : Option Written) (w v : Written) → o ≡ Some w → o ≡ Some v → w ≡ v
 same_at o w v a b = cc
 
--- distinct numbers: one number, one place
-pub one_place : (es : List Written) → IsDistinct eqb (map (λ w. w.written) es) → (i j : ℕ) (w v : Written)
-    → slice_get es i ≡ Some w → slice_get es j ≡ Some v → w.written ≡ v.written → i ≡ j
-unfolding IsDistinct
-one_place [] d i j w v a b e = absurd (cc)
-one_place (y ∷ ys) d zero zero w v a b e = refl
-one_place (y ∷ ys) d zero (suc j) w v a b e =
-    let s : y ≡ w = cc in
-    absurd (both_ways (eqb y.written v.written)
-    (In_from_each (λ k. eqb y.written k ≡ false) (map (λ (z : Written). z.written) ys) d.0 v.written (In-map (λ (z : Written). z.written) ys v (In_at ys j v b)))
-    (eq-eqb y.written v.written (ap (λ (z : Written). z.written) s ∙ e)))
-one_place (y ∷ ys) d (suc i) zero w v a b e =
-    let s : y ≡ v = cc in
-    absurd (both_ways (eqb y.written w.written)
-    (In_from_each (λ k. eqb y.written k ≡ false) (map (λ (z : Written). z.written) ys) d.0 w.written (In-map (λ (z : Written). z.written) ys w (In_at ys i w a)))
-    (eq-eqb y.written w.written (ap (λ (z : Written). z.written) s ∙ sym e)))
-one_place (y ∷ ys) d (suc i) (suc j) w v a b e = let r : i ≡ j = one_place ys d.1 i j w v a b e in omega arith
-
 -- ---- one event
 
 -- with the old program a, with the new one b
-turn_is : (a b was gains loses : Bool) → gains ≡ (b && not a) → loses ≡ (a && not b) → was ≡ a → (if gains then true else if loses then false else was) ≡ b
-turn_is a b was gains loses x y z =
-    ap (λ q. if q then true else if loses then false else was) x
-    ∙ ap (λ q. if (b && not a) then true else if q then false else was) y
-    ∙ ap (λ q. if (b && not a) then true else if (a && not b) then false else q) z
-    ∙ by a b
-  where
-    by : (c d : Bool) → (if (d && not c) then true else if (c && not d) then false else c) ≡ d
-    by true true = refl
-    by true false = refl
-    by false true = refl
-    by false false = refl
+stays_is : (a b gains loses : Bool) → gains ≡ (b && not a) → loses ≡ (a && not b) → gains ≡ false → loses ≡ false → b ≡ a
+stays_is true true gains loses x y g l = refl
+stays_is false false gains loses x y g l = refl
+stays_is true false gains loses x y g l = absurd (cc (sym y ∙ l))
+stays_is false true gains loses x y g l = absurd (cc (sym x ∙ g))
 
-module _ (tie : Tie) (old : Book) (program : Program) where
-  pub applies_other : (r : Resource) (w : Written) → bytes_eq program.id w.event.program_id ≡ false → applies_to (with_program old program) r w ≡ applies_to old r w
+module _ (old : Book) (program : Program) where
+  applies_other : (r : Resource) (w : Written) → bytes_eq program.id w.event.program_id ≡ false → applies_to (with_program old program) r w ≡ applies_to old r w
   applies_other r w e =
       ap (λ (o : Option Program). option_map_or applies (option_and_then (scenes w.event r (ven_by old r.ven_id)) o) false)
       (found_other (λ (x : Program). x.id) program w.event.program_id old.programs e)
 
-  pub after_other : (i : ℕ) (s : Seating) (w : Written) → ArePartly tie old (with_program old program) i s → slice_get old.events i ≡ Some w
-      → bytes_eq program.id w.event.program_id ≡ false → ArePartly tie old (with_program old program) (i + 1) s
-  after_other i s w h at apart = record {
+  pub none_turned : (marks : List Bool) → length marks ≡ length old.resources → AreMarked old (with_program old program) 0 marks
+  none_turned marks count = record { count = count; same = λ p i r w a b l e. absurd (omega (arith, l)) }
+
+  module _ (i : ℕ) (w : Written) (at : slice_get old.events i ≡ Some w) where
+    by_place : (marks : List Bool) → AreMarked old (with_program old program) i marks
+        → ((p : ℕ) (r : Resource) → slice_get old.resources p ≡ Some r → get_or marks p false ≡ false → applies_to (with_program old program) r w ≡ applies_to old r w)
+        → AreMarked old (with_program old program) (i + 1) marks
+    by_place marks h own = record { count = h.count; same = λ p k r v a b l e. same p k r v a b l e (one_or_other k i) }
+      where
+        same : (p k : ℕ) (r : Resource) (v : Written) → slice_get old.resources p ≡ Some r → slice_get old.events k ≡ Some v → k < i + 1 → get_or marks p false ≡ false
+            → (k ≡ i) ⊎ (k ≡ i → ⊥) → applies_to (with_program old program) r v ≡ applies_to old r v
+        same p k r v a b l e (inl q) =
+            subst (λ (z : Written). applies_to (with_program old program) r z ≡ applies_to old r z) (same_at (slice_get old.events i) w v at (subst (λ x. slice_get old.events x ≡ Some v) q b)) (own p r a e)
+        same p k r v a b l e (inr q) = h.same p k r v a b (omega (arith, l, q)) e
+
+    pub after_other : (marks : List Bool) → AreMarked old (with_program old program) i marks → bytes_eq program.id w.event.program_id ≡ false → AreMarked old (with_program old program) (i + 1) marks
+    after_other marks h apart = by_place marks h (λ p r a e. applies_other r w apart)
+
+    module _ (was : Program) (there : program_by old program.id ≡ Some was) (own : program.id ≡ w.event.program_id) (lost gained : List ℕ)
+        (loses : lost ≡ filter (λ p. not (is_among (applying_places old w.event program) p)) (applying_places old w.event was))
+        (gains : gained ≡ filter (λ p. not (is_among (applying_places old w.event was) p)) (applying_places old w.event program)) where
+      with_old : program_by old w.event.program_id ≡ Some was
+      with_old = subst (λ id. program_by old id ≡ Some was) own there
+
+      with_new : program_by (with_program old program) w.event.program_id ≡ Some program
+      with_new = subst (λ id. program_by (with_program old program) id ≡ Some program) own (found_own (λ (x : Program). x.id) program old.programs (ap is_some there))
+
+      stays : (p : ℕ) (r : Resource) → slice_get old.resources p ≡ Some r → is_among lost p ≡ false → is_among gained p ≡ false → applies_to (with_program old program) r w ≡ applies_to old r w
+      stays p r a no_loss no_gain =
+          let before : is_among (applying_places old w.event was) p ≡ applies_to old r w = among_applying old w.event was p r w.written with_old a in
+          let later : is_among (applying_places old w.event program) p ≡ applies_to (with_program old program) r w = among_applying (with_program old program) w.event program p r w.written with_new a in
+          sym later
+          ∙ stays_is (is_among (applying_places old w.event was) p) (is_among (applying_places old w.event program) p) (is_among gained p) (is_among lost p)
+          (ap (λ ps. is_among ps p) gains ∙ among_filter (λ q. not (is_among (applying_places old w.event was) q)) (applying_places old w.event program) p)
+          (ap (λ ps. is_among ps p) loses ∙ among_filter (λ q. not (is_among (applying_places old w.event program) q)) (applying_places old w.event was) p)
+          no_gain no_loss
+          ∙ before
+
+      pub after_own : (marks mid after : List Bool) → AreMarked old (with_program old program) i marks → IsMarking marks mid lost [] → IsMarking mid after gained []
+          → AreMarked old (with_program old program) (i + 1) after
+      after_own marks mid after h first second = by_place after kept (λ p r a e.
+          let s = second.left p (inside_mid p r a) e in
+          let f = first.left p (inside p r a) s.0 in
+          stays p r a f.1 s.1)
+        where
+          inside : (p : ℕ) (r : Resource) → slice_get old.resources p ≡ Some r → p < length marks
+          inside p r a = subst (λ k. p < k) (sym h.count) (slice_get_within old.resources p r a)
+
+          inside_mid : (p : ℕ) (r : Resource) → slice_get old.resources p ≡ Some r → p < length mid
+          inside_mid p r a = subst (λ k. p < k) (sym first.count) (inside p r a)
+
+          kept : AreMarked old (with_program old program) i after
+          kept = record {
+            count = second.count ∙ first.count ∙ h.count;
+            same = λ p k r v a b l e. h.same p k r v a b l (first.left p (inside p r a) (second.left p (inside_mid p r a) e).0).0;
+          }
+
+  -- ---- all events
+
+  pub left_to_reseat : (tie : Tie) (marks : List Bool) (places : List ℕ) (s : Seating) → AreMarked old (with_program old program) (length old.events) marks
+      → AreThoseMarked marks (length marks) places → AreSeatedFor tie old s → AreSeatedBut tie (with_program old program) places s
+  left_to_reseat tie marks places s m t h = record {
     count = h.count;
     right = h.right;
-    done = λ p k r v a b lt. done p k r v a b lt (one_or_other k i);
-    left = λ p k r v a b le. h.left p k r v a b (omega (arith, le));
-    known = h.known;
-  }
-    where
-      done : (p k : ℕ) (r : Resource) (v : Written) → slice_get old.resources p ≡ Some r → slice_get old.events k ≡ Some v → k < i + 1
-          → (k ≡ i) ⊎ (k ≡ i → ⊥) → has_at s p v.written ≡ applies_to (with_program old program) r v
-      done p k r v a b lt (inr e) = h.done p k r v a b (omega arith)
-      done p k r v a b lt (inl e) =
-          h.left p k r v a b (omega arith)
-          ∙ sym (applies_other r v (subst (λ (z : Written). bytes_eq program.id z.event.program_id ≡ false) (same_at (slice_get old.events i) w v at (subst (λ x. slice_get old.events x ≡ Some v) e b)) apart))
-
-  module _ (distinct : IsDistinct eqb (map (λ w. w.written) old.events)) (was : Program) (there : program_by old program.id ≡ Some was)
-      (i : ℕ) (s after : Seating) (w : Written) (h : ArePartly tie old (with_program old program) i s) (at : slice_get old.events i ≡ Some w) (own : program.id ≡ w.event.program_id)
-      (lost gained : List ℕ)
-      (loses : lost ≡ filter (λ p. not (is_among (applying_places old w.event program) p)) (applying_places old w.event was))
-      (gains : gained ≡ filter (λ p. not (is_among (applying_places old w.event was) p)) (applying_places old w.event program))
-      (t : IsTurned w.written lost gained s after) (right : AreRight tie old.events after) where
-    inside : (p : ℕ) (r : Resource) → slice_get old.resources p ≡ Some r → p < length s.seats
-    inside p r a = subst (λ k. p < k) (sym h.count) (slice_get_within old.resources p r a)
-
-    -- the numbers of other events stay
-    stays : (p k : ℕ) (r : Resource) (v : Written) → slice_get old.resources p ≡ Some r → slice_get old.events k ≡ Some v → (k ≡ i → ⊥) → has_at after p v.written ≡ has_at s p v.written
-    stays p k r v a b apart =
-        t.others p v.written (inside p r a)
-        (false_from_ne_true (w.written == v.written) (λ e. apart (one_place old.events distinct k i v w b at (sym (eqb-true w.written v.written e)))))
-
-    with_old : program_by old w.event.program_id ≡ Some was
-    with_old = subst (λ id. program_by old id ≡ Some was) own there
-
-    with_new : program_by (with_program old program) w.event.program_id ≡ Some program
-    with_new = subst (λ id. program_by (with_program old program) id ≡ Some program) own (found_own (λ (x : Program). x.id) program old.programs (ap is_some there))
-
-    -- its own is where it applies with the new program
-    turns : (p : ℕ) (r : Resource) → slice_get old.resources p ≡ Some r → has_at after p w.written ≡ applies_to (with_program old program) r w
-    turns p r a =
-        let before : is_among (applying_places old w.event was) p ≡ applies_to old r w = among_applying old w.event was p r w.written with_old a in
-        let later : is_among (applying_places old w.event program) p ≡ applies_to (with_program old program) r w = among_applying (with_program old program) w.event program p r w.written with_new a in
-        t.own p (inside p r a)
-        ∙ turn_is (is_among (applying_places old w.event was) p) (is_among (applying_places old w.event program) p) (has_at s p w.written) (is_among gained p) (is_among lost p)
-        (ap (λ ps. is_among ps p) gains ∙ among_filter (λ q. not (is_among (applying_places old w.event was) q)) (applying_places old w.event program) p)
-        (ap (λ ps. is_among ps p) loses ∙ among_filter (λ q. not (is_among (applying_places old w.event program) q)) (applying_places old w.event was) p)
-        (h.left p i r w a at (omega arith) ∙ sym before)
-        ∙ later
-
-    done : (p k : ℕ) (r : Resource) (v : Written) → slice_get old.resources p ≡ Some r → slice_get old.events k ≡ Some v → k < i + 1
-        → (k ≡ i) ⊎ (k ≡ i → ⊥) → has_at after p v.written ≡ applies_to (with_program old program) r v
-    done p k r v a b lt (inr e) = stays p k r v a b e ∙ h.done p k r v a b (omega arith)
-    done p k r v a b lt (inl e) =
-        subst (λ (z : Written). has_at after p z.written ≡ applies_to (with_program old program) r z) (same_at (slice_get old.events i) w v at (subst (λ x. slice_get old.events x ≡ Some v) e b)) (turns p r a)
-
-    known : (p n : ℕ) → has_at after p n ≡ true → (b : Bool) → (w.written == n) ≡ b → (v : Written) × In v old.events × (v.written ≡ n)
-    known p n e true q = (w, In_at old.events i w at, eqb-true w.written n q)
-    known p n e false q =
-        let g = has_group after p n e in
-        h.known p n (sym (t.others p n (subst (λ k. p < k) t.count (has_place after p g.0 g.1)) q) ∙ e)
-
-    pub after_own : ArePartly tie old (with_program old program) (i + 1) after
-    after_own = record {
-      count = t.count ∙ h.count;
-      right = right;
-      done = λ p k r v a b lt. done p k r v a b lt (one_or_other k i);
-      left = λ p k r v a b le. stays p k r v a b (λ e. absurd (omega (arith, le, e))) ∙ h.left p k r v a b (omega (arith, le));
-      known = λ p n e. known p n e (w.written == n) refl;
-    }
-
-  -- ---- the first and the last
-
-  pub none_yet : (s : Seating) → AreSeatedFor tie old s → ArePartly tie old (with_program old program) 0 s
-  none_yet s h = record {
-    count = h.count;
-    right = h.right;
-    done = λ p i r w a b lt. absurd (omega (arith, lt));
-    left = λ p i r w a b le. h.writes p r w a (In_at old.events i w b);
+    writes = λ p r w a e apart.
+        let q = at_In old.events w e in
+        let inside : p < length marks = subst (λ k. p < k) (sym m.count) (slice_get_within old.resources p r a) in
+        h.writes p r w a e ∙ sym (m.same p q.0 r w a q.1 (slice_get_within old.events q.0 w q.1) (sym (t.are p inside) ∙ apart));
     known = h.known;
   }
 
-  pub all_turned : (s : Seating) → ArePartly tie old (with_program old program) (length old.events) s → AreSeatedFor tie (with_program old program) s
-  all_turned s h = record {
-    count = h.count;
-    right = h.right;
-    writes = λ p r w a m. let q = at_In old.events w m in h.done p q.0 r w a q.1 (slice_get_within old.events q.0 w q.1);
-    known = h.known;
-  }
+  pub inside_book : (marks : List Bool) (places : List ℕ) (n : ℕ) → AreMarked old (with_program old program) n marks
+      → AreThoseMarked marks (length marks) places → (p : ℕ) → is_among places p ≡ true → p < length old.resources
+  inside_book marks places n m t p e = subst (λ k. p < k) m.count (t.before p e)
+
+  pub few_marked : (marks : List Bool) (places : List ℕ) (n : ℕ) → AreMarked old (with_program old program) n marks
+      → AreThoseMarked marks (length marks) places → length places ≤ length old.resources
+  few_marked marks places n m t = subst (λ k. length places ≤ k) m.count t.few

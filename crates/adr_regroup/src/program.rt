@@ -1,34 +1,26 @@
 //! What an edit of a program does to the schedule.
-ghost use Rattle.std.specs.Prelude.{◌≡◌, ◌<◌, ◌≤◌, ◌+◌, ◌*◌, ◌^◌, List, Some, Ok, not, true, filter, is_some, map, length, slice_get, IfOk, IsOk};
-ghost use Rattle.std.specs.Option.{option_map_or};
+ghost use Rattle.std.specs.Prelude.{◌≡◌, ◌<◌, ◌≤◌, ◌+◌, [], ℕ, Some, Ok, not, true, filter, is_some, length, IfOk, OnOk};
 ghost use Rattle.std.specs.List.Sorted.{IsStrictlyIncreasing};
 ghost use Rattle.adr_value.specs.Answer.{OnlyNoMemory};
-ghost use Rattle.adr_value.specs.declared.payload.PayloadType.{PayloadType};
-ghost use Rattle.adr_model.specs.declared.written.Written.{Written};
 ghost use Rattle.adr_model.specs.Book.{program_by};
-ghost use Rattle.adr_model.specs.Edits.{made, step};
+ghost use Rattle.adr_model.specs.Edits.{step};
 ghost use Rattle.adr_object.specs.declared.object.Edit.TheVariants.{Change as change_to};
-ghost use Rattle.adr_model.specs.Governor.{entries_of};
-ghost use Rattle.adr_model.specs.Lists.{In};
-ghost use Rattle.adr_model.specs.Rank.{ranked};
 ghost use Rattle.adr_audience.specs.Keys.{AreKeysOf};
 ghost use Rattle.adr_audience.specs.Laws.{applying_places};
-ghost use Rattle.adr_stretch.specs.Grouped.{entries_under, written_event};
-ghost use Rattle.adr_lines.specs.declared.indexes.Indexes.{Indexes as AnyIndexes};
 ghost use Rattle.adr_lines.specs.Exchange.{IsIndexOf};
 ghost use Rattle.adr_schedule.specs.Moves.{is_among};
-ghost use Rattle.adr_schedule.specs.Seating.{AreRight, AreSeatedFor};
-ghost use Rattle.adr_schedule.specs.Shift.{most_possible, HasEntriesOf};
-ghost use Rattle.adr_regroup.specs.Program.{is_of_program, is_program, most_changed, most_for, most_for_object, most_in, most_turned, with_program, ArePartly, IsTurned};
+ghost use Rattle.adr_schedule.specs.Seating.{AreSeatedFor};
+ghost use Rattle.adr_regroup.specs.Party.{AreSeatedBut};
+ghost use Rattle.adr_regroup.specs.Program.{is_of_program, is_program, with_program, AreMarked, AreThoseMarked, IsMarking};
 
+use crate::reseat::reseated_all;
 use adr_audience::Audiences;
 use adr_book::Book;
-use adr_lines::{Indexes, index_laws};
+use adr_lines::Indexes;
 use adr_model::Tie;
 use adr_object::{Edit, Event, Kind, Object, Program};
 use adr_rule::Meter;
-use adr_schedule::{Change, Schedule, Side};
-use adr_stretch::event_entries;
+use adr_schedule::Schedule;
 use adr_value::Refusal;
 use std::alloc::Global;
 
@@ -103,104 +95,116 @@ fn turn_of(
     })
 }
 
-/// The event that the edit of that number wrote, with its entries.
-fn side(alloc: Global, tie: Tie, event: &Event, written: u64) -> Result<Side, Refusal>
-    ensures written { IfOk result (λ side. side.written ≡ written) }
-    ensures entries { IfOk result (λ side. (k : PayloadType) → entries_under side.entries.items k ≡ map (ranked tie) (entries_of k (written_event event.now written))) }
-    ensures possible { IfOk result (λ side. (indexes : AnyIndexes) → most_possible side.entries.items indexes ≤ most_in indexes event.now) }
-    ensures refusal { OnlyNoMemory result }
+/// Marks the places.
+fn mark(marks: &mut Vec<bool>, places: &[usize])
+    ensures { IsMarking marks.old.items marks.new.items places.now [] }
 {
-    let entries = event_entries(alloc, tie, event, written)?;
-    Ok(Side { written, entries })
-}
-
-/// The event goes from the places that it loses, and comes to those that it gains.
-fn shifted(
-    alloc: Global,
-    indexes: &Indexes,
-    schedule: &Schedule,
-    side: Side,
-    turn: &Turn,
-    meter: &mut Meter,
-) -> Result<Schedule, Refusal>
-    requires room { meter.old + length turn.now.lost.items * most_possible side.entries.items indexes.now + length turn.now.gained.items * most_possible side.entries.items indexes.now < 2 ^ 128 }
-    ensures turned { IfOk result (λ after. IsTurned side.written turn.now.lost.items turn.now.gained.items schedule.now after) }
-    ensures right { IfOk result (λ after. (tie : Tie) (events : List Written) → IsIndexOf tie events indexes.now → HasEntriesOf tie events side → AreRight tie events schedule.now → AreRight tie events after) }
-    ensures compared { meter.new ≤ meter.old + length turn.now.lost.items * most_possible side.entries.items indexes.now + length turn.now.gained.items * most_possible side.entries.items indexes.now }
-    ensures refusal { OnlyNoMemory result }
-{
-    let leaving = Change {
-        gone: Some(side),
-        come: None,
-    };
-    let left = schedule.shifted(alloc, indexes, turn.lost.as_slice(), &leaving, meter)?;
-    let Change { gone, come: _ } = leaving;
-    let entering = Change {
-        gone: None,
-        come: gone,
-    };
-    let after = left.shifted(alloc, indexes, turn.gained.as_slice(), &entering, meter)?;
-    Ok(after)
-}
-
-/// The schedule after the event that the edit of that number wrote has turned to other resources.
-fn turned(
-    alloc: Global,
-    tie: Tie,
-    indexes: &Indexes,
-    schedule: Schedule,
-    event: &Event,
-    written: u64,
-    turn: &Turn,
-    meter: &mut Meter,
-) -> Result<Schedule, Refusal>
-    requires room { meter.old + length turn.now.lost.items * most_in indexes.now event.now + length turn.now.gained.items * most_in indexes.now event.now < 2 ^ 128 }
-    ensures turned { IfOk result (λ after. IsTurned written turn.now.lost.items turn.now.gained.items schedule after) }
-    ensures right { IfOk result (λ after. (events : List Written) → IsIndexOf tie events indexes.now → ((w : Written) → In w events → w.written ≡ written → w ≡ written_event event.now written) → AreRight tie events schedule → AreRight tie events after) }
-    ensures compared { meter.new ≤ meter.old + length turn.now.lost.items * most_in indexes.now event.now + length turn.now.gained.items * most_in indexes.now event.now }
-    ensures refusal { OnlyNoMemory result }
-{
-    if turn.lost.is_empty() && turn.gained.is_empty() {
-        return Ok(schedule);
+    let mut rest = places;
+    'rest: while let Some((place, more)) = rest.split_first() {
+        if *place < marks.len() {
+            marks[*place] = true;
+        }
+        rest = more;
     }
-    let side = side(alloc, tie, event, written)?;
-    let after = shifted(alloc, indexes, &schedule, side, turn, meter)?;
-    Ok(after)
 }
 
-/// The schedule after the event at the place, where it is one of the program, has turned to the new one.
-fn after_event(
+/// Marks the places to which the event at a place comes with the other program, and those from which it goes.
+fn mark_turn(
     alloc: Global,
-    tie: Tie,
-    book: &Book,
+    old: &Book,
     keys: &Audiences,
-    indexes: &Indexes,
-    schedule: Schedule,
     was: &Program,
     program: &Program,
     place: usize,
-    meter: &mut Meter,
-) -> Result<Schedule, Refusal>
-    requires place { place < length book.now.objects.events }
-    requires was { program_by book.now.objects program.now.id ≡ Some was.now }
-    requires keys { AreKeysOf book.now.objects keys.now }
-    requires room { meter.old + option_map_or (most_turned indexes.now program.now.id (length book.now.objects.resources)) (slice_get book.now.objects.events place) 0 < 2 ^ 128 }
-    ensures partly { IfOk result (λ after. IsIndexOf tie book.now.objects.events indexes.now → ArePartly tie book.now.objects (with_program book.now.objects program.now) place schedule → ArePartly tie book.now.objects (with_program book.now.objects program.now) (place + 1) after) }
-    ensures compared { meter.new ≤ meter.old + option_map_or (most_turned indexes.now program.now.id (length book.now.objects.resources)) (slice_get book.now.objects.events place) 0 }
+    marks: &mut Vec<bool>,
+) -> Result<(), Refusal>
+    requires place { place < length old.now.objects.events }
+    requires was { program_by old.now.objects program.now.id ≡ Some was.now }
+    requires keys { AreKeysOf old.now.objects keys.now }
+    ensures marked { OnOk result (AreMarked old.now.objects (with_program old.now.objects program.now) place marks.old.items → AreMarked old.now.objects (with_program old.now.objects program.now) (place + 1) marks.new.items) }
     ensures refusal { OnlyNoMemory result }
 {
-    book.book_laws();
-    let Some(event) = book.event_at(place) else {
-        unreachable!();
-    };
-    let Some(written) = book.written_at(place) else {
+    let Some(event) = old.event_at(place) else {
         unreachable!();
     };
     if program.id.text() != event.program_id.text() {
-        return Ok(schedule);
+        return Ok(());
     }
-    let turn = turn_of(alloc, book, keys, event, was, program)?;
-    let after = turned(alloc, tie, indexes, schedule, event, written, &turn, meter)?;
+    let turn = turn_of(alloc, old, keys, event, was, program)?;
+    mark(marks, turn.lost.as_slice());
+    mark(marks, turn.gained.as_slice());
+    Ok(())
+}
+
+/// Marks of all places, none of which is set.
+fn no_marks(alloc: Global, book: &Book) -> Result<Vec<bool>, Refusal>
+    ensures count { IfOk result (λ marks. length marks.items ≡ length book.now.objects.resources) }
+    ensures refusal { OnlyNoMemory result }
+{
+    let marks = vec![in alloc; false; book.count(Kind::Resource)]?;
+    Ok(marks)
+}
+
+/// Marks of the places to which some event comes with the other program, or from which it goes.
+fn marks_of(
+    alloc: Global,
+    old: &Book,
+    keys: &Audiences,
+    was: &Program,
+    program: &Program,
+) -> Result<Vec<bool>, Refusal>
+    requires was { program_by old.now.objects program.now.id ≡ Some was.now }
+    requires keys { AreKeysOf old.now.objects keys.now }
+    ensures marked { IfOk result (λ marks. AreMarked old.now.objects (with_program old.now.objects program.now) (length old.now.objects.events) marks.items) }
+    ensures refusal { OnlyNoMemory result }
+{
+    let mut marks = no_marks(alloc, old)?;
+    for place in 0..old.count(Kind::Event) {
+        mark_turn(alloc, old, keys, was, program, place, &mut marks)?;
+    }
+    Ok(marks)
+}
+
+/// The places that are marked, in order.
+fn marked(alloc: Global, marks: &[bool]) -> Result<Vec<usize>, Refusal>
+    ensures places { IfOk result (λ places. AreThoseMarked marks.now (length marks.now) places.items) }
+    ensures refusal { OnlyNoMemory result }
+{
+    let mut places = Vec::new(alloc);
+    for place in 0..marks.len() {
+        if marks[place] {
+            places.push(place)?;
+        }
+    }
+    Ok(places)
+}
+
+/// The schedule where each of the places has the writes of the events that apply to its resource, and the keys that tell
+/// them are made anew; with no places it is the same.
+fn reseated(
+    alloc: Global,
+    tie: Tie,
+    new: &Book,
+    indexes: &Indexes,
+    schedule: &Schedule,
+    places: &[usize],
+    meter: &mut Meter,
+) -> Result<Schedule, Refusal>
+    requires places { (p : ℕ) → is_among places.now p ≡ true → p < length new.now.objects.resources }
+    requires few { length places.now ≤ length new.now.objects.resources }
+    requires indexed { IsIndexOf tie new.now.objects.events indexes.now }
+    requires seated { AreSeatedBut tie new.now.objects places.now schedule.now }
+    requires begun { meter.old ≡ 0 }
+    ensures seated { IfOk result (AreSeatedFor tie new.now.objects) }
+    ensures refusal { OnlyNoMemory result }
+{
+    new.book_laws();
+    let same = schedule.copy()?;
+    if places.is_empty() {
+        return Ok(same);
+    }
+    let keys = Audiences::of(alloc, new.objects())?;
+    let after = reseated_all(alloc, tie, new, new, &keys, indexes, same, places, meter)?;
     Ok(after)
 }
 
@@ -208,29 +212,29 @@ fn after_event(
 fn after_change(
     alloc: Global,
     tie: Tie,
-    book: &Book,
+    old: &Book,
+    new: &Book,
     keys: &Audiences,
     indexes: &Indexes,
     schedule: &Schedule,
     program: &Program,
     meter: &mut Meter,
 ) -> Result<Schedule, Refusal>
-    requires there { is_some (program_by book.now.objects program.now.id) ≡ true }
-    requires keys { AreKeysOf book.now.objects keys.now }
-    requires room { meter.old + most_changed indexes.now book.now.objects program.now.id < 2 ^ 128 }
-    ensures partly { IfOk result (λ after. IsIndexOf tie book.now.objects.events indexes.now → AreSeatedFor tie book.now.objects schedule.now → ArePartly tie book.now.objects (with_program book.now.objects program.now) (length book.now.objects.events) after) }
-    ensures compared { meter.new ≤ meter.old + most_changed indexes.now book.now.objects program.now.id }
+    requires there { is_some (program_by old.now.objects program.now.id) ≡ true }
+    requires made { new.now.objects ≡ with_program old.now.objects program.now }
+    requires keys { AreKeysOf old.now.objects keys.now }
+    requires indexed { IsIndexOf tie old.now.objects.events indexes.now }
+    requires seated { AreSeatedFor tie old.now.objects schedule.now }
+    requires begun { meter.old ≡ 0 }
+    ensures seated { IfOk result (AreSeatedFor tie new.now.objects) }
     ensures refusal { OnlyNoMemory result }
 {
-    let Some(was) = book.program(&program.id) else {
+    let Some(was) = old.program(&program.id) else {
         unreachable!();
     };
-    let mut after = schedule.copy()?;
-    for place in 0..book.count(Kind::Event) {
-        after = after_event(
-            alloc, tie, book, keys, indexes, after, was, program, place, meter,
-        )?;
-    }
+    let marks = marks_of(alloc, old, keys, was, program)?;
+    let places = marked(alloc, marks.as_slice())?;
+    let after = reseated(alloc, tie, new, indexes, schedule, places.as_slice(), meter)?;
     Ok(after)
 }
 
@@ -238,7 +242,8 @@ fn after_change(
 fn after_object(
     alloc: Global,
     tie: Tie,
-    book: &Book,
+    old: &Book,
+    new: &Book,
     keys: &Audiences,
     indexes: &Indexes,
     schedule: &Schedule,
@@ -246,62 +251,33 @@ fn after_object(
     meter: &mut Meter,
 ) -> Result<Schedule, Refusal>
     requires program { is_program object.now ≡ true }
-    requires accepted { IsOk (step book.now.objects (change_to object.now)) }
-    requires keys { AreKeysOf book.now.objects keys.now }
-    requires room { meter.old + most_for_object indexes.now book.now.objects object.now < 2 ^ 128 }
-    ensures seated { IfOk result (λ after. IsIndexOf tie book.now.objects.events indexes.now → AreSeatedFor tie book.now.objects schedule.now → AreSeatedFor tie (made book.now.objects (change_to object.now)) after) }
-    ensures compared { meter.new ≤ meter.old + most_for_object indexes.now book.now.objects object.now }
+    requires accepted { step old.now.objects (change_to object.now) ≡ Ok new.now.objects }
+    requires keys { AreKeysOf old.now.objects keys.now }
+    requires indexed { IsIndexOf tie old.now.objects.events indexes.now }
+    requires seated { AreSeatedFor tie old.now.objects schedule.now }
+    requires begun { meter.old ≡ 0 }
+    ensures seated { IfOk result (AreSeatedFor tie new.now.objects) }
     ensures refusal { OnlyNoMemory result }
 {
     match object {
         Object::Program(program) => {
             let program = program.get();
-            let after = after_change(alloc, tie, book, keys, indexes, schedule, program, meter)?;
+            let after = after_change(
+                alloc, tie, old, new, keys, indexes, schedule, program, meter,
+            )?;
             Ok(after)
         }
         _ => unreachable!(),
     }
 }
 
-/// The schedule after an edit of a program, of which a meter has room for the repairs.
-fn reprogrammed(
-    alloc: Global,
-    tie: Tie,
-    old: &Book,
-    new: &Book,
-    keys: &Audiences,
-    indexes: &Indexes,
-    schedule: &Schedule,
-    edit: &Edit,
-    meter: &mut Meter,
-) -> Result<Schedule, Refusal>
-    requires program { is_of_program edit.now ≡ true }
-    requires accepted { step old.now.objects edit.now ≡ Ok new.now.objects }
-    requires keys { AreKeysOf old.now.objects keys.now }
-    requires room { meter.old + most_for indexes.now old.now.objects edit.now < 2 ^ 128 }
-    ensures seated { IfOk result (λ after. IsIndexOf tie old.now.objects.events indexes.now → AreSeatedFor tie old.now.objects schedule.now → AreSeatedFor tie new.now.objects after) }
-    ensures compared { meter.new ≤ meter.old + most_for indexes.now old.now.objects edit.now }
-    ensures refusal { OnlyNoMemory result }
-{
-    old.book_laws();
-    let _ = new;
-    match edit {
-        Edit::Create(_) => Ok(schedule.copy()?),
-        Edit::Change(object) => {
-            let after = after_object(alloc, tie, old, keys, indexes, schedule, object, meter)?;
-            Ok(after)
-        }
-        Edit::Remove(_, _) => Ok(schedule.copy()?),
-    }
-}
-
 /// The schedule after an edit of a program, from the old book to the new one. One that comes or goes is named by no
-/// event. One that changes may have its events apply to other resources: each event goes from the places where it does
-/// not any more, and comes to those where it does only now.
+/// event. One that changes may have its events apply to other resources: each resource to which one of them comes, or
+/// from which it goes, gets the writes of the events that apply to it now: see `Schedule::rewritten`.
 ///
-/// `keys` and `indexes` are those of the old book. Cost: a look at each event; for those of a program that changes, two
-/// queries of the keys, and where the places differ, that of `Schedule::shifted` for those that do. `NoMemory` where
-/// there is no room.
+/// `keys` and `indexes` are those of the old book. Cost: a look at each event, and for those of a program that changes
+/// two queries of the keys; where places differ, the keys of the new book, and for each such place a query of them and
+/// `Schedule::rewritten`. `NoMemory` where there is no room.
 pub fn after_program(
     alloc: Global,
     tie: Tie,
@@ -323,7 +299,12 @@ pub fn after_program(
     ensures refusal { OnlyNoMemory result }
 {
     old.book_laws();
-    index_laws();
-    let after = reprogrammed(alloc, tie, old, new, keys, indexes, schedule, edit, meter)?;
-    Ok(after)
+    match edit {
+        Edit::Create(_) => Ok(schedule.copy()?),
+        Edit::Change(object) => {
+            let after = after_object(alloc, tie, old, new, keys, indexes, schedule, object, meter)?;
+            Ok(after)
+        }
+        Edit::Remove(_, _) => Ok(schedule.copy()?),
+    }
 }

@@ -1,12 +1,21 @@
-use Rattle.std.proofs.Common.{arith}
-use Rattle.adr_regroup.proofs.ProgramRoom.{program_room}
+use Rattle.std.proofs.Common.{◌≡◌, Ok, subst, sym, true}
+use Rattle.adr_object.specs.declared.object.Edit.{Edit}
+use Rattle.adr_model.specs.Edits.{step}
+use Rattle.adr_schedule.specs.Seating.{Seating, AreSeatedFor}
+use Rattle.adr_regroup.specs.Program.{is_of_program}
+use Rattle.adr_regroup.proofs.Programs.{after_create, after_remove}
 use Rattle.adr_regroup.proofs.program.after_program.Goals as goal
 
-pub reprogrammed-requires-clause-room : goal.reprogrammed-requires-clause-room
-reprogrammed-requires-clause-room c =
-    let few = program_room c.args.tie c.args.old.now.objects c.args.edit.now c.args.indexes.now c.book_laws.ensures.within c.requires.indexed (c.index_laws.ensures c.args.tie) in
-    let begun = c.requires.begun in
-    omega (arith, few, begun)
+pub returns-in_ok-copy-in-Create-clause-seated : goal.returns-in_ok-copy-in-Create-clause-seated
+returns-in_ok-copy-in-Create-clause-seated c =
+    subst (λ (s : Seating). AreSeatedFor c.args.tie c.args.new.now.objects s) (sym c.in_ok-copy-in-Create.ensures)
+    (after_create c.args.tie c.args.old.now.objects c.args.new.now.objects c.in-Create.field-0 c.args.schedule.now c.book_laws.ensures.whole
+    (subst (λ (e : Edit). is_of_program e ≡ true) c.in-Create.is c.requires.program)
+    (subst (λ (e : Edit). step c.args.old.now.objects e ≡ Ok c.args.new.now.objects) c.in-Create.is c.requires.accepted) c.requires.seated)
 
-pub returns-clause-seated : goal.returns-clause-seated
-returns-clause-seated c = c.in_ok-after.ensures.seated c.requires.indexed c.requires.seated
+pub returns-in_ok-copy-in-Remove-clause-seated : goal.returns-in_ok-copy-in-Remove-clause-seated
+returns-in_ok-copy-in-Remove-clause-seated c =
+    subst (λ (s : Seating). AreSeatedFor c.args.tie c.args.new.now.objects s) (sym c.in_ok-copy-in-Remove.ensures)
+    (after_remove c.args.tie c.args.old.now.objects c.args.new.now.objects c.in-Remove.field-0 c.in-Remove.field-1 c.args.schedule.now c.book_laws.ensures.whole
+    (subst (λ (e : Edit). is_of_program e ≡ true) c.in-Remove.is c.requires.program)
+    (subst (λ (e : Edit). step c.args.old.now.objects e ≡ Ok c.args.new.now.objects) c.in-Remove.is c.requires.accepted) c.requires.seated)

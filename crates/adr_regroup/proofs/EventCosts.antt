@@ -1,4 +1,4 @@
--- That a meter has room for what an edit of a program changes.
+-- What repair inside the entries of one event compares at most.
 use Rattle.std.proofs.Common.{◌≡◌, ℕ, suc, inl, inr, ◌+◌, ◌*◌, ◌<◌, ◌≤◌, ◌^◌, ◌||◌, Bool, true, false, cond, not, if◌then◌else◌, List, [], ◌∷◌, length, filter, refl, ap, sym, ◌∙◌, arith}
 use Rattle.std.specs.List.{list_any}
 use Rattle.std.specs.Prelude.{sum_by}
@@ -8,15 +8,11 @@ use Rattle.std.proofs.lemmas.Nat.{mul-le}
 use Rattle.adr_value.specs.Limits.{limits}
 use Rattle.adr_value.specs.Payload.{name_of}
 use Rattle.adr_value.specs.Same.{same_type}
-use Rattle.adr_value.specs.declared.limits.TheConstants.{MOST_ENTRIES, MOST_RESOURCES, MOST_VERSION}
+use Rattle.adr_value.specs.declared.limits.TheConstants.{MOST_ENTRIES, MOST_VERSION}
 use Rattle.adr_value.specs.declared.payload.PayloadType.{PayloadType}
 use Rattle.adr_object.specs.declared.event.Event.{Event}
 use Rattle.adr_object.specs.declared.event.Interval.{Interval}
 use Rattle.adr_object.specs.declared.event.Payload.{Payload}
-use Rattle.adr_object.specs.declared.object.Edit.{Edit}
-use Rattle.adr_object.specs.declared.object.Edit.TheVariants.{Create, Change, Remove}
-use Rattle.adr_object.specs.declared.object.Object.{Object}
-use Rattle.adr_object.specs.declared.object.Object.TheVariants.{Program as program, Ven as ven, Resource as resource, Event as event}
 use Rattle.adr_model.specs.declared.entry.Tie.{Tie}
 use Rattle.adr_model.specs.declared.written.Written.{Written}
 use Rattle.adr_model.specs.Book.{Book}
@@ -31,7 +27,7 @@ use Rattle.adr_lines.specs.declared.indexes.Indexes.{Indexes}
 use Rattle.adr_lines.specs.Exchange.{HoldsNoMore, IsIndexOf}
 use Rattle.adr_lines.specs.Indexes.{under}
 use Rattle.adr_group.proofs.Possible.{cost_rises}
-use Rattle.adr_regroup.specs.Program.{most_for, most_for_object, most_in, most_of_all, most_turned, most_under}
+use Rattle.adr_regroup.specs.Program.{most_in, most_under}
 
 -- ---- an interval has no more types than are counted
 
@@ -86,29 +82,6 @@ module _ (indexes : Indexes) (cost : ℕ) (cheap : (k : PayloadType) → most_un
   pub event_costs : (e : Event) → most_in indexes e ≤ entry_count e * cost
   event_costs e = intervals_cost e.intervals
 
-  -- it goes from each of the resources and comes to each
-  turned_costs : (id : List ℕ) (count : ℕ) (w : Written) → most_turned indexes id count w ≤ entry_count w.event * (count * (2 * cost))
-  turned_costs id count w = by (bytes_eq id w.event.program_id)
-    where
-      each : count * most_in indexes w.event ≤ count * (entry_count w.event * cost)
-      each = mul-le count (most_in indexes w.event) count (entry_count w.event * cost) (omega arith) (event_costs w.event)
-
-      twice : (n c m x : ℕ) → x ≤ n * (m * c) → x + x ≤ m * (n * (2 * c))
-      twice n c m x h = omega (arith, h)
-
-      by : (b : Bool) → (if b then (count * most_in indexes w.event + count * most_in indexes w.event) else 0) ≤ entry_count w.event * (count * (2 * cost))
-      by true = twice count cost (entry_count w.event) (count * most_in indexes w.event) each
-      by false = omega arith
-
-  events_cost : (id : List ℕ) (count : ℕ) (events : List Written) → most_of_all indexes id count events ≤ sum_by (λ w. entry_count w.event) events * (count * (2 * cost))
-  events_cost id count [] = omega arith
-  events_cost id count (w ∷ events) =
-      by _ _ (entry_count w.event) (sum_by (λ (v : Written). entry_count v.event) events) _ _ (count * (2 * cost)) (turned_costs id count w) (events_cost id count events)
-      (sum_by-cons (most_turned indexes id count) w events) (sum_by-cons (λ (v : Written). entry_count v.event) w events)
-    where
-      by : (x y a b s c n : ℕ) → x ≤ a * n → y ≤ b * n → s ≡ x + y → c ≡ a + b → s ≤ c * n
-      by x y a b s c n h l left right = rw left (rw right (omega (arith, h, l)))
-
 -- ---- in a book within the limits
 
 -- one of the events has no more entries than all
@@ -130,10 +103,6 @@ event_fits book within w m = let one = one_fits book.events w m in let all = wit
 abbrev pub most_of_type : ℕ
 most_of_type = MOST_ENTRIES * (2 * MOST_ENTRIES + 1)
 
--- 2 ^ 18 entries and 2 ^ 14 resources
-most_by_limits : MOST_ENTRIES * (MOST_RESOURCES * (2 * most_of_type)) < 2 ^ 127
-most_by_limits = omega arith
-
 module _ (tie : Tie) (book : Book) (indexes : Indexes) (within : IsWithin limits MOST_VERSION book) (indexed : IsIndexOf tie book.events indexes) (holds : HoldsNoMore tie) where
   pub type_costs : (k : PayloadType) → most_under indexes k ≤ most_of_type
   type_costs k =
@@ -141,24 +110,3 @@ module _ (tie : Tie) (book : Book) (indexes : Indexes) (within : IsWithin limits
       let own = entries_are_counted book.events k in
       let all = within.entries in
       cost_rises (length (under indexes k)) MOST_ENTRIES (omega (arith, held, own, all))
-
-  program_costs : (id : List ℕ) → most_of_all indexes id (length book.resources) book.events < 2 ^ 127
-  program_costs id =
-      let one = mul-le (length book.resources) (2 * most_of_type) MOST_RESOURCES (2 * most_of_type) within.resources (omega arith) in
-      let both = mul-le (entries_in_all book) (length book.resources * (2 * most_of_type)) MOST_ENTRIES (MOST_RESOURCES * (2 * most_of_type)) within.entries one in
-      below _ _ _ _ (events_cost indexes most_of_type type_costs id (length book.resources) book.events) both most_by_limits
-    where
-      below : (a b c d : ℕ) → a ≤ b → b ≤ c → c < d → a < d
-      below a b c d h l r = omega (arith, h, l, r)
-
-  object_costs : (o : Object) → most_for_object indexes book o < 2 ^ 127
-  object_costs (program p) = program_costs p.id
-  object_costs (ven v) = omega arith
-  object_costs (resource r) = omega arith
-  object_costs (event e) = omega arith
-
-pub program_room : (tie : Tie) (book : Book) (edit : Edit) (indexes : Indexes)
-    → IsWithin limits MOST_VERSION book → IsIndexOf tie book.events indexes → HoldsNoMore tie → most_for indexes book edit < 2 ^ 127
-program_room tie book (Create o) indexes within indexed holds = omega arith
-program_room tie book (Change o) indexes within indexed holds = object_costs tie book indexes within indexed holds o
-program_room tie book (Remove kind id) indexes within indexed holds = omega arith
