@@ -345,6 +345,7 @@ impl<J: Naming> Editor<J> {
     /// The last publication.
     pub fn last(&self) -> &Arc<Snapshot>
         ensures last { IsLast self.now.published (arc_value result.now) }
+        ensures objects { (arc_value result.now).book.objects ≡ (last_of self.now.published).book }
         ensures tie { (arc_value result.now).tie ≡ self.now.tie }
     {
         &self.last

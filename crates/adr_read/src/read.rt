@@ -2,8 +2,8 @@
 //!
 //! A body is one JSON object (RFC 8259). An unknown member is ignored, a null one is absent, and of two members of one
 //! name the last counts. Numbers go by their exact value. Every part is looked at, so what is refused is refused with the
-//! least of the body's faults; `NoMemory` may come in place of any answer. Each byte is read once, token by token; the
-//! memory is that of the shielded text, of as many bytes again, and of the object itself.
+//! least of the body's faults; `NoMemory` may come in place of any answer. A body is read once, token by token, in memory
+//! of its length beside the object's; where something is wrong also in that of the shielded text, and of as much again.
 ghost use Rattle.adr_value.specs.Answer.{Answers};
 ghost use Rattle.adr_read.specs.Body.{program_named, ven_named, resource_named, event_named};
 ghost use Rattle.adr_read.specs.Larger.{LargerLimitsReadTheSame};
