@@ -3,3 +3,8 @@ pub mod Steps
 pub mod Sights
 pub mod Following
 pub mod Named
+pub mod Opened
+pub mod Reached
+pub mod Runs
+pub mod Settled
+pub mod Taken

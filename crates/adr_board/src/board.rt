@@ -19,7 +19,7 @@ ghost use Rattle.adr_board.specs.Rules.{IsCarried, IsLast, IsSight, MayFollow, p
 
 use crate::rule::{Add, Look, Naming, RuledReader, RuledWriter};
 use crate::shown::Shown;
-use adr_book::Book;
+use adr_book::{Book, SharedList};
 use adr_desk::{Desk, Receipt};
 use adr_diary::{Diary, Page};
 use adr_model::Tie;
@@ -494,6 +494,7 @@ fn start<J: Naming>(
     ensures history { IfOk result (λ t. t.diary.page.book ≡ J.history) }
     ensures says { IfOk result (λ t. published_by t.diary.page.log ≡ opening ∷ []) }
     ensures last { IfOk result (λ t. HasLast t.diary.page.log 0 t.attempt) }
+    ensures refusal { OnlyNoMemory result }
 {
     let NewBoard { mut diary } = board;
     let snapshot = Snapshot::first(alloc, tie)?;
@@ -548,6 +549,7 @@ fn seat_readers<J: Naming>(
     requires seen { seen_by page.now.log ≡ opening ∷ [] }
     ensures count { IfOk result (λ list. vec_len list ≡ readers) }
     ensures readers { IfOk result (λ list. All (λ r. r ≡ newcomer) list.items) }
+    ensures refused { IfErr result (λ e. (e ≡ NoMemory) ⊎ (e ≡ NoRuntime)) }
 {
     let mut list = Vec::new(alloc);
     for _reader in 0..readers {
@@ -566,10 +568,13 @@ fn seat_readers<J: Naming>(
     Ok(list)
 }
 
-fn names_in(edits: &[Edit])
+fn names_in(edits: &SharedList<Edit>)
     ensures { ArePrivate (flat_map edit_names edits.now) }
 {
-    for edit in edits {
+    for place in 0..edits.len() {
+        let Some(edit) = edits.at(place) else {
+            unreachable!();
+        };
         has_private_names(edit);
     }
 }
@@ -591,7 +596,8 @@ pub struct Board;
 
 impl Board {
     /// A board with publication 0 alone, which is the empty book, an empty desk, and so many readers.
-    /// The handle is there for its way out, where a reader's place is refused.
+    ///
+    /// `NoRuntime` where a reader's place is refused, for which way out the handle is there; else `NoMemory`.
     pub fn open<J: Naming, R: Wait>(
         alloc: Global,
         rt: &R,
@@ -609,11 +615,12 @@ impl Board {
         ensures published { IfOk result (λ b. b.0.published ≡ opening ∷ []) }
         ensures count { IfOk result (λ b. vec_len b.1 ≡ readers) }
         ensures newcomers { IfOk result (λ b. All (λ r. r ≡ newcomer) b.1.items) }
+        ensures refused { IfErr result (λ e. (e ≡ NoMemory) ⊎ (e ≡ NoRuntime)) }
     {
         Board::over(alloc, rt, board, Desk::new(alloc, tie)?, readers)
     }
 
-    /// The same with a desk that stays the editor's. Publication 0 is the empty book here too.
+    /// The same with a desk that stays the editor's, and the same refusals. Publication 0 is the empty book here too.
     pub fn over<J: Naming, R: Wait>(
         alloc: Global,
         rt: &R,
@@ -630,6 +637,7 @@ impl Board {
         ensures published { IfOk result (λ b. b.0.published ≡ opening ∷ []) }
         ensures count { IfOk result (λ b. vec_len b.1 ≡ readers) }
         ensures newcomers { IfOk result (λ b. All (λ r. r ≡ newcomer) b.1.items) }
+        ensures refused { IfErr result (λ e. (e ≡ NoMemory) ⊎ (e ≡ NoRuntime)) }
     {
         names_of_first_batch(&desk);
         let started = start(alloc, board, desk.tie(), readers)?;

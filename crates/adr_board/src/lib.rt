@@ -3,8 +3,12 @@
 
 mod board;
 mod rule;
+mod run;
+mod run_steps;
 mod shown;
 
 pub use adr_desk::{Desk, Receipt};
 pub use board::{Board, Editor, NewBoard, Published, Reader, Told};
 pub use rule::Naming;
+pub use run::replay;
+pub use run_steps::{Shown, Step};

@@ -8,11 +8,10 @@ use Rattle.adr_model.specs.Edits.{after_from}
 use Rattle.adr_model.specs.Whole.{IsWhole}
 use Rattle.adr_model.specs.Within.{IsWithin}
 
--- closed batches of edits and the open one, and how many more edits it takes with no memory
+-- closed batches of edits and the open one
 pub record Batches : Type 0 where
   pub closed : List (List Edit)
   pub pending : List Edit
-  pub room : ℕ
 
 -- the objects that the edits start from, those that they lead to, and the edits
 pub record Ledger : Type 0 where

@@ -68,7 +68,7 @@ impl Book {
         Book {
             base: Base::new(alloc),
             objects: Store::new(alloc),
-            journal: Journal::new(alloc),
+            journal: Journal::new(),
             alloc,
         }
     }
@@ -227,14 +227,15 @@ impl Book {
         ensures unchanged { OnErr result (self.new ≡ self.old) }
         ensures refusal { OnlyNoMemory result }
     {
-        self.journal.reserve()?;
         let copy = edit.copy()?;
+        let journal = self.journal.with(self.alloc, edit)?;
         self.objects.make(copy)?;
-        self.journal.push(edit);
+        self.journal = journal;
         Ok(self.objects.version())
     }
 
-    /// Closes the open batch of the journal, also an empty one. `NoMemory` leaves all as it was.
+    /// Closes the open batch of the journal, also an empty one. `NoMemory` leaves all as it was. Cost: a path in the tree
+    /// of the closed batches.
     pub fn seal(&mut self) -> Result<(), Refusal>
         ensures base { self.new.base ≡ self.old.base }
         ensures objects { self.new.objects ≡ self.old.objects }
@@ -266,7 +267,8 @@ impl Book {
         Ok(self.base.version())
     }
 
-    /// A book equal to this one, which shares its base, objects and edits.
+    /// A book equal to this one, which shares its base, objects and edits, whatever their number. `NoMemory` only where a
+    /// share is refused.
     pub fn copy(&self) -> Result<Book, Refusal>
         ensures { IsCopyOf result self.now }
     {

@@ -1,20 +1,19 @@
 //! The accepted edits in order, in batches.
-ghost use Rattle.std.specs.Prelude.{◌≡◌, ◌++◌, ◌∷◌, [], ◌<◌, OnOk, OnErr, IfOk};
+ghost use Rattle.std.specs.Prelude.{◌≡◌, ◌++◌, ◌∷◌, [], OnOk, OnErr, IfOk};
 ghost use Rattle.adr_value.specs.Answer.{OnlyNoMemory};
 ghost use Rattle.adr_value.specs.Copy.{IsCopyOf};
 
-use crate::reserved::{make_room, push_within};
 use adr_object::Edit;
-use adr_shared::{Shared, SharedList};
+use adr_shared::SharedList;
 use adr_value::{Refusal, TryClone};
 use std::alloc::Global;
 use std::marker::Model;
 use std::mem;
 
-/// A closed list of accepted edits.
+/// A closed list of accepted edits, whose copies share its memory.
 #[derive(Drop)]
 pub struct Batch {
-    edits: Vec<Edit>,
+    edits: SharedList<Edit>,
 }
 
 impl Model for Batch {
@@ -23,22 +22,30 @@ impl Model for Batch {
 
     ghost Value = { List OneEdit };
 
-    ghost view = { λ b. b.edits.items };
+    ghost view = { λ b. b.edits };
 }
 
 impl Batch {
     /// The edits, in order.
-    pub fn edits(&self) -> &[Edit]
+    pub fn edits(&self) -> &SharedList<Edit>
         ensures { result.now ≡ self.now }
     {
-        self.edits.as_slice()
+        &self.edits
+    }
+}
+
+impl TryClone for Batch {
+    fn try_clone(&self) -> Result<Batch, Refusal> {
+        Ok(Batch {
+            edits: self.edits.copy()?,
+        })
     }
 }
 
 /// The accepted edits in order: closed batches, one for each publication, and the edits since the last of them.
 pub struct Journal {
-    closed: SharedList<Shared<Batch>>,
-    pending: Vec<Edit>,
+    closed: SharedList<Batch>,
+    pending: SharedList<Edit>,
 }
 
 impl Drop for Journal {
@@ -50,60 +57,52 @@ impl Drop for Journal {
 }
 
 impl Model for Journal {
-    ghost use Rattle.std.specs.Prelude.{vec_len, vec_capacity, ◌-◌};
     ghost use Rattle.adr_book.specs.Ledger.{Batches};
 
     ghost Value = { Batches };
 
-    ghost view = { λ j. record { closed = j.closed; pending = j.pending.items; room = vec_capacity j.pending - vec_len j.pending } };
+    ghost view = { λ j. record { closed = j.closed; pending = j.pending } };
 }
 
 impl Journal {
-    pub(crate) fn new(alloc: Global) -> Journal
+    pub(crate) fn new() -> Journal
         ensures closed { result.closed ≡ [] }
         ensures pending { result.pending ≡ [] }
     {
         Journal {
             closed: SharedList::new(),
-            pending: Vec::new(alloc),
+            pending: SharedList::new(),
         }
     }
 
     /// The closed batches, the earliest first.
-    pub fn closed(&self) -> &SharedList<Shared<Batch>>
+    pub fn closed(&self) -> &SharedList<Batch>
         ensures { result.now ≡ self.now.closed }
     {
         &self.closed
     }
 
     /// The edits since the last closed batch, in order.
-    pub fn pending(&self) -> &[Edit]
+    pub fn pending(&self) -> &SharedList<Edit>
         ensures { result.now ≡ self.now.pending }
     {
-        self.pending.as_slice()
+        &self.pending
     }
 
-    /// Makes room for one more edit.
-    pub(crate) fn reserve(&mut self) -> Result<(), Refusal>
-        ensures closed { self.new.closed ≡ self.old.closed }
-        ensures pending { self.new.pending ≡ self.old.pending }
-        ensures room { OnOk result (0 < self.new.room) }
+    /// The journal with the edit last. Cost: a path in the tree of the open edits.
+    pub(crate) fn with(&self, alloc: Global, edit: Edit) -> Result<Journal, Refusal>
+        ensures closed { IfOk result (λ journal. journal.closed ≡ self.now.closed) }
+        ensures pending { IfOk result (λ journal. journal.pending ≡ self.now.pending ++ edit ∷ []) }
         ensures refusal { OnlyNoMemory result }
     {
-        make_room(&mut self.pending)
+        Ok(Journal {
+            closed: self.closed.copy()?,
+            pending: self.pending.with(alloc, edit)?,
+        })
     }
 
-    /// Adds the edit last.
-    pub(crate) fn push(&mut self, edit: Edit)
-        requires { 0 < self.old.room }
-        ensures closed { self.new.closed ≡ self.old.closed }
-        ensures pending { self.new.pending ≡ self.old.pending ++ edit ∷ [] }
-    {
-        push_within(&mut self.pending, edit);
-    }
-
-    /// Closes the open batch. `NoMemory` leaves all as it was. Cost: an owner for each edit of the batch, and a path in
-    /// the tree of the batches.
+    /// Closes the open batch. `NoMemory` leaves all as it was. Cost: a path in the tree of the batches, whatever the batch
+    /// holds.
     pub(crate) fn seal(&mut self, alloc: Global) -> Result<(), Refusal>
         ensures closed { OnOk result (self.new.closed ≡ self.old.closed ++ self.old.pending ∷ []) }
         ensures pending { OnOk result (self.new.pending ≡ []) }
@@ -111,11 +110,10 @@ impl Journal {
         ensures still_open { OnErr result (self.new.pending ≡ self.old.pending) }
         ensures refusal { OnlyNoMemory result }
     {
-        let edits = copy_all(&self.pending)?;
-        let batch = Shared::new(alloc, Batch { edits })?;
-        let closed = self.closed.with(alloc, batch)?;
+        let edits = self.pending.copy()?;
+        let closed = self.closed.with(alloc, Batch { edits })?;
         drop(mem::replace(&mut self.closed, closed));
-        drop(mem::replace(&mut self.pending, Vec::new(alloc)));
+        drop(mem::replace(&mut self.pending, SharedList::new()));
         Ok(())
     }
 
@@ -127,7 +125,7 @@ impl Journal {
         drop(mem::replace(&mut self.closed, SharedList::new()));
     }
 
-    /// A journal of the same batches, which shares their memory, and of the same open edits, one owner more for each.
+    /// A journal of the same batches and open edits, which shares their memory, whatever their number.
     pub(crate) fn copy(&self) -> Result<Journal, Refusal>
         ensures closed { IfOk result (λ copy. copy.closed ≡ self.now.closed) }
         ensures pending { IfOk result (λ copy. copy.pending ≡ self.now.pending) }
@@ -135,18 +133,7 @@ impl Journal {
     {
         Ok(Journal {
             closed: self.closed.copy()?,
-            pending: copy_all(&self.pending)?,
+            pending: self.pending.copy()?,
         })
     }
-}
-
-fn copy_all<T: TryClone>(items: &Vec<T>) -> Result<Vec<T>, Refusal>
-    ensures items { IfOk result (λ copy. copy.items ≡ items.now.items) }
-    ensures refusal { OnlyNoMemory result }
-{
-    let mut copies = Vec::with_capacity(*items.allocator(), items.len())?;
-    for item in items.as_slice() {
-        copies.push(item.try_clone()?)?;
-    }
-    Ok(copies)
 }

@@ -5,9 +5,8 @@ mod base;
 mod book;
 mod journal;
 mod judging;
-mod reserved;
 
-pub use adr_shared::{Shared, SharedList};
+pub use adr_shared::SharedList;
 pub use adr_store::Store;
 pub use base::Base;
 pub use book::{Book, judge};

@@ -4,7 +4,7 @@ use Rattle.std.specs.Str.{bytes_eq}
 use Rattle.std.proofs.lemmas.Bool.{not_from_false, not-false}
 use Rattle.adr_value.specs.declared.limits.TheConstants.{MOST_VERSION}
 use Rattle.adr_value.specs.declared.refusal.Refusal.{Refusal}
-use Rattle.adr_value.specs.declared.refusal.Refusal.TheVariants.{NotThere, Full}
+use Rattle.adr_value.specs.declared.refusal.Refusal.TheVariants.{Exists, NotThere, Full}
 use Rattle.adr_object.specs.declared.event.Event.{Event}
 use Rattle.adr_object.specs.declared.object.Object.TheVariants.{Program as program, Event as event, Ven as ven, Resource as resource}
 use Rattle.adr_object.specs.declared.object.Kind.TheVariants.{Program as program_kind, Event as event_kind, Ven as ven_kind, Resource as resource_kind}
@@ -20,8 +20,8 @@ use Rattle.adr_model.proofs.Events.{one_write}
 use Rattle.adr_model.proofs.Keyed.{event_id, found, own_key, put, In-from_put}
 use Rattle.adr_model.proofs.Lists.{In-append_left, In-append_right, In-append_cases, In-filter, In-from_filter, same_bytes, bytes_eq_self}
 use Rattle.adr_model.proofs.Steps.{no_fault, no_faults_before, no_faults_after}
-use Rattle.adr_repair.proofs.Lookups.{put_own}
-use Rattle.adr_desk.specs.Edited.{is_of_event, gone_of, come_of, IsExchanged}
+use Rattle.adr_repair.proofs.Lookups.{drop_own, none_found, put_own}
+use Rattle.adr_desk.specs.Edited.{is_of_event, gone_of, come_of, HaveOneId, IsExchanged}
 
 -- ---- what a changed list holds
 
@@ -178,3 +178,37 @@ event_exchange old new edit s of_event h = let a = accepted old new edit h in su
     by (Remove program_kind id) o f = absurd (cc)
     by (Remove ven_kind id) o f = absurd (cc)
     by (Remove resource_kind id) o f = absurd (cc)
+
+-- ---- by one id
+
+event_new : (old : Book) (e : Event) → faults old (Create (event e)) ≡ [] → event_by old e.id ≡ None
+event_new old e g =
+    none_found (event_by old e.id)
+    (no_fault (is_some (event_by old e.id)) Exists
+    (let first : List Refusal = layout_faults (event e) in
+    let second : List Refusal = fault_if (is_some (event_by old e.id)) Exists in
+    let third : List Refusal = reference_faults old (event e) in
+    let fourth : List Refusal = fault_if (nat_le MOST_VERSION old.version || is_full_for old (Create (event e))) Full in
+    there_to_change first second third fourth g))
+
+-- the id of the edit's event leads to the one that goes, and then to the one that comes
+pub one_id : (old new : Book) (edit : Edit) → IsSound old → IsSound new → is_of_event edit ≡ true → step old edit ≡ Ok new → HaveOneId old new (gone_of old edit) (come_of old edit)
+one_id old new edit s t of_event h = by edit of_event h
+  where
+    come_found : (x : Edit) (e : Event) → is_of_event x ≡ true → step old x ≡ Ok new → come_of old x ≡ Some (record { event = e; written = old.version + 1 }) → event_by new e.id ≡ come_of old x
+    come_found x e o k is =
+        own_key event_id new.events t.ids (record { event = e; written = old.version + 1 }) ((event_exchange old new x s o k).are (record { event = e; written = old.version + 1 }) is) ∙ sym is
+
+    by : (x : Edit) → is_of_event x ≡ true → step old x ≡ Ok new → HaveOneId old new (gone_of old x) (come_of old x)
+    by (Create (event e)) o k = (e.id, event_new old e (accepted old new (Create (event e)) k).0, come_found (Create (event e)) e o k refl)
+    by (Create (program p)) o k = absurd (cc)
+    by (Create (ven v)) o k = absurd (cc)
+    by (Create (resource r)) o k = absurd (cc)
+    by (Change (event e)) o k = (e.id, refl, come_found (Change (event e)) e o k refl)
+    by (Change (program p)) o k = absurd (cc)
+    by (Change (ven v)) o k = absurd (cc)
+    by (Change (resource r)) o k = absurd (cc)
+    by (Remove event_kind id) o k = (id, refl, subst (λ (b : Book). event_by b id ≡ None) (accepted old new (Remove event_kind id) k).1 (drop_own event_id id old.events))
+    by (Remove program_kind id) o k = absurd (cc)
+    by (Remove ven_kind id) o k = absurd (cc)
+    by (Remove resource_kind id) o k = absurd (cc)

@@ -1,3 +1,4 @@
+pub mod Costs
 pub mod Edited
 pub mod Eventless
 pub mod Joining

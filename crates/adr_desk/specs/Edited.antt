@@ -62,3 +62,7 @@ is_of_event (Create o) = is_event o
 is_of_event (Change o) = is_event o
 is_of_event (Remove event_kind id) = true
 is_of_event (Remove _ id) = false
+
+-- by one id the old book has the event that goes, and the new one the event that comes
+abbrev pub HaveOneId : Book → Book → Option Written → Option Written → Type 0
+HaveOneId old new gone come = (id : List ℕ) × (event_by old id ≡ gone) × (event_by new id ≡ come)

@@ -1,5 +1,5 @@
 //! The desk.
-ghost use Rattle.std.specs.Prelude.{◌≡◌, ◌≢◌, ◌++◌, ◌∷◌, [], ℤ, None, Ok, IsOk, IfOk, IfSome, OnOk, OnErr};
+ghost use Rattle.std.specs.Prelude.{◌≡◌, ◌≢◌, ◌≤◌, ◌++◌, ◌∷◌, [], ℤ, None, Ok, IsOk, IfOk, IfSome, OnOk, OnErr};
 ghost use Rattle.std.specs.Option.{option_copied, option_map_or};
 ghost use Rattle.adr_value.specs.Answer.{Answers, OnlyNoMemory, result_map};
 ghost use Rattle.adr_model.specs.Book.{empty};
@@ -8,6 +8,7 @@ ghost use Rattle.adr_model.specs.Governor.{governs};
 ghost use Rattle.adr_model.specs.Timeline.{shows, IsCanonical};
 ghost use Rattle.adr_model.specs.Touches.{touches};
 ghost use Rattle.adr_book.specs.Ledger.{sealed_of};
+ghost use Rattle.adr_regroup.specs.Compared.{most_compared_in};
 
 use crate::empty::without_events;
 use crate::make::{Made, make};
@@ -195,6 +196,7 @@ impl Desk {
         ensures closed { self.new.book.closed ≡ self.old.book.closed }
         ensures version { IfOk result (λ receipt. receipt.version ≡ self.new.book.objects.version) }
         ensures touched { IfOk result (λ receipt. receipt.touched ≡ touches self.old.book.objects self.new.book.objects) }
+        ensures compares { IfOk result (λ receipt. receipt.compares ≤ most_compared_in self.new.book.objects receipt.touched) }
         ensures unchanged { OnErr result (self.new ≡ self.old) }
         ensures refusal { OnlyNoMemory result }
     {
@@ -234,6 +236,7 @@ impl Desk {
         ensures closed { self.new.book.closed ≡ self.old.book.closed }
         ensures version { IfOk result (λ receipt. receipt.version ≡ self.new.book.objects.version) }
         ensures touched { IfOk result (λ receipt. receipt.touched ≡ touches self.old.book.objects self.new.book.objects) }
+        ensures compares { IfOk result (λ receipt. receipt.compares ≤ most_compared_in self.new.book.objects receipt.touched) }
         ensures unchanged { OnErr result (self.new ≡ self.old) }
     {
         judge(self.resolution.book(), &edit)?;

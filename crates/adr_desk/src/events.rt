@@ -16,6 +16,7 @@ ghost use Rattle.adr_lines.specs.Indexes.{under};
 ghost use Rattle.adr_schedule.specs.Moves.{is_among};
 ghost use Rattle.adr_schedule.specs.Seating.{AreSeatedFor};
 ghost use Rattle.adr_schedule.specs.Shift.{entries_in};
+ghost use Rattle.adr_regroup.specs.Compared.{StandOnce};
 ghost use Rattle.adr_desk.specs.Desk.{HasRoom, IsDesk, IsSideOf};
 ghost use Rattle.adr_desk.specs.Edited.{come_of, gone_for, gone_of, is_of_event, made_of, with_come, IsExchanged};
 
@@ -43,6 +44,7 @@ fn places_for(
     requires keys { AreKeysOf book.now.objects keys.now }
     ensures apply { IfOk result (λ places. (p : ℕ) (r : OneResource) (n : ℕ) → slice_get book.now.objects.resources p ≡ Some r → is_among places.items p ≡ applies_to book.now.objects r (written_event event.now n)) }
     ensures count { IfOk result (λ places. length places.items ≤ length book.now.objects.resources) }
+    ensures once { IfOk result (λ places. StandOnce places.items (length book.now.objects.resources)) }
     ensures refusal { OnlyNoMemory result }
 {
     match book.program(&event.program_id) {
@@ -60,6 +62,7 @@ fn places_by(alloc: Global, keys: &Audiences, book: &Book, id: &Id) -> Result<Ve
     requires keys { AreKeysOf book.now.objects keys.now }
     ensures apply { IfOk result (λ places. (p : ℕ) (r : OneResource) (u : Written) → slice_get book.now.objects.resources p ≡ Some r → event_by book.now.objects id.now ≡ Some u → is_among places.items p ≡ applies_to book.now.objects r u) }
     ensures count { IfOk result (λ places. length places.items ≤ length book.now.objects.resources) }
+    ensures once { IfOk result (λ places. StandOnce places.items (length book.now.objects.resources)) }
     ensures refusal { OnlyNoMemory result }
 {
     match book.event(id) {
@@ -81,6 +84,7 @@ fn leaving_for(
     requires keys { AreKeysOf book.now.objects keys.now }
     ensures apply { IfOk result (λ places. (p : ℕ) (r : OneResource) (u : Written) → slice_get book.now.objects.resources p ≡ Some r → gone_for book.now.objects object.now ≡ Some u → is_among places.items p ≡ applies_to book.now.objects r u) }
     ensures count { IfOk result (λ places. length places.items ≤ length book.now.objects.resources) }
+    ensures once { IfOk result (λ places. StandOnce places.items (length book.now.objects.resources)) }
     ensures refusal { OnlyNoMemory result }
 {
     match object {
@@ -100,6 +104,7 @@ pub(crate) fn leaving(
     requires keys { AreKeysOf book.now.objects keys.now }
     ensures apply { IfOk result (λ places. (p : ℕ) (r : OneResource) (u : Written) → slice_get book.now.objects.resources p ≡ Some r → gone_of book.now.objects edit.now ≡ Some u → is_among places.items p ≡ applies_to book.now.objects r u) }
     ensures count { IfOk result (λ places. length places.items ≤ length book.now.objects.resources) }
+    ensures once { IfOk result (λ places. StandOnce places.items (length book.now.objects.resources)) }
     ensures refusal { OnlyNoMemory result }
 {
     match edit {
@@ -120,6 +125,7 @@ fn joining_for(
     requires keys { AreKeysOf book.now.objects keys.now }
     ensures apply { IfOk result (λ places. (p : ℕ) (r : OneResource) (v : Written) → slice_get book.now.objects.resources p ≡ Some r → made_of book.now.objects object.now ≡ Some v → is_among places.items p ≡ applies_to book.now.objects r v) }
     ensures count { IfOk result (λ places. length places.items ≤ length book.now.objects.resources) }
+    ensures once { IfOk result (λ places. StandOnce places.items (length book.now.objects.resources)) }
     ensures refusal { OnlyNoMemory result }
 {
     match object {
@@ -142,6 +148,7 @@ pub(crate) fn joining(
     requires keys { AreKeysOf book.now.objects keys.now }
     ensures apply { IfOk result (λ places. (p : ℕ) (r : OneResource) (v : Written) → slice_get book.now.objects.resources p ≡ Some r → come_of book.now.objects edit.now ≡ Some v → is_among places.items p ≡ applies_to book.now.objects r v) }
     ensures count { IfOk result (λ places. length places.items ≤ length book.now.objects.resources) }
+    ensures once { IfOk result (λ places. StandOnce places.items (length book.now.objects.resources)) }
     ensures refusal { OnlyNoMemory result }
 {
     match edit {

@@ -1,5 +1,5 @@
 //! An accepted edit, made beside the old book.
-ghost use Rattle.std.specs.Prelude.{◌≡◌, ◌++◌, ◌∷◌, [], true, false, Ok, IsOk, IfOk, OnOk, OnErr};
+ghost use Rattle.std.specs.Prelude.{◌≡◌, ◌≤◌, ◌++◌, ◌∷◌, [], true, false, Ok, IsOk, IfOk, OnOk, OnErr};
 ghost use Rattle.adr_value.specs.Answer.{OnlyNoMemory};
 ghost use Rattle.adr_model.specs.Edits.{full_at, made, step, step_to};
 ghost use Rattle.adr_model.specs.Touches.{touches};
@@ -7,6 +7,7 @@ ghost use Rattle.adr_model.specs.Whole.{IsWhole};
 ghost use Rattle.adr_audience.specs.Keys.{AreKeysOf};
 ghost use Rattle.adr_lines.specs.Exchange.{IsIndexOf};
 ghost use Rattle.adr_schedule.specs.Seating.{AreSeatedFor};
+ghost use Rattle.adr_regroup.specs.Compared.{most_compared_in};
 ghost use Rattle.adr_desk.specs.Desk.{AreOf, IsDesk};
 ghost use Rattle.adr_desk.specs.Edited.{is_of_event as the_is_of_event};
 
@@ -68,6 +69,7 @@ fn regrouped(
     requires seated { AreSeatedFor tie old.now.objects schedule.now }
     requires begun { meter.old ≡ 0 }
     ensures seated { IfOk result (AreSeatedFor tie new.now.objects) }
+    ensures least { OnOk result (meter.new ≤ most_compared_in new.now.objects (touches old.now.objects new.now.objects)) }
     ensures refusal { OnlyNoMemory result }
 {
     if is_of_program(edit) {
@@ -97,6 +99,7 @@ fn followed(
     requires desk { IsDesk tie old.now.objects keys.old indexes.now schedule.now }
     requires begun { meter.old ≡ 0 }
     ensures seated { IfOk result (AreSeatedFor tie new.now.objects) }
+    ensures least { OnOk result (meter.new ≤ most_compared_in new.now.objects (touches old.now.objects new.now.objects)) }
     ensures keys { OnOk result (AreKeysOf (made old.now.objects edit.now) keys.new) }
     ensures unchanged { OnErr result (keys.new ≡ keys.old) }
     ensures refusal { OnlyNoMemory result }
@@ -125,6 +128,7 @@ fn after_other(
     requires desk { IsDesk tie old.now.objects keys.old indexes.now schedule.now }
     requires begun { meter.old ≡ 0 }
     ensures ok { IfOk result (λ after. IsDesk tie new.now.objects keys.new indexes.now after) }
+    ensures least { OnOk result (meter.new ≤ most_compared_in new.now.objects (touches old.now.objects new.now.objects)) }
     ensures err { OnErr result (keys.new ≡ keys.old) }
     ensures refusal { OnlyNoMemory result }
 {
@@ -150,6 +154,7 @@ fn grouped(
     requires desk { IsDesk tie old.now.objects keys.old indexes.old schedule.now }
     requires begun { meter.old ≡ 0 }
     ensures ok { IfOk result (λ after. IsDesk tie new.now.objects keys.new indexes.new after) }
+    ensures least { OnOk result (meter.new ≤ most_compared_in new.now.objects (touches old.now.objects new.now.objects)) }
     ensures err { OnErr result (IsDesk tie old.now.objects keys.new indexes.new schedule.now) }
     ensures refusal { OnlyNoMemory result }
 {
@@ -177,6 +182,7 @@ pub(crate) fn make(
     ensures closed { IfOk result (λ made. made.resolution.book.closed ≡ old.now.book.closed) }
     ensures base { IfOk result (λ made. made.resolution.book.base ≡ old.now.book.base) }
     ensures touched { IfOk result (λ made. made.touched ≡ touches old.now.book.objects made.resolution.book.objects) }
+    ensures compares { IfOk result (λ made. made.compares ≤ most_compared_in made.resolution.book.objects made.touched) }
     ensures err { OnErr result (AreOf old.now.tie old.now.book.objects keys.new indexes.new) }
     ensures refusal { OnlyNoMemory result }
 {

@@ -1,9 +1,10 @@
 //! An accepted edit of an event, made to the indexes, the keys and the groups.
-ghost use Rattle.std.specs.Prelude.{◌≡◌, true, None, Ok, IsOk, IfOk, OnOk, OnErr};
+ghost use Rattle.std.specs.Prelude.{◌≡◌, ◌≤◌, true, None, Ok, IsOk, IfOk, OnOk, OnErr};
 ghost use Rattle.adr_value.specs.Answer.{OnlyNoMemory};
 ghost use Rattle.adr_value.specs.declared.payload.PayloadType.{PayloadType as AnyType};
 ghost use Rattle.adr_model.specs.Book.{Book as Objects};
 ghost use Rattle.adr_model.specs.Edits.{made, step};
+ghost use Rattle.adr_model.specs.Touches.{touches};
 ghost use Rattle.adr_model.specs.Whole.{IsWhole};
 ghost use Rattle.adr_audience.specs.Keys.{AreKeysOf};
 ghost use Rattle.adr_index.specs.Index.{inserted_all, others_all, AreNew};
@@ -12,8 +13,9 @@ ghost use Rattle.adr_lines.specs.Exchange.{IsIndexOf};
 ghost use Rattle.adr_lines.specs.Indexes.{under};
 ghost use Rattle.adr_schedule.specs.Seating.{AreSeatedFor};
 ghost use Rattle.adr_schedule.specs.Shift.{entries_in, AreTwo};
+ghost use Rattle.adr_regroup.specs.Compared.{most_compared_in};
 ghost use Rattle.adr_desk.specs.Desk.{HasRoom, IsDesk, IsSideOf};
-ghost use Rattle.adr_desk.specs.Edited.{come_of, gone_of, is_of_event, with_come, IsExchanged};
+ghost use Rattle.adr_desk.specs.Edited.{come_of, gone_of, is_of_event, with_come, HaveOneId, IsExchanged};
 
 use crate::events::{joining, leaving};
 use crate::laws::edits_have_room;
@@ -83,6 +85,7 @@ fn regrouped(
     requires room { HasRoom tie book.now.objects (gone_of book.now.objects edit.now) (come_of book.now.objects edit.now) }
     requires begun { meter.old ≡ 0 }
     ensures seated { IfOk result (λ after. (new : Objects) → IsExchanged book.now.objects new (gone_of book.now.objects edit.now) (come_of book.now.objects edit.now) → AreSeatedFor tie book.now.objects schedule.now → AreSeatedFor tie new after) }
+    ensures least { OnOk result ((new : Objects) → IsWhole new → IsExchanged book.now.objects new (gone_of book.now.objects edit.now) (come_of book.now.objects edit.now) → HaveOneId book.now.objects new (gone_of book.now.objects edit.now) (come_of book.now.objects edit.now) → AreSeatedFor tie book.now.objects schedule.now → meter.new ≤ most_compared_in new (touches book.now.objects new)) }
     ensures refusal { OnlyNoMemory result }
 {
     repairs_compare_little();
@@ -119,6 +122,7 @@ fn followed(
     requires room { HasRoom tie book.now.objects (gone_of book.now.objects edit.now) (come_of book.now.objects edit.now) }
     requires begun { meter.old ≡ 0 }
     ensures seated { IfOk result (λ after. (new : Objects) → IsExchanged book.now.objects new (gone_of book.now.objects edit.now) (come_of book.now.objects edit.now) → AreSeatedFor tie book.now.objects schedule.now → AreSeatedFor tie new after) }
+    ensures least { OnOk result ((new : Objects) → IsWhole new → IsExchanged book.now.objects new (gone_of book.now.objects edit.now) (come_of book.now.objects edit.now) → HaveOneId book.now.objects new (gone_of book.now.objects edit.now) (come_of book.now.objects edit.now) → AreSeatedFor tie book.now.objects schedule.now → meter.new ≤ most_compared_in new (touches book.now.objects new)) }
     ensures keys { OnOk result (AreKeysOf (made book.now.objects edit.now) keys.new) }
     ensures unchanged { OnErr result (keys.new ≡ keys.old) }
     ensures refusal { OnlyNoMemory result }
@@ -156,6 +160,7 @@ fn exchanged(
     requires desk { IsDesk tie old.now.objects keys.old indexes.old schedule.now }
     requires begun { meter.old ≡ 0 }
     ensures ok { IfOk result (λ after. IsDesk tie new.now.objects keys.new indexes.new after) }
+    ensures least { OnOk result (IsWhole new.now.objects → HaveOneId old.now.objects new.now.objects (gone_of old.now.objects edit.now) (come_of old.now.objects edit.now) → meter.new ≤ most_compared_in new.now.objects (touches old.now.objects new.now.objects)) }
     ensures err { OnErr result (IsDesk tie old.now.objects keys.new indexes.new schedule.now) }
     ensures refusal { OnlyNoMemory result }
 {
@@ -193,6 +198,7 @@ pub(crate) fn after_event(
     requires desk { IsDesk tie old.now.objects keys.old indexes.old schedule.now }
     requires begun { meter.old ≡ 0 }
     ensures ok { IfOk result (λ after. IsDesk tie new.now.objects keys.new indexes.new after) }
+    ensures least { OnOk result (meter.new ≤ most_compared_in new.now.objects (touches old.now.objects new.now.objects)) }
     ensures err { OnErr result (IsDesk tie old.now.objects keys.new indexes.new schedule.now) }
     ensures refusal { OnlyNoMemory result }
 {

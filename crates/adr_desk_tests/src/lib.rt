@@ -1,7 +1,16 @@
 #![tactic(auto)]
-//! Tests of the desk: what the receipts of its edits tell.
+//! Tests of what edits do: whom each event is for and which events a resource has, by the vectors of targets and by many
+//! edits, each compared with a scan of all objects; and what the receipts of a desk's edits tell.
 
+#[cfg(test)]
+mod edits;
+#[cfg(test)]
+mod kept;
 #[cfg(test)]
 mod reading;
 #[cfg(test)]
 mod receipts;
+#[cfg(test)]
+mod scan;
+#[cfg(test)]
+mod targets;

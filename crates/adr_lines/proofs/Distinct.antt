@@ -43,10 +43,13 @@ fewer p q (e ∷ es) = by (q e) (p e) (fewer p q es)
         skip true = omega (arith, h)
         skip false = h
 
+-- some of them stand once too
+pub distinct_kept : (q : Entry → Bool) (es : List Entry) → AreDistinct es → AreDistinct (filter q es)
+distinct_kept q es d w p = omega (arith, d w p, fewer (is_entry w p) q es)
+
 pub distinct_others_all : (xs es : List Entry) → AreDistinct es → AreDistinct (others_all xs es)
 distinct_others_all [] es d = d
-distinct_others_all (x ∷ xs) es d =
-    distinct_others_all xs (others x es) (λ w p. omega (arith, d w p, fewer (is_entry w p) (λ y. is_listed_before y x || is_listed_before x y) es))
+distinct_others_all (x ∷ xs) es d = distinct_others_all xs (others x es) (distinct_kept (λ y. is_listed_before y x || is_listed_before x y) es d)
 
 -- ---- inserted
 
@@ -117,7 +120,7 @@ none_left e es d = by (list_any here es) refl
         absurd (omega (arith, another, two, once))
 
 -- entries that stand once and are all in a list are no more than it has
-no_more : (es xs : List Entry) → AreDistinct es → ((e : Entry) → In e es → In e xs) → length es ≤ length xs
+pub no_more : (es xs : List Entry) → AreDistinct es → ((e : Entry) → In e es → In e xs) → length es ≤ length xs
 no_more [] xs d held = omega arith
 no_more (e ∷ es) xs d held =
     let here : Entry → Bool = λ x. is_entry e.rank.written e.rank.place x in

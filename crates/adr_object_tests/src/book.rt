@@ -64,7 +64,7 @@ fn has_one_batch(book: &Book, closed: usize, pending: usize) -> bool {
     let journal = book.journal();
     journal.pending().len() == pending
         && journal.closed().len() == 1
-        && matches!(journal.closed().at(0), Some(batch) if batch.get().edits().len() == closed)
+        && matches!(journal.closed().at(0), Some(batch) if batch.edits().len() == closed)
 }
 
 /// Whether an accepted edit stands in the journal as one batch, and a refused one nowhere.

@@ -5,7 +5,7 @@ use crate::alike::are_alike;
 use crate::condensing::condensed;
 use crate::edits::apply;
 use crate::reading::edit;
-use adr_book::{Book, Journal};
+use adr_book::{Book, Journal, SharedList};
 use adr_object::{Edit, Kind};
 use adr_value::Refusal;
 use std::alloc::Global;
@@ -99,9 +99,9 @@ fn make_many(
     Ok(())
 }
 
-fn make_all(book: &mut Book, edits: &[Edit]) -> Result<(), Refusal> {
-    for edit in edits {
-        apply(book, edit)?;
+fn make_all(book: &mut Book, edits: &SharedList<Edit>) -> Result<(), Refusal> {
+    for place in 0..edits.len() {
+        apply(book, edits.at(place).ok_or(Refusal::NotThere)?)?;
     }
     Ok(())
 }
@@ -110,7 +110,7 @@ fn make_all(book: &mut Book, edits: &[Edit]) -> Result<(), Refusal> {
 fn replay(book: &mut Book, journal: &Journal) -> Result<(), Refusal> {
     for place in 0..journal.closed().len() {
         let batch = journal.closed().at(place).ok_or(Refusal::NotThere)?;
-        make_all(book, batch.get().edits())?;
+        make_all(book, batch.edits())?;
         book.seal()?;
     }
     make_all(book, journal.pending())

@@ -17,6 +17,8 @@ use Rattle.adr_model.specs.Governor.{applies_to}
 use Rattle.adr_model.specs.Matching.{Scene, applies}
 use Rattle.adr_audience.specs.Laws.{applies_in, applying_places}
 use Rattle.adr_schedule.specs.Moves.{is_among}
+use Rattle.adr_regroup.specs.Compared.{StandOnce}
+use Rattle.adr_regroup.proofs.Sums.{range_stands}
 
 -- ---- numbers of a range that pass
 
@@ -104,3 +106,7 @@ applying_rise book event program =
 pub applying_count : (book : Book) (event : Event) (program : Program) → length (applying_places book event program) ≤ length book.resources
 applying_count book event program =
     omega (arith, fewer (λ place. option_map_or (applies_in book event program) (slice_get book.resources place) false) (range_with_len 0 (length book.resources)), length-range_with_len 0 (length book.resources))
+
+-- each stands once
+pub applying_once : (book : Book) (event : Event) (program : Program) → StandOnce (applying_places book event program) (length book.resources)
+applying_once book event program = range_stands (λ place. option_map_or (applies_in book event program) (slice_get book.resources place) false) (length book.resources)

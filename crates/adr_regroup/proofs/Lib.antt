@@ -1,6 +1,10 @@
 pub mod Applying
+pub mod Differing
+pub mod EditCosts
 pub mod EventCosts
+pub mod EventTouches
 pub mod Few
+pub mod Meeting
 pub mod PartyEdits
 pub mod PartyNumbers
 pub mod PartyWindows
@@ -8,4 +12,6 @@ pub mod Placing
 pub mod Possible
 pub mod Programs
 pub mod Reseated
+pub mod Sums
+pub mod TouchCosts
 pub mod Turned

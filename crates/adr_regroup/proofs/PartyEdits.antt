@@ -1,15 +1,15 @@
 -- Edits of vens and resources: what they leave as it was, and which places they leave to be seen to.
-use Rattle.std.proofs.Common.{◌≡◌, ℕ, zero, suc, ◌+◌, ◌<◌, ◌≤◌, ◌==◌, ◌||◌, ◌⊎◌, inl, inr, Bool, true, false, not, cond, if◌then◌else◌, List, [], ◌∷◌, ◌++◌, length, map, filter, find, remove, slice_get, Option, Some, None, is_some, Result, Ok, Err, IsOk, refl, ap, sym, subst, ◌∙◌, arith, eqb-true, eq-eqb, ltb-true, ltb-false, nat_le, nat_lt}
+use Rattle.std.proofs.Common.{◌≡◌, ℕ, zero, suc, ◌+◌, ◌<◌, ◌≤◌, ◌==◌, ◌||◌, inl, inr, Bool, true, false, not, cond, if◌then◌else◌, List, [], ◌∷◌, ◌++◌, length, map, filter, remove, slice_get, Option, Some, None, is_some, Result, Ok, Err, IsOk, refl, ap, sym, subst, ◌∙◌, arith, eqb-true, eq-eqb, nat_le}
 use Rattle.std.proofs.lemmas.Bool.{both_ways, not-false}
 use Rattle.std.proofs.lemmas.List.{length-map}
 use Rattle.std.proofs.lemmas.Option.{slice_get_within, slice_get-map}
 use Rattle.std.proofs.lemmas.Slice.Eq.{bytes_eq-Decides}
-use Rattle.std.specs.List.{AllByRecursion, IsDistinct, list_any}
+use Rattle.std.specs.List.{AllByRecursion, IsDistinct}
 use Rattle.std.specs.Option.{option_map, option_map_or}
 use Rattle.std.specs.Str.{bytes_eq}
 use Rattle.adr_value.specs.declared.limits.TheConstants.{MOST_VERSION}
 use Rattle.adr_value.specs.declared.refusal.Refusal.{Refusal}
-use Rattle.adr_value.specs.declared.refusal.Refusal.TheVariants.{Exists, NotThere, NoVen, InUse, Full}
+use Rattle.adr_value.specs.declared.refusal.Refusal.TheVariants.{Exists, NotThere, InUse, Full}
 use Rattle.adr_object.specs.declared.object.Object.{Object}
 use Rattle.adr_object.specs.declared.object.Object.TheVariants.{Program as program_object, Event as event_object, Ven as ven_object, Resource as resource_object}
 use Rattle.adr_object.specs.declared.object.Kind.{Kind}
@@ -38,8 +38,9 @@ use Rattle.adr_schedule.specs.Seating.{group_at, has_at, AreRight, AreSeatedFor,
 use Rattle.adr_stretch.specs.Right.{has_number}
 use Rattle.adr_schedule.proofs.Places.{after_gone, count_gone, was_at}
 use Rattle.adr_regroup.specs.Party.{id_of_edit, is_of_resource, is_of_ven, AreOfVen, AreSeatedBut, KeepsEvents}
-use Rattle.adr_regroup.proofs.Placing.{has_group, has_place, number_at, there}
-use Rattle.adr_regroup.proofs.Reseated.{applies_same, same_one}
+use Rattle.adr_regroup.proofs.Placing.{has_group, has_place, number_at}
+use Rattle.adr_regroup.proofs.Reseated.{applies_same}
+use Rattle.adr_regroup.proofs.Sums.{more_stand, none_stand, same_stand}
 
 -- ---- what the edits leave
 
@@ -80,7 +81,7 @@ resource_keeps old new edit h a = subst (λ b. KeepsEvents old b) (accepted old 
 -- ---- the places of a ven's resources
 
 -- a ven that comes has no resources yet
-second_of : (a b c d : List Refusal) → ((a ++ b) ++ c) ++ d ≡ [] → b ≡ []
+pub second_of : (a b c d : List Refusal) → ((a ++ b) ++ c) ++ d ≡ [] → b ≡ []
 second_of a b c d h = no_faults_after a b (no_faults_before (a ++ b) c (no_faults_before ((a ++ b) ++ c) d h))
 
 ven_new : (old : Book) (v : Ven) → faults old (Create (ven_object v)) ≡ [] → is_some (ven_by old v.id) ≡ false
@@ -110,6 +111,7 @@ none_of_ven old id apart = record {
   of_ven = λ p r at l. sym (apart r (in_at old.resources p r at));
   before = λ p h. absurd (cc);
   few = omega arith;
+  once = none_stand (length old.resources);
 }
 
 pub none_comes : (old : Book) (o : Object) → IsWhole old → is_of_ven (Create o) ≡ true → IsOk (step old (Create o)) → AreOfVen old (id_of o) (length old.resources) []
@@ -163,12 +165,12 @@ or_right true = refl
 or_right false = refl
 
 pub first_of_ven : (book : Book) (id : List ℕ) → AreOfVen book id 0 []
-first_of_ven book id = record { of_ven = λ p r at l. absurd (omega (arith, l)); before = λ p h. absurd (cc); few = omega arith }
+first_of_ven book id = record { of_ven = λ p r at l. absurd (omega (arith, l)); before = λ p h. absurd (cc); few = omega arith; once = none_stand 0 }
 
 module _ (book : Book) (id : List ℕ) (n : ℕ) (ps : List ℕ) (h : AreOfVen book id n ps) where
   -- its resource is the ven's
   pub next_of_ven : ((r : Resource) → slice_get book.resources n ≡ Some r → bytes_eq id r.ven_id ≡ true) → AreOfVen book id (n + 1) (ps ++ n ∷ [])
-  next_of_ven own = record { of_ven = λ p r at l. of_ven p r at l (n == p) refl; before = λ p a. before p a (is_among ps p) refl; few = few }
+  next_of_ven own = record { of_ven = λ p r at l. of_ven p r at l (n == p) refl; before = λ p a. before p a (is_among ps p) refl; few = few; once = more_stand ps n h.once }
     where
       of_ven : (p : ℕ) (r : Resource) → slice_get book.resources p ≡ Some r → p < n + 1 → (b : Bool) → (n == p) ≡ b → is_among (ps ++ n ∷ []) p ≡ bytes_eq id r.ven_id
       of_ven p r at l true e =
@@ -195,6 +197,7 @@ module _ (book : Book) (id : List ℕ) (n : ℕ) (ps : List ℕ) (h : AreOfVen b
     of_ven = λ p r at l. of_ven p r at l (n == p) refl;
     before = λ p a. (let l = h.before p a in omega (arith, l));
     few = (let f = h.few in omega (arith, f));
+    once = same_stand ps n h.once;
   }
     where
       of_ven : (p : ℕ) (r : Resource) → slice_get book.resources p ≡ Some r → p < n + 1 → (b : Bool) → (n == p) ≡ b → is_among ps p ≡ bytes_eq id r.ven_id
@@ -259,6 +262,9 @@ pub ven_starts : (tie : Tie) (old new : Book) (edit : Edit) (places : List ℕ) 
     → AreOfVen old (id_of_edit edit) (length old.resources) places → AreSeatedFor tie old s → AreSeatedBut tie new places s
 ven_starts tie old new edit places s h a own seated = subst (λ b. AreSeatedBut tie b places s) (accepted old new edit a).1 (made_ven_starts tie old edit places s h own seated)
 
+pub ven_resources : (old new : Book) (edit : Edit) → is_of_ven edit ≡ true → step old edit ≡ Ok new → new.resources ≡ old.resources
+ven_resources old new edit h a = ap (λ (b : Book). b.resources) (sym (accepted old new edit a).1) ∙ made_same_resources old edit h
+
 pub ven_places : (old new : Book) (edit : Edit) (places : List ℕ) → is_of_ven edit ≡ true → step old edit ≡ Ok new → AreOfVen old (id_of_edit edit) (length old.resources) places
     → (p : ℕ) → is_among places p ≡ true → p < length new.resources
 ven_places old new edit places h a own p m =
@@ -280,7 +286,7 @@ module _ {X : Type 0} (key : X → List ℕ) where
   apart_at x (y ∷ ys) zero r a e = let q : y ≡ r = cc in ap (λ z. bytes_eq (key x) (key z)) (sym q) ∙ a.0
   apart_at x (y ∷ ys) (suc p) r a e = apart_at x ys p r a.1 e
 
-  found_has : (id : List ℕ) (xs : List X) (x : X) → by_id key id xs ≡ Some x → bytes_eq id (key x) ≡ true
+  pub found_has : (id : List ℕ) (xs : List X) (x : X) → by_id key id xs ≡ Some x → bytes_eq id (key x) ≡ true
   found_has id [] x h = absurd (cc)
   found_has id (y ∷ ys) x h = by (bytes_eq id (key y)) refl h (found_has id ys x)
     where

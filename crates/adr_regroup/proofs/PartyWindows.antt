@@ -3,6 +3,7 @@ use Rattle.std.proofs.Common.{◌≡◌, ◌≤◌, ◌+◌, ◌*◌, ◌==◌, 
 use Rattle.std.proofs.lemmas.Bool.{both_ways}
 use Rattle.std.proofs.lemmas.Grind.{flat_map-append}
 use Rattle.std.proofs.lemmas.List.{map-append}
+use Rattle.std.proofs.lemmas.List.Sums.{sum_by-cons}
 use Rattle.std.specs.Option.{option_map, option_map_or}
 use Rattle.adr_value.specs.declared.payload.PayloadType.{PayloadType}
 use Rattle.adr_time.specs.Spans.{covers}
@@ -19,9 +20,11 @@ use Rattle.adr_stretch.specs.Grouped.{any_covers_at, entries_under, written_even
 use Rattle.adr_stretch.specs.Right.{has_number}
 use Rattle.adr_lines.specs.declared.indexes.Indexes.{Indexes}
 use Rattle.adr_group.specs.Group.{AreWindowsOf}
-use Rattle.adr_group.specs.Repair.{most_possible}
+use Rattle.adr_group.specs.Repair.{most_possible, most_repaired}
 use Rattle.adr_group.proofs.Possible.{both_possible}
+use Rattle.adr_group.proofs.Turns.{most_both}
 use Rattle.adr_schedule.proofs.Shifts.{one_share}
+use Rattle.adr_regroup.specs.Compared.{cost_but, cost_unless, IsMostFor}
 use Rattle.adr_regroup.specs.Party.{entries_but, entries_by, entries_unless, IsMostOf}
 
 -- ---- the event of a number
@@ -71,6 +74,15 @@ module _ (tie : Tie) (events : List Written) (n : ℕ) (e : Event) (start after 
       at_most : (a b c d : ℕ) → a ≡ b + c → c ≤ d → a ≤ b + d
       at_most a b c d e l = omega (arith, e, l)
 
+  pub added_least : (others : List ℕ) → has_number others n ≡ false → HaveOwnTypes groups → (indexes : Indexes) (writes : List ℕ) (cost : Written → ℕ) → IsMostFor tie events indexes writes cost
+      → most_repaired after writes indexes ≤ most_repaired start writes indexes + cost_unless cost events others n
+  added_least others apart own indexes writes cost bound =
+      let w = the_event.0 in
+      let little : most_repaired groups writes indexes ≤ cost w = bound w groups (found_number events n w the_event.1).0 own its_entries in
+      let both : most_repaired after writes indexes ≡ most_repaired start writes indexes + most_repaired groups writes indexes = ap (λ gs. most_repaired gs writes indexes) made ∙ most_both start groups writes indexes in
+      let here : cost_unless cost events others n ≡ cost w = ap (λ (b : Bool). if b then 0 else option_map_or cost (by_number events n) 0) apart ∙ ap (λ (o : Option Written). option_map_or cost o 0) the_event.1 in
+      omega (arith, little, both, here)
+
 -- ---- one number after the other
 
 module _ (tie : Tie) (events : List Written) (others : List ℕ) (now after : List TypeEntries) (n : ℕ) (rest more : List ℕ) (first : rest ≡ n ∷ more) where
@@ -92,6 +104,14 @@ module _ (tie : Tie) (events : List Written) (others : List ℕ) (now after : Li
     where
       by : (a b r m : ℕ) → r ≡ most + m → a ≤ b + most → b + r ≤ all → a + m ≤ all
       by a b r m e h k = omega (arith, e, h, k)
+
+  pub turn_least : (indexes : Indexes) (writes : List ℕ) (cost : Written → ℕ) (all : ℕ)
+      → most_repaired after writes indexes ≤ most_repaired now writes indexes + cost_unless cost events others n
+      → most_repaired now writes indexes + cost_but cost events rest others ≤ all → most_repaired after writes indexes + cost_but cost events more others ≤ all
+  turn_least indexes writes cost all h before =
+      let parts : cost_but cost events rest others ≡ cost_unless cost events others n + cost_but cost events more others =
+      ap (λ ns. cost_but cost events ns others) first ∙ sum_by-cons (cost_unless cost events others) n more in
+      omega (arith, parts, h, before)
 
 -- ---- what the windows hold then
 
@@ -197,3 +217,13 @@ differ_most indexes most old new olds news start mid windows none same same_new 
   where
     by : (s m w a b all : ℕ) → s ≡ 0 → m ≤ s + a → w ≤ m + b → all ≡ a + b → w ≤ all
     by s m w a b all e f g h = omega (arith, e, f, g, h)
+
+pub differ_least : (events : List Written) (indexes : Indexes) (writes : List ℕ) (cost : Written → ℕ) (old new olds news : List ℕ) (start mid windows : List TypeEntries) → start ≡ [] → olds ≡ old → news ≡ new
+    → most_repaired mid writes indexes ≤ most_repaired start writes indexes + cost_but cost events olds new
+    → most_repaired windows writes indexes ≤ most_repaired mid writes indexes + cost_but cost events news old
+    → most_repaired windows writes indexes ≤ cost_but cost events old new + cost_but cost events new old
+differ_least events indexes writes cost old new olds news start mid windows none same same_new first second =
+    let empty : most_repaired start writes indexes ≡ 0 = ap (λ gs. most_repaired gs writes indexes) none in
+    let left : cost_but cost events olds new ≡ cost_but cost events old new = ap (λ ns. cost_but cost events ns new) same in
+    let right : cost_but cost events news old ≡ cost_but cost events new old = ap (λ ns. cost_but cost events ns old) same_new in
+    omega (arith, empty, left, right, first, second)

@@ -56,7 +56,7 @@ few w k n (i ∷ is) (s ∷ spans) = by (carries i k) (few w k (n + 1) is spans)
 
 module _ (f : PayloadType → ℕ) (alike : (k l : PayloadType) → same_type k l ≡ true → f k ≡ f l) where
   -- what the groups of which a test holds make
-  abbrev made : (PayloadType → Bool) → List TypeEntries → ℕ
+  abbrev pub made : (PayloadType → Bool) → List TypeEntries → ℕ
   made t [] = 0
   made t (g ∷ gs) = cond (t g.payload_type) (f g.payload_type) 0 + made t gs
 
@@ -107,7 +107,7 @@ module _ (f : PayloadType → ℕ) (alike : (k l : PayloadType) → same_type k 
       let e = sum_by-cons f k ks in
       omega (arith, a, b, c, e)
 
-  made_carried : (i : Interval) (gs : List TypeEntries) → HaveOwnTypes gs → made (carries i) gs ≤ sum_by f (types_of i.payloads)
+  pub made_carried : (i : Interval) (gs : List TypeEntries) → HaveOwnTypes gs → made (carries i) gs ≤ sum_by f (types_of i.payloads)
   made_carried i gs d =
       let a = made_same (carries i) (λ t. list_any (λ k. same_type k t) (types_of i.payloads)) gs (λ t. sym (types_carried t i.payloads)) in
       let b = made_any (types_of i.payloads) gs d in

@@ -1,5 +1,5 @@
 -- Where the events of a program come and go as it changes.
-use Rattle.std.proofs.Common.{◌≡◌, ℕ, zero, suc, ◌+◌, ◌<◌, ◌≤◌, ◌==◌, ◌&&◌, ◌||◌, ◌⊎◌, inl, inr, Bool, true, false, not, List, [], ◌∷◌, ◌++◌, length, set, get_or, filter, slice_get, Option, Some, None, is_some, refl, ap, sym, subst, ◌∙◌, arith, eqb-true, eq-eqb}
+use Rattle.std.proofs.Common.{◌≡◌, ℕ, zero, suc, ◌+◌, ◌<◌, ◌≤◌, ◌==◌, ◌&&◌, ◌||◌, ◌⊎◌, inl, inr, Bool, true, false, not, List, [], ◌∷◌, ◌++◌, length, set, get_or, filter, slice_get, Option, Some, is_some, refl, ap, sym, subst, ◌∙◌, arith, eqb-true, eq-eqb}
 use Rattle.std.proofs.lemmas.Bool.{both_ways, false_from_ne_true}
 use Rattle.std.proofs.lemmas.List.{get_or-set_same, get_or-set_other, length-set}
 use Rattle.std.proofs.lemmas.Option.{slice_get_within}
@@ -20,6 +20,7 @@ use Rattle.adr_schedule.specs.Seating.{Seating, AreSeatedFor}
 use Rattle.adr_schedule.proofs.Numbered.{one_or_other}
 use Rattle.adr_regroup.specs.Party.{AreSeatedBut}
 use Rattle.adr_regroup.specs.Program.{with_program, AreMarked, AreThoseMarked, IsMarking}
+use Rattle.adr_regroup.proofs.Sums.{more_stand, none_stand, same_stand}
 use Rattle.adr_regroup.proofs.Applying.{among_applying, among_filter, scenes}
 
 -- ---- marks
@@ -60,7 +61,7 @@ passed_next was marks places rest more place whole outside h = record {
 -- ---- the places that are marked
 
 pub none_marked : (marks : List Bool) → AreThoseMarked marks 0 []
-none_marked marks = record { are = λ p h. absurd (omega (arith, h)); before = λ p h. absurd (cc); few = omega arith }
+none_marked marks = record { are = λ p h. absurd (omega (arith, h)); before = λ p h. absurd (cc); few = omega arith; once = none_stand 0 }
 
 module _ (marks : List Bool) (place : ℕ) (places : List ℕ) (h : AreThoseMarked marks place places) where
   at_end : (p : ℕ) → is_among (places ++ place ∷ []) p ≡ (is_among places p || (place == p))
@@ -89,6 +90,7 @@ module _ (marks : List Bool) (place : ℕ) (places : List ℕ) (h : AreThoseMark
     are = λ p l. at_end p ∙ are p l (one_or_other p place);
     before = λ p t. before p (sym (at_end p) ∙ t);
     few = grown;
+    once = more_stand places place h.once;
   }
     where
       are : (p : ℕ) → p < place + 1 → (p ≡ place) ⊎ (p ≡ place → ⊥) → (is_among places p || (place == p)) ≡ get_or marks p false
@@ -119,7 +121,8 @@ module _ (marks : List Bool) (place : ℕ) (places : List ℕ) (h : AreThoseMark
   is_not_marked unset = record {
     are = λ p l. are p l (one_or_other p place);
     before = λ p t. let l = h.before p t in omega (arith, l);
-    few = let f = h.few in omega (arith, f);
+    few = (let f = h.few in omega (arith, f));
+    once = same_stand places place h.once;
   }
     where
       are : (p : ℕ) → p < place + 1 → (p ≡ place) ⊎ (p ≡ place → ⊥) → is_among places p ≡ get_or marks p false

@@ -1,2 +1,3 @@
+pub mod Compared
 pub mod Party
 pub mod Program

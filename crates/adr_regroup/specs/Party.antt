@@ -28,6 +28,7 @@ use Rattle.adr_lines.specs.declared.indexes.Indexes.{Indexes}
 use Rattle.adr_schedule.specs.Moves.{is_among}
 use Rattle.adr_schedule.specs.Seating.{has_at, AreRight, Seating}
 use Rattle.adr_group.specs.Repair.{most_possible}
+use Rattle.adr_regroup.specs.Compared.{StandOnce}
 
 -- the numbers of the writes of the events at the places
 abbrev pub numbers_at : List Written → List ℕ → List ℕ
@@ -121,3 +122,4 @@ pub record AreOfVen (book : Book) (id : List ℕ) (reached : ℕ) (places : List
   pub of_ven : (p : ℕ) (r : Resource) → slice_get book.resources p ≡ Some r → p < reached → is_among places p ≡ bytes_eq id r.ven_id
   pub before : (p : ℕ) → is_among places p ≡ true → p < reached
   pub few : length places ≤ reached
+  pub once : StandOnce places reached

@@ -17,6 +17,7 @@ use Rattle.adr_model.specs.Touches.{types_of}
 use Rattle.adr_lines.specs.declared.indexes.Indexes.{Indexes}
 use Rattle.adr_lines.specs.Indexes.{under}
 use Rattle.adr_schedule.specs.Moves.{is_among}
+use Rattle.adr_regroup.specs.Compared.{StandOnce}
 
 -- the edit is of a program
 abbrev pub is_program : Object → Bool
@@ -49,6 +50,7 @@ pub record AreThoseMarked (marks : List Bool) (reached : ℕ) (places : List ℕ
   pub are : (p : ℕ) → p < reached → is_among places p ≡ get_or marks p false
   pub before : (p : ℕ) → is_among places p ≡ true → p < reached
   pub few : length places ≤ reached
+  pub once : StandOnce places reached
 
 -- to build what wins inside one window of the type compares at most so much
 abbrev pub most_under : Indexes → PayloadType → ℕ

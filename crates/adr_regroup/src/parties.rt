@@ -1,12 +1,14 @@
 //! What an edit of a ven or of a resource does to the schedule.
-ghost use Rattle.std.specs.Prelude.{◌≡◌, ◌<◌, ◌∷◌, [], ℕ, true, Ok, length, is_some, slice_get, IfOk};
+ghost use Rattle.std.specs.Prelude.{◌≡◌, ◌≤◌, ◌<◌, ◌∷◌, [], ℕ, true, Ok, length, is_some, slice_get, IfOk, OnOk};
 ghost use Rattle.adr_value.specs.Answer.{OnlyNoMemory};
 ghost use Rattle.adr_model.specs.Book.{resource_by};
 ghost use Rattle.adr_model.specs.Edits.{step};
+ghost use Rattle.adr_model.specs.Touches.{touches};
 ghost use Rattle.adr_audience.specs.Keys.{AreKeysOf};
 ghost use Rattle.adr_lines.specs.Exchange.{IsIndexOf};
 ghost use Rattle.adr_schedule.specs.Place.{LacksPlace, StaysRight};
 ghost use Rattle.adr_schedule.specs.Seating.{AreSeatedFor};
+ghost use Rattle.adr_regroup.specs.Compared.{most_compared_in, most_reseated_at};
 ghost use Rattle.adr_regroup.specs.Party.{is_of_resource, is_of_ven, AreSeatedBut};
 
 use crate::places::places_for;
@@ -44,9 +46,11 @@ pub fn after_ven(
     requires seated { AreSeatedFor tie old.now.objects schedule.now }
     requires begun { meter.old ≡ 0 }
     ensures seated { IfOk result (AreSeatedFor tie new.now.objects) }
+    ensures least { OnOk result (meter.new ≤ most_compared_in new.now.objects (touches old.now.objects new.now.objects)) }
     ensures refusal { OnlyNoMemory result }
 {
     old.book_laws();
+    new.book_laws();
     let places = places_for(alloc, old, edit)?;
     let same = schedule.copy()?;
     let after = reseated_all(alloc, tie, old, new, keys, indexes, same, &places, meter)?;
@@ -74,6 +78,7 @@ fn reseated_at(
     requires seated { AreSeatedBut tie new.now.objects (place ∷ []) schedule }
     requires begun { meter.old ≡ 0 }
     ensures seated { IfOk result (AreSeatedFor tie new.now.objects) }
+    ensures least { OnOk result (meter.new ≤ most_reseated_at new.now.objects schedule place) }
     ensures refusal { OnlyNoMemory result }
 {
     let mut places = Vec::new(alloc);
@@ -121,9 +126,11 @@ pub fn after_resource(
     requires seated { AreSeatedFor tie old.now.objects schedule.now }
     requires begun { meter.old ≡ 0 }
     ensures seated { IfOk result (AreSeatedFor tie new.now.objects) }
+    ensures least { OnOk result (meter.new ≤ most_compared_in new.now.objects (touches old.now.objects new.now.objects)) }
     ensures refusal { OnlyNoMemory result }
 {
     old.book_laws();
+    new.book_laws();
     schedule.schedule_laws();
     match edit {
         Edit::Create(_) => {

@@ -1,5 +1,5 @@
 //! What an edit of a ven or of a resource does to the schedule.
-ghost use Rattle.std.specs.Prelude.{◌≡◌, ◌≤◌, ◌+◌, ◌*◌, ◌<◌, ◌^◌, ◌++◌, ℕ, Some, length, map, IfOk, OnOk};
+ghost use Rattle.std.specs.Prelude.{◌≡◌, ◌≤◌, ◌+◌, ◌*◌, ◌<◌, ◌^◌, ◌++◌, ℕ, List, Some, length, map, IfOk, OnOk};
 ghost use Rattle.adr_value.specs.Answer.{OnlyNoMemory};
 ghost use Rattle.adr_value.specs.declared.payload.PayloadType.{PayloadType as AnyType};
 ghost use Rattle.adr_model.specs.Rank.{ranked};
@@ -7,10 +7,12 @@ ghost use Rattle.adr_audience.specs.Keys.{AreKeysOf};
 ghost use Rattle.adr_stretch.specs.Grouped.{entries_under};
 ghost use Rattle.adr_lines.specs.declared.indexes.Indexes.{Indexes as AnyIndexes};
 ghost use Rattle.adr_group.specs.Group.{AreWindowsOf, Lines};
-ghost use Rattle.adr_group.specs.Repair.{most_possible};
+ghost use Rattle.adr_group.specs.Repair.{most_possible, most_repaired};
 ghost use Rattle.adr_lines.specs.Exchange.{IsIndexOf};
 ghost use Rattle.adr_schedule.specs.Place.{IsRewritten};
 ghost use Rattle.adr_schedule.specs.Seating.{group_at, AreRight};
+ghost use Rattle.adr_model.specs.declared.written.Written.{Written};
+ghost use Rattle.adr_regroup.specs.Compared.{cost_but, cost_unless, IsMostFor};
 ghost use Rattle.adr_regroup.specs.Party.{entries_but, entries_unless, numbers_at as the_numbers_at, AreWritesWith, IsMostOf};
 
 use adr_audience::Audiences;
@@ -70,6 +72,7 @@ fn add_event(
 ) -> Result<(), Refusal>
     ensures entries { OnOk result ((k : AnyType) → entries_under windows.new.items k ≡ entries_under windows.old.items k ++ map (ranked tie) (entries_unless book.now.objects.events others.now number k)) }
     ensures most { OnOk result ((indexes : AnyIndexes) (most : ℕ) → IsMostOf tie book.now.objects.events indexes most → most_possible windows.new.items indexes ≤ most_possible windows.old.items indexes + most) }
+    ensures least { OnOk result ((indexes : AnyIndexes) (writes : List ℕ) (cost : Written → ℕ) → IsMostFor tie book.now.objects.events indexes writes cost → most_repaired windows.new.items writes indexes ≤ most_repaired windows.old.items writes indexes + cost_unless cost book.now.objects.events others.now number) }
     ensures refusal { OnlyNoMemory result }
 {
     if others.has(number) {
@@ -94,6 +97,7 @@ fn add_events(
 ) -> Result<(), Refusal>
     ensures entries { OnOk result ((k : AnyType) → entries_under windows.new.items k ≡ entries_under windows.old.items k ++ map (ranked tie) (entries_but book.now.objects.events numbers.now others.now k)) }
     ensures most { OnOk result ((indexes : AnyIndexes) (most : ℕ) → IsMostOf tie book.now.objects.events indexes most → most_possible windows.new.items indexes ≤ most_possible windows.old.items indexes + length numbers.now * most) }
+    ensures least { OnOk result ((indexes : AnyIndexes) (writes : List ℕ) (cost : Written → ℕ) → IsMostFor tie book.now.objects.events indexes writes cost → most_repaired windows.new.items writes indexes ≤ most_repaired windows.old.items writes indexes + cost_but cost book.now.objects.events numbers.now others.now) }
     ensures refusal { OnlyNoMemory result }
 {
     let mut rest = numbers;
@@ -114,6 +118,7 @@ fn difference(
 ) -> Result<Vec<TypeEntries>, Refusal>
     ensures windows { IfOk result (λ windows. AreWindowsOf book.now.objects.events old.now new.now (entries_under windows.items)) }
     ensures most { IfOk result (λ windows. (indexes : AnyIndexes) (most : ℕ) → IsMostOf tie book.now.objects.events indexes most → most_possible windows.items indexes ≤ (length old.now + length new.now) * most) }
+    ensures least { IfOk result (λ windows. (indexes : AnyIndexes) (writes : List ℕ) (cost : Written → ℕ) → IsMostFor tie book.now.objects.events indexes writes cost → most_repaired windows.items writes indexes ≤ cost_but cost book.now.objects.events old.now new.now + cost_but cost book.now.objects.events new.now old.now) }
     ensures refusal { OnlyNoMemory result }
 {
     book.book_laws();
@@ -140,6 +145,7 @@ pub(crate) fn with_writes(
     ensures writes { IfOk result (λ after. IsRewritten place writes.now schedule.now after) }
     ensures right { IfOk result (λ after. IsIndexOf tie book.now.objects.events indexes.now → AreRight tie book.now.objects.events schedule.now → AreRight tie book.now.objects.events after) }
     ensures compared { (g : Lines) (most : ℕ) → group_at schedule.now place ≡ Some g → IsMostOf tie book.now.objects.events indexes.now most → meter.new ≤ meter.old + (length g.writes + length writes.now) * most }
+    ensures least { (g : Lines) (cost : Written → ℕ) → group_at schedule.now place ≡ Some g → IsMostFor tie book.now.objects.events indexes.now writes.now cost → meter.new ≤ meter.old + (cost_but cost book.now.objects.events g.writes writes.now + cost_but cost book.now.objects.events writes.now g.writes) }
     ensures refusal { OnlyNoMemory result }
 {
     schedule.schedule_laws();

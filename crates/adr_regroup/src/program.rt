@@ -1,15 +1,17 @@
 //! What an edit of a program does to the schedule.
-ghost use Rattle.std.specs.Prelude.{◌≡◌, ◌<◌, ◌≤◌, ◌+◌, [], ℕ, Some, Ok, not, true, filter, is_some, length, IfOk, OnOk};
+ghost use Rattle.std.specs.Prelude.{◌≡◌, ◌<◌, ◌≤◌, ◌+◌, [], ℕ, Some, Ok, not, true, filter, is_some, length, sum_by, IfOk, OnOk};
 ghost use Rattle.std.specs.List.Sorted.{IsStrictlyIncreasing};
 ghost use Rattle.adr_value.specs.Answer.{OnlyNoMemory};
 ghost use Rattle.adr_model.specs.Book.{program_by};
 ghost use Rattle.adr_model.specs.Edits.{step};
+ghost use Rattle.adr_model.specs.Touches.{touches};
 ghost use Rattle.adr_object.specs.declared.object.Edit.TheVariants.{Change as change_to};
 ghost use Rattle.adr_audience.specs.Keys.{AreKeysOf};
 ghost use Rattle.adr_audience.specs.Laws.{applying_places};
 ghost use Rattle.adr_lines.specs.Exchange.{IsIndexOf};
 ghost use Rattle.adr_schedule.specs.Moves.{is_among};
 ghost use Rattle.adr_schedule.specs.Seating.{AreSeatedFor};
+ghost use Rattle.adr_regroup.specs.Compared.{most_compared_in, most_reseated_at};
 ghost use Rattle.adr_regroup.specs.Party.{AreSeatedBut};
 ghost use Rattle.adr_regroup.specs.Program.{is_of_program, is_program, with_program, AreMarked, AreThoseMarked, IsMarking};
 
@@ -196,6 +198,7 @@ fn reseated(
     requires seated { AreSeatedBut tie new.now.objects places.now schedule.now }
     requires begun { meter.old ≡ 0 }
     ensures seated { IfOk result (AreSeatedFor tie new.now.objects) }
+    ensures least { OnOk result (meter.new ≤ sum_by (most_reseated_at new.now.objects schedule.now) places.now) }
     ensures refusal { OnlyNoMemory result }
 {
     new.book_laws();
@@ -227,8 +230,11 @@ fn after_change(
     requires seated { AreSeatedFor tie old.now.objects schedule.now }
     requires begun { meter.old ≡ 0 }
     ensures seated { IfOk result (AreSeatedFor tie new.now.objects) }
+    ensures least { OnOk result (meter.new ≤ most_compared_in new.now.objects (touches old.now.objects new.now.objects)) }
     ensures refusal { OnlyNoMemory result }
 {
+    old.book_laws();
+    new.book_laws();
     let Some(was) = old.program(&program.id) else {
         unreachable!();
     };
@@ -257,6 +263,7 @@ fn after_object(
     requires seated { AreSeatedFor tie old.now.objects schedule.now }
     requires begun { meter.old ≡ 0 }
     ensures seated { IfOk result (AreSeatedFor tie new.now.objects) }
+    ensures least { OnOk result (meter.new ≤ most_compared_in new.now.objects (touches old.now.objects new.now.objects)) }
     ensures refusal { OnlyNoMemory result }
 {
     match object {
@@ -296,6 +303,7 @@ pub fn after_program(
     requires seated { AreSeatedFor tie old.now.objects schedule.now }
     requires begun { meter.old ≡ 0 }
     ensures seated { IfOk result (AreSeatedFor tie new.now.objects) }
+    ensures least { OnOk result (meter.new ≤ most_compared_in new.now.objects (touches old.now.objects new.now.objects)) }
     ensures refusal { OnlyNoMemory result }
 {
     old.book_laws();

@@ -1,5 +1,5 @@
 //! Places get the writes of the events that apply to their resources now.
-ghost use Rattle.std.specs.Prelude.{◌≡◌, ◌<◌, ◌≤◌, ◌+◌, ◌*◌, ◌^◌, ◌∷◌, [], ℕ, true, Some, length, IfOk};
+ghost use Rattle.std.specs.Prelude.{◌≡◌, ◌<◌, ◌≤◌, ◌+◌, ◌*◌, ◌^◌, ◌∷◌, [], ℕ, true, Some, length, sum_by, IfOk, OnOk};
 ghost use Rattle.std.specs.List.Sorted.{IsStrictlyIncreasing};
 ghost use Rattle.adr_value.specs.Answer.{OnlyNoMemory};
 ghost use Rattle.adr_audience.specs.Keys.{AreKeysOf};
@@ -7,6 +7,7 @@ ghost use Rattle.adr_group.specs.Group.{Lines};
 ghost use Rattle.adr_lines.specs.Exchange.{IsIndexOf};
 ghost use Rattle.adr_schedule.specs.Moves.{is_among};
 ghost use Rattle.adr_schedule.specs.Seating.{group_at, AreSeatedFor};
+ghost use Rattle.adr_regroup.specs.Compared.{most_reseated_at};
 ghost use Rattle.adr_regroup.specs.Party.{most_reseated, AreSeatedBut, AreWritesAt, KeepsEvents};
 
 use crate::party::{with_writes, writes_for};
@@ -109,6 +110,8 @@ fn reseated(
     requires room { meter.old + most_reseated < 2 ^ 128 }
     ensures seated { IfOk result (AreSeatedBut tie new.now.objects others.now) }
     ensures compared { meter.new ≤ meter.old + most_reseated }
+    ensures least { OnOk result (meter.new ≤ meter.old + most_reseated_at new.now.objects schedule.now place) }
+    ensures fewer { IfOk result (λ after. (p : ℕ) → most_reseated_at new.now.objects after p ≤ most_reseated_at new.now.objects schedule.now p) }
     ensures refusal { OnlyNoMemory result }
 {
     new.book_laws();
@@ -145,6 +148,7 @@ pub(crate) fn reseated_all(
     requires room { meter.old + length places.now * most_reseated < 2 ^ 128 }
     ensures seated { IfOk result (AreSeatedFor tie new.now.objects) }
     ensures compared { meter.new ≤ meter.old + length places.now * most_reseated }
+    ensures least { OnOk result (meter.new ≤ meter.old + sum_by (most_reseated_at new.now.objects schedule) places.now) }
     ensures refusal { OnlyNoMemory result }
 {
     let mut after = schedule;

@@ -1,3 +1,4 @@
+pub mod Least
 pub mod Numbered
 pub mod Places
 pub mod Seated

@@ -110,7 +110,7 @@ module _ (writes : List ℕ) (n : ℕ) where
           other true f = absurd (both_ways (has_number writes n) h (subst (λ m. has_number writes m ≡ true) (eqb-true s.written n f) e))
 
 -- numbers shifted by the sides that make a difference are shifted by all
-changed_shifted : (change : Change) (writes : List ℕ) → AreTwo change → (n : ℕ)
+pub changed_shifted : (change : Change) (writes : List ℕ) → AreTwo change → (n : ℕ)
     → changed_number (number_in (kept_side true writes change.gone)) (number_in (kept_side false writes change.come)) writes n
     ≡ shifted (number_in change.gone) (number_in change.come) (has_number writes n) n
 changed_shifted change writes two n = by (is_number (number_in change.come) n) refl (is_number (number_in change.gone) n) refl (has_number writes n) refl

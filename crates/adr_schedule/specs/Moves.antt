@@ -1,6 +1,7 @@
 -- Places move to slots of other values.
-use Rattle.std.specs.Prelude.{◌≡◌, ◌==◌, ◌⊎◌, ℕ, Bool, true, false, List, [], ◌∷◌, length, set, Option, Some}
+use Rattle.std.specs.Prelude.{◌≡◌, ◌==◌, ◌⊎◌, ℕ, Bool, true, false, List, [], ◌∷◌, length, set, slice_get, is_some, Option, Some, None, if◌then◌else◌}
 use Rattle.std.specs.List.{list_any}
+use Rattle.std.specs.Option.{option_map_or}
 use Rattle.adr_shared.specs.Map.{without}
 use Rattle.adr_schedule.specs.Slots.{in_slot, is_taken, value_at, AreSeated}
 
@@ -34,3 +35,27 @@ IsSat seats place slot next values others after =
     ((next ≡ slot) × (others ≡ seats) × (after ≡ values))
     ⊎ ((next ≡ slot → ⊥) × (others ≡ set seats place next)
     × (((is_taken others slot ≡ true) × (after ≡ values)) ⊎ ((is_taken others slot ≡ false) × (after ≡ without (slot ∷ []) values))))
+
+-- ---- what is asked for where places move
+
+-- by the value of the place
+abbrev pub asked_at : {G : Type 0} → (G → ℕ) → List ℕ → List (List ℕ × G) → ℕ → ℕ
+asked_at cost seats values place = option_map_or cost (value_at seats values place) 0
+
+-- by the value in the slot, unless it is known where its members go
+abbrev pub asked_in : {G : Type 0} → (G → ℕ) → List (List ℕ × G) → List (List ℕ × ℕ) → ℕ → ℕ
+asked_in cost values slots slot = if is_some (in_slot slots slot) then 0 else option_map_or cost (in_slot values slot) 0
+
+-- by the value in the place's slot, unless it is known where its members go
+abbrev pub asked_by : {G : Type 0} → (G → ℕ) → List ℕ → List (List ℕ × G) → List (List ℕ × ℕ) → ℕ → ℕ
+asked_by cost seats values slots place = option_map_or (asked_in cost values slots) (slice_get seats place) 0
+
+-- a slot of which it is not known where its members go has the value that it had, and it was not known before
+abbrev pub KeepsUnknown : {G : Type 0} → List (List ℕ × G) → List (List ℕ × ℕ) → List (List ℕ × G) → List (List ℕ × ℕ) → Type 0
+KeepsUnknown values slots after later = (slot : ℕ) → in_slot later slot ≡ None → (in_slot slots slot ≡ None) × (in_slot after slot ≡ in_slot values slot)
+
+-- and a place that has such a slot had it
+abbrev pub AreUnmoved : {G : Type 0} → List ℕ → List (List ℕ × G) → List (List ℕ × ℕ) → List ℕ → List (List ℕ × G) → List (List ℕ × ℕ) → Type 0
+AreUnmoved seats values slots others after later =
+    (place slot : ℕ) → slice_get others place ≡ Some slot → in_slot later slot ≡ None
+    → (slice_get seats place ≡ Some slot) × (in_slot slots slot ≡ None) × (in_slot after slot ≡ in_slot values slot)

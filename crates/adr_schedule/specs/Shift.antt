@@ -1,5 +1,5 @@
 -- What becomes of a group where an event goes or comes.
-use Rattle.std.specs.Prelude.{◌≡◌, ◌⊎◌, ℕ, Bool, true, false, List, [], ◌++◌, map, Option, Some, None, option_map, if◌then◌else◌}
+use Rattle.std.specs.Prelude.{◌≡◌, ◌⊎◌, ℕ, Bool, true, false, List, [], ◌++◌, map, filter, Option, Some, None, option_map, option_to_list, if◌then◌else◌}
 use Rattle.adr_value.specs.declared.payload.PayloadType.{PayloadType}
 use Rattle.adr_model.specs.declared.entry.Tie.{Tie}
 use Rattle.adr_model.specs.declared.written.Written.{Written}
@@ -13,10 +13,12 @@ use Rattle.adr_stretch.specs.Grouped.{entries_under}
 use Rattle.adr_stretch.specs.Right.{has_number}
 use Rattle.adr_group.specs.Group.{Lines, IsRightOf}
 pub use Rattle.adr_group.specs.Repair.{most_possible}
-use Rattle.adr_group.specs.Writes.{is_number}
+use Rattle.adr_group.specs.Repair.{most_repaired}
+use Rattle.adr_group.specs.Writes.{is_number, stays}
 use Rattle.adr_schedule.specs.declared.change.Change.{Change}
 use Rattle.adr_schedule.specs.declared.change.Side.{Side}
-use Rattle.adr_schedule.specs.Seating.{shifted}
+use Rattle.adr_schedule.specs.Moves.{asked_at}
+use Rattle.adr_schedule.specs.Seating.{shifted, Seating}
 
 -- the number of an event that goes or comes
 abbrev pub number_in : Option Side → Option ℕ
@@ -53,3 +55,19 @@ pub record Becomes (change : Change) (indexes : Indexes) (g h : Lines) : Type 0 
 -- the entries of both
 abbrev pub sides_of : Change → List TypeEntries
 sides_of change = entries_in change.gone ++ entries_in change.come
+
+-- the entries of those that make a difference to a group of these writes
+abbrev pub sides_for : Change → List ℕ → List TypeEntries
+sides_for change writes = entries_in (kept_side true writes change.gone) ++ entries_in (kept_side false writes change.come)
+
+-- the writes without the one that goes and with the one that comes
+abbrev pub shifted_writes : Change → List ℕ → List ℕ
+shifted_writes change writes = option_to_list (number_in change.come) ++ filter (stays (number_in change.gone)) writes
+
+-- to repair the group where the change makes a difference to it
+unfoldable pub most_shifted : Change → Indexes → Lines → ℕ
+most_shifted change indexes g = most_repaired (sides_for change g.writes) (shifted_writes change g.writes) indexes
+
+-- to repair the group of the place
+abbrev pub most_at : Change → Indexes → Seating → ℕ → ℕ
+most_at change indexes s place = asked_at (most_shifted change indexes) s.seats s.groups place

@@ -7,7 +7,7 @@ ghost use Rattle.adr_shared.specs.Map.{without};
 ghost use Rattle.adr_stretch.specs.Grouped.{entries_under};
 ghost use Rattle.adr_lines.specs.Exchange.{IsIndexOf};
 ghost use Rattle.adr_group.specs.Group.{AreWindowsOf, IsRightOf, Lines};
-ghost use Rattle.adr_group.specs.Repair.{most_possible};
+ghost use Rattle.adr_group.specs.Repair.{most_possible, most_repaired};
 ghost use Rattle.adr_schedule.specs.Place.{HasPlace, HasValue, IsPlaced, IsRewritten, IsSlotWith, LacksPlace, StaysRight, StaysRightInside};
 ghost use Rattle.adr_schedule.specs.Seating.{group_at};
 ghost use Rattle.adr_schedule.specs.Slots.{in_slot, is_taken};
@@ -53,6 +53,7 @@ fn remade(
     ensures writes { IfOk result (λ made. made.writes ≡ writes.now) }
     ensures right { IfOk result (λ made. (tie : Tie) (events : List Written) → IsIndexOf tie events indexes.now → AreWindowsOf events group.now.writes writes.now (entries_under windows.now) → IsRightOf tie events group.now → IsRightOf tie events made) }
     ensures compared { meter.new ≤ meter.old + most_possible windows.now indexes.now }
+    ensures least { meter.new ≤ meter.old + most_repaired windows.now writes.now indexes.now }
     ensures refusal { OnlyNoMemory result }
 {
     repairs_compare_little();
@@ -178,6 +179,7 @@ impl Schedule {
         ensures writes { IfOk result (λ after. IsRewritten place writes.now self.now after) }
         ensures right { IfOk result (λ after. StaysRightInside indexes.now windows.now place writes.now self.now after) }
         ensures compared { meter.new ≤ meter.old + most_possible windows.now indexes.now }
+        ensures least { meter.new ≤ meter.old + most_repaired windows.now writes.now indexes.now }
         ensures refusal { OnlyNoMemory result }
     {
         let Some(slot) = self.seats.slot(place) else {

@@ -1,10 +1,10 @@
 //! An event goes and another comes, for some places.
-ghost use Rattle.std.specs.Prelude.{◌≡◌, ◌<◌, ◌≤◌, ◌+◌, ◌*◌, ◌^◌, ◌∷◌, ◌++◌, [], List, true, false, Some, None, length, slice_get, IfOk, OnOk, MatchOption};
-ghost use Rattle.std.specs.Option.{option_copied};
+ghost use Rattle.std.specs.Prelude.{◌≡◌, ◌<◌, ◌≤◌, ◌+◌, ◌*◌, ◌^◌, ◌∷◌, ◌++◌, [], List, true, false, Some, None, length, slice_get, sum_by, IfOk, OnOk, MatchOption};
+ghost use Rattle.std.specs.Option.{option_copied, option_map_or};
 ghost use Rattle.adr_value.specs.Answer.{OnlyNoMemory};
 ghost use Rattle.adr_group.specs.Group.{Lines};
-ghost use Rattle.adr_schedule.specs.Moves.{is_among, AreMoved, AreMoving, IsNext};
-ghost use Rattle.adr_schedule.specs.Shift.{entries_in, kept_side, most_possible, number_in, sides_of, AreSidesOf, AreTwo, Becomes};
+ghost use Rattle.adr_schedule.specs.Moves.{asked_at, asked_by, asked_in, is_among, AreMoved, AreMoving, AreUnmoved, IsNext, KeepsUnknown};
+ghost use Rattle.adr_schedule.specs.Shift.{entries_in, kept_side, most_at, most_possible, most_shifted, number_in, sides_of, AreSidesOf, AreTwo, Becomes};
 ghost use Rattle.adr_shared.specs.Map.{put};
 ghost use Rattle.adr_schedule.specs.Slots.{is_taken, AreSeated};
 ghost use Rattle.adr_schedule.specs.Seating.{AreRight, IsShifted};
@@ -74,6 +74,7 @@ fn variant(
     requires room { meter.old + most_possible (sides_of change.now) indexes.now < 2 ^ 128 }
     ensures becomes { IfOk result (λ made. MatchOption made (Becomes change.now indexes.now group.now group.now) (λ h. Becomes change.now indexes.now group.now h)) }
     ensures compared { meter.new ≤ meter.old + most_possible (sides_of change.now) indexes.now }
+    ensures least { OnOk result (meter.new ≤ meter.old + most_shifted change.now indexes.now group.now) }
     ensures refusal { OnlyNoMemory result }
 {
     let gone = leaving(group.writes(), &change.gone);
@@ -100,6 +101,7 @@ fn becoming(
     ensures becomes { IfOk result (λ made. (g : Lines) → option_copied group.entry ≡ Some g → MatchOption made (Becomes change.now indexes.now g g) (λ h. Becomes change.now indexes.now g h)) }
     ensures nothing { IfOk result (λ made. option_copied group.entry ≡ None → made ≡ None) }
     ensures compared { meter.new ≤ meter.old + most_possible (sides_of change.now) indexes.now }
+    ensures least { OnOk result (meter.new ≤ meter.old + option_map_or (most_shifted change.now indexes.now) (option_copied group.entry) 0) }
     ensures refusal { OnlyNoMemory result }
 {
     match group {
@@ -152,8 +154,10 @@ fn next_slot(
 ) -> Result<Next, Refusal>
     requires two { AreTwo change.now }
     requires room { meter.old + most_possible (sides_of change.now) indexes.now < 2 ^ 128 }
+    ensures keeps { IfOk result (λ next. KeepsUnknown moves.now.values moves.now.slots next.moves.values next.moves.slots) }
     ensures next { IfOk result (λ next. AreMoving (Becomes change.now indexes.now) seats.now moves.now.values moves.now.slots → IsNext (Becomes change.now indexes.now) seats.now moves.now.values next.moves.values next.moves.slots slot next.slot) }
     ensures compared { meter.new ≤ meter.old + most_possible (sides_of change.now) indexes.now }
+    ensures least { OnOk result (meter.new ≤ meter.old + asked_in (most_shifted change.now indexes.now) moves.now.values moves.now.slots slot) }
     ensures refusal { OnlyNoMemory result }
 {
     if let Some(next) = moves.next(slot) {
@@ -181,8 +185,10 @@ fn move_place(
     requires room { meter.old + most_possible (sides_of change.now) indexes.now < 2 ^ 128 }
     requires moving { AreMoving (Becomes change.now indexes.now) seats.old moves.now.values moves.now.slots }
     ensures moving { IfOk result (λ after. AreMoving (Becomes change.now indexes.now) seats.new after.values after.slots) }
+    ensures unmoved { IfOk result (λ after. AreUnmoved seats.old moves.now.values moves.now.slots seats.new after.values after.slots) }
     ensures moved { IfOk result (λ after. AreMoved (Becomes change.now indexes.now) (is_among (place ∷ [])) seats.old moves.now.values seats.new after.values) }
     ensures compared { meter.new ≤ meter.old + most_possible (sides_of change.now) indexes.now }
+    ensures least { OnOk result (meter.new ≤ meter.old + asked_by (most_shifted change.now indexes.now) seats.old moves.now.values moves.now.slots place) }
     ensures refusal { OnlyNoMemory result }
 {
     let Some(slot) = seats.slot(place) else {
@@ -209,6 +215,7 @@ fn move_all(
     ensures seated { IfOk result (λ after. AreSeated seats.new after.values) }
     ensures moved { IfOk result (λ after. AreMoved (Becomes change.now indexes.now) (is_among places.now) seats.old groups seats.new after.values) }
     ensures compared { meter.new ≤ meter.old + length places.now * most_possible (sides_of change.now) indexes.now }
+    ensures least { OnOk result (meter.new ≤ meter.old + sum_by (asked_at (most_shifted change.now indexes.now) seats.old groups) places.now) }
     ensures refusal { OnlyNoMemory result }
 {
     let mut moves = Moves::new(groups);
@@ -239,6 +246,7 @@ impl Schedule {
         ensures shifted { IfOk result (λ after. IsShifted (number_in change.now.gone) (number_in change.now.come) places.now self.now after) }
         ensures right { IfOk result (λ after. (tie : Tie) (events : List Written) → IsIndexOf tie events indexes.now → AreSidesOf tie events change.now → AreRight tie events self.now → AreRight tie events after) }
         ensures compared { meter.new ≤ meter.old + length places.now * most_possible (sides_of change.now) indexes.now }
+        ensures least { OnOk result (meter.new ≤ meter.old + sum_by (most_at change.now indexes.now self.now) places.now) }
         ensures refusal { OnlyNoMemory result }
     {
         let mut seats = self.seats.copy()?;

@@ -21,4 +21,5 @@ pub use laws::{
 };
 pub use log::{ReadLog, WriteLog};
 pub use machine::{Machine, Unanswered};
+pub use output::write_fully;
 pub use reading::serve;

@@ -85,7 +85,11 @@ impl Waiting {
 }
 
 /// Writes all the bytes. At `Err` some of them were written, from the front on.
-fn write_fully<W: Write>(log: &mut WriteLog, writer: &mut W, bytes: &[u8]) -> Result<(), Fault>
+///
+/// # Errors
+///
+/// `Writing` where the writer failed or took no byte. An interrupted write is tried again.
+pub fn write_fully<W: Write>(log: &mut WriteLog, writer: &mut W, bytes: &[u8]) -> Result<(), Fault>
     ensures ok { OnOk result (Appends (W.contents writer.old) (W.contents writer.new) bytes.now) }
     ensures err { OnErr result ((part : List ℕ) × (more : List ℕ) × (bytes.now ≡ part ++ more)
         × Appends (W.contents writer.old) (W.contents writer.new) part) }

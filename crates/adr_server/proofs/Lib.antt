@@ -1,4 +1,5 @@
 mod Digits
+mod Editing
 mod Fans
 mod Headline
 mod Journals

@@ -4,5 +4,6 @@ pub mod Kept
 pub mod Larger
 pub mod Laws
 pub mod Line
+pub mod Shown
 pub mod Text
 pub mod Views

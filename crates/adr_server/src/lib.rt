@@ -2,6 +2,7 @@
 //! The script: lines to commands, commands to replies, and a whole run over any reader and writer.
 
 mod command;
+mod edited;
 mod fields;
 mod laws;
 mod line;
@@ -17,4 +18,5 @@ pub use command::Command;
 pub use laws::{fan_laws, least_matching_interval_governs, limit_laws};
 pub use line::parse_line;
 pub use program::{run, run_logged};
+pub use replies::{put_condensed, put_ok, put_published, put_refusal};
 pub use resolver::Resolver;

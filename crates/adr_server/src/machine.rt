@@ -17,8 +17,7 @@ use std::marker::Model;
 use std::sync::Wait;
 use std::thread::Threads;
 
-/// Answers a script's lines from a resolver.
-#[derive(Drop)]
+/// Answers a script's lines from a resolver. It is not `Drop`: end it by `into_resolver`.
 pub(crate) struct ScriptOf<R: Resolver> {
     resolver: R,
 }
@@ -37,6 +36,12 @@ impl<R: Resolver> ScriptOf<R> {
         ensures { result ≡ R.kept resolver }
     {
         ScriptOf { resolver }
+    }
+
+    /// The resolver, once there are no more lines.
+    pub(crate) fn into_resolver(self) -> R {
+        let ScriptOf { resolver } = self;
+        resolver
     }
 
     /// Makes an edit.
@@ -61,7 +66,7 @@ impl<R: Resolver> ScriptOf<R> {
     }
 
     /// Publishes the objects as they are.
-    fn publish(&mut self, reply: &mut Vec<u8>) -> Result<(), Unanswered>
+    fn publish<H: Wait>(&mut self, rt: &H, reply: &mut Vec<u8>) -> Result<(), Unanswered>
         requires empty { reply.old.items ≡ [] }
         requires room { 64 ≤ vec_capacity reply.old }
         ensures reply { OnOk result (reply.new.items ≡ kept_command_reply self.old PublishCommand) }
@@ -69,7 +74,7 @@ impl<R: Resolver> ScriptOf<R> {
         ensures err { OnErr result ((self.new ≡ self.old) × (result ≡ Err Unanswered.NoMemory)) }
         ensures room { 64 ≤ vec_capacity reply.new }
     {
-        match self.resolver.publish() {
+        match self.resolver.publish(rt) {
             Ok(published) => put_published(reply, published.number, published.version),
             Err(refusal) => {
                 if refusal == Refusal::NoMemory {
@@ -203,7 +208,7 @@ impl<R: Resolver> Machine for ScriptOf<R> {
     ) -> Result<(), Unanswered> {
         match parse_line(rt.alloc(), line) {
             Ok(Command::Edit(edit)) => self.edit(edit, reply),
-            Ok(Command::Publish) => self.publish(reply),
+            Ok(Command::Publish) => self.publish(rt, reply),
             Ok(Command::Condense) => self.condense(reply),
             Ok(Command::At(id, payload_type, moment)) => self.at(&id, &payload_type, moment, reply),
             Ok(Command::List(id, payload_type, from, to)) => self.list(

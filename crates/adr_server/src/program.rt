@@ -7,11 +7,13 @@ ghost use Rattle.adr_script.specs.Script.{Moves};
 ghost use Rattle.adr_script.specs.Text.{IsText, IsTextInPart};
 ghost use Rattle.adr_server.specs.Text.{script_reply, script_next, script_start};
 
+use crate::edited::Edited;
 use crate::machine::ScriptOf;
+use adr_board::{Naming, NewBoard};
 use adr_model::Tie;
-use adr_plain::Plain;
 use adr_script::{Fault, ReadLog, WriteLog, serve};
 use std::io::{Read, Write};
+use std::marker::Brand;
 use std::sync::Wait;
 use std::thread::Threads;
 
@@ -25,7 +27,7 @@ use std::thread::Threads;
 /// # Errors
 ///
 /// `Reading` and `Writing` where the reader or writer failed or took no byte, `Reads` after 4,294,967,296 reads,
-/// `Runtime` where there was no memory to start with.
+/// `Runtime` where a board could not be opened, for want of memory or of a reader's place.
 pub fn run<R: Read, W: Write>(
     rt: &(impl AllocGlobal + Threads + Wait),
     reader: &mut R,
@@ -107,6 +109,57 @@ pub fn run_logged<R: Read, W: Write>(
     ensures write_failed { IsErrOf result Fault.Writing → has_write_failed writes.new ≡ true }
 {
     let _ = workers;
-    let mut machine = ScriptOf::new(Plain::new(rt.alloc(), tie));
-    serve(rt, reader, reads, writer, writes, &mut machine)
+    run_on::<Brand, _, R, W>(rt, NewBoard::new(), reader, reads, writer, writes, tie)
+}
+
+/// The same on this board, which is ended before it answers.
+fn run_on<J: Naming, H: AllocGlobal + Threads + Wait, R: Read, W: Write>(
+    rt: &H,
+    board: NewBoard,
+    reader: &mut R,
+    reads: &mut ReadLog,
+    writer: &mut W,
+    writes: &mut WriteLog,
+    tie: Tie,
+) -> Result<(), Fault>
+    requires history { board.diary.page.book ≡ J.history }
+    requires made { reads_made reads.old ≡ 0 }
+    requires no_read { has_read_failed reads.old ≡ false }
+    requires no_write { has_write_failed writes.old ≡ false }
+
+    // All was read, and what was written is the text of it.
+    ensures ok { OnOk result (Moves (R.remaining reader.old) (R.remaining reader.new) (W.contents writer.old) (W.contents writer.new)
+        (λ bytes out. IsText script_reply script_next (script_start tie) (all_lines bytes) out)) }
+    ensures end { OnOk result (IsAtEnd (R.remaining reader.new)) }
+
+    // The lines that were complete are answered, and the begun one isn't.
+    ensures reading { IsErrOf result Fault.Reading → Moves (R.remaining reader.old) (R.remaining reader.new) (W.contents writer.old) (W.contents writer.new)
+        (λ bytes out. IsText script_reply script_next (script_start tie) (complete_lines bytes) out) }
+    ensures reads { IsErrOf result Fault.Reads → Moves (R.remaining reader.old) (R.remaining reader.new) (W.contents writer.old) (W.contents writer.new)
+        (λ bytes out. IsText script_reply script_next (script_start tie) (complete_lines bytes) out) }
+
+    // The text stops somewhere.
+    ensures writing { IsErrOf result Fault.Writing → Moves (R.remaining reader.old) (R.remaining reader.new) (W.contents writer.old) (W.contents writer.new)
+        (λ bytes out. IsTextInPart script_reply script_next (script_start tie) (all_lines bytes) out) }
+
+    // Nothing was read or written.
+    ensures runtime { IsErrOf result Fault.Runtime → Keeps (R.remaining reader.old) (R.remaining reader.new)
+        × Keeps (W.contents writer.old) (W.contents writer.new) }
+
+    // What the reads and writes met.
+    ensures bound { reads_made reads.new ≤ 2 ^ 32 }
+    ensures ended { OnOk result (has_ended reads.new ≡ true) }
+    ensures read_ends { has_read_failed reads.new ≡ true → result ≡ Err Fault.Reading }
+    ensures write_ends { has_write_failed writes.new ≡ true → result ≡ Err Fault.Writing }
+    ensures read_failed { IsErrOf result Fault.Reading → has_read_failed reads.new ≡ true }
+    ensures no_more_reads { IsErrOf result Fault.Reads → reads_made reads.new ≡ 2 ^ 32 }
+    ensures write_failed { IsErrOf result Fault.Writing → has_write_failed writes.new ≡ true }
+{
+    let Ok(edited) = Edited::<J>::open(rt.alloc(), rt, board, tie) else {
+        return Err(Fault::Runtime);
+    };
+    let mut machine = ScriptOf::new(edited);
+    let served = serve(rt, reader, reads, writer, writes, &mut machine);
+    machine.into_resolver().close(rt);
+    served
 }

@@ -31,8 +31,8 @@ fn put_number(reply: &mut Vec<u8>, number: u64)
     put(reply, buffer.format(number).as_bytes());
 }
 
-/// `refused 22 Exists`
-pub(crate) fn put_refusal(reply: &mut Vec<u8>, refusal: Refusal)
+/// Puts `refused 22 Exists` into an empty reply with room for 64 bytes.
+pub fn put_refusal(reply: &mut Vec<u8>, refusal: Refusal)
     requires empty { vec_len reply.old ≡ 0 }
     requires room { 64 ≤ vec_capacity reply.old }
     ensures items { reply.new.items ≡ reply.old.items ++ refusal_line refusal }
@@ -45,8 +45,8 @@ pub(crate) fn put_refusal(reply: &mut Vec<u8>, refusal: Refusal)
     put(reply, b"\n");
 }
 
-/// `ok 4`
-pub(crate) fn put_ok(reply: &mut Vec<u8>, version: u64)
+/// Puts `ok 4` into such a reply.
+pub fn put_ok(reply: &mut Vec<u8>, version: u64)
     requires small { version < 10 ^ 13 }
     requires empty { vec_len reply.old ≡ 0 }
     requires room { 64 ≤ vec_capacity reply.old }
@@ -58,8 +58,8 @@ pub(crate) fn put_ok(reply: &mut Vec<u8>, version: u64)
     put(reply, b"\n");
 }
 
-/// `published 1 version 4`
-pub(crate) fn put_published(reply: &mut Vec<u8>, number: u64, version: u64)
+/// Puts `published 1 version 4` into such a reply.
+pub fn put_published(reply: &mut Vec<u8>, number: u64, version: u64)
     requires number { number < 10 ^ 13 }
     requires version { version < 10 ^ 13 }
     requires empty { vec_len reply.old ≡ 0 }
@@ -74,8 +74,8 @@ pub(crate) fn put_published(reply: &mut Vec<u8>, number: u64, version: u64)
     put(reply, b"\n");
 }
 
-/// `condensed version 4`
-pub(crate) fn put_condensed(reply: &mut Vec<u8>, version: u64)
+/// Puts `condensed version 4` into such a reply.
+pub fn put_condensed(reply: &mut Vec<u8>, version: u64)
     requires small { version < 10 ^ 13 }
     requires empty { vec_len reply.old ≡ 0 }
     requires room { 64 ≤ vec_capacity reply.old }

@@ -11,13 +11,14 @@ use adr_object::{Edit, Id};
 use adr_plain::{Plain, Published};
 use adr_time::Moment;
 use adr_value::{PayloadType, Refusal};
+use std::sync::Wait;
 
 /// What answers the commands of a script: it keeps the objects that the edits left and those that were published last,
 /// and answers queries from the latter.
 ///
 /// An implementer says by `kept` what it shows of the machine of edits and publications. `NoMemory` may come in place
 /// of any answer, and a refusal changes nothing.
-pub trait Resolver: Drop {
+pub trait Resolver {
     ghost use Rattle.adr_plain.specs.Kept.{Kept};
 
     // What it shows of the machine.
@@ -32,8 +33,8 @@ pub trait Resolver: Drop {
         ensures refused { IfErr result (λ refusal. (refusal ≡ NoMemory) ⊎ (step_to (full_at (kept self.old).base) (kept self.old).current edit ≡ Err refusal)) }
         ensures unchanged { OnErr result (kept self.new ≡ kept self.old) };
 
-    /// Publishes the objects as they are.
-    fn publish(&mut self) -> Result<Published, Refusal>
+    /// Publishes the objects as they are. It may wait for readers that are taking a share.
+    fn publish<H: Wait>(&mut self, rt: &H) -> Result<Published, Refusal>
         ensures ok { OnOk result (((kept self.old).number < MOST_PUBLICATIONS)
             × (kept self.new ≡ record (kept self.old) { published = (kept self.old).current; number = (kept self.old).number + 1 })) }
         ensures bound { IfOk result (λ p. (p.number ≤ MOST_PUBLICATIONS) × (p.version ≤ MOST_VERSION)) }
@@ -79,7 +80,8 @@ impl Resolver for Plain {
         Plain::edit(self, edit)
     }
 
-    fn publish(&mut self) -> Result<Published, Refusal> {
+    fn publish<H: Wait>(&mut self, rt: &H) -> Result<Published, Refusal> {
+        let _ = rt;
         Plain::publish(self)
     }
 

@@ -21,7 +21,7 @@ use adr_model::Tie;
 use adr_object::{Edit, Id};
 use adr_resolution::Resolution;
 use adr_schedule::Schedule;
-use adr_shared::Shared;
+use adr_shared::{Shared, SharedList};
 use adr_timeline::Timeline;
 use adr_value::{PayloadType, Refusal};
 use std::alloc::Global;
@@ -131,13 +131,14 @@ impl Snapshot {
     }
 
     /// The edits since the publication before; none for number 0. They are the last batch of the journal.
-    pub fn batch(&self) -> &[Edit]
+    pub fn batch(&self) -> &SharedList<Edit>
         ensures { result.now ≡ last_batch self.now.book.closed }
     {
-        let closed = self.resolution.book().journal().closed();
+        let journal = self.resolution.book().journal();
+        let closed = journal.closed();
         match closed.at(closed.len().saturating_sub(1)) {
-            Some(batch) => batch.get().edits(),
-            None => &[],
+            Some(batch) => batch.edits(),
+            None => journal.pending(),
         }
     }
 

@@ -4,5 +4,5 @@ use Rattle.adr_snapshot.specs.Types.{edit_names, ArePrivate}
 use Rattle.adr_board.proofs.board.names_in.Given as goal
 
 -- the edits so far bring no others
-abbrev pub invariant-loop-edit : goal.invariant-loop-edit
-invariant-loop-edit l = ArePrivate (flat_map edit_names (take l.edit-index l.edits))
+abbrev pub invariant-loop-place : goal.invariant-loop-place
+invariant-loop-place l = ArePrivate (flat_map edit_names (take l.place l.edits))

@@ -52,3 +52,6 @@ returns-in-Err-clause-err c =
     (c.exchange_laws.ensures.makes c.args.tie) c.exchange_laws.ensures.undone c.args.change.now c.requires.come
     (λ k. c.in_ok-put_in.ensures.ok k ∙ ap (λ es. inserted_all (entries_under es k) (under c.args.indexes.now k)) c.entries.ensures)
     (λ k. c.take_out-in-Err.ensures k ∙ ap (λ es. others_all (entries_under es k) (under c.put_in.new.indexes k)) c.entries-in-Err.ensures))
+
+pub returns-in-Ok-clause-least : goal.returns-in-Ok-clause-least
+returns-in-Ok-clause-least c whole one = c.in-Ok.ensures.least c.args.new.now.objects whole c.requires.exchange one c.requires.desk.seated

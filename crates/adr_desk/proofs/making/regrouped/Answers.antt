@@ -1,8 +1,10 @@
-use Rattle.std.proofs.Common.{◌*◌, ◌<◌, ◌^◌, length, ap, ◌∙◌, arith}
+use Rattle.std.proofs.Common.{List, ℕ, ◌*◌, ◌<◌, ◌^◌, length, sum_by, ap, subst, ◌∙◌, arith}
 use Rattle.adr_group.specs.Repair.{most_possible}
 use Rattle.adr_schedule.specs.Moves.{is_among}
-use Rattle.adr_schedule.specs.Shift.{entries_in, sides_of}
+use Rattle.adr_schedule.specs.Seating.{IsShifted}
+use Rattle.adr_schedule.specs.Shift.{entries_in, most_at, number_in, sides_of}
 use Rattle.adr_desk.specs.Edited.{come_of, gone_of}
+use Rattle.adr_desk.proofs.Costs.{shifts_cost}
 use Rattle.adr_desk.proofs.Made.{room_for_both, room_for_one, seated_after}
 use Rattle.adr_desk.proofs.Sides.{groups_of_side}
 use Rattle.adr_desk.proofs.making.regrouped.Goals as goal
@@ -41,3 +43,17 @@ returns-clause-seated c =
     (λ p r v at e. ap (λ ps. is_among ps p) c.as_slice.ensures.value ∙ c.in_ok-joining.ensures.apply p r v at e)
     (λ p r u at e. ap (λ ps. is_among ps p) c.as_slice-2.ensures.value ∙ c.in_ok-leaving.ensures.apply p r u at e)
     c.in_ok-mid.ensures.shifted c.in_ok-mid.ensures.right c.in_ok-after.ensures.shifted c.in_ok-after.ensures.right
+
+pub returns-clause-least : goal.returns-clause-least
+returns-clause-least c new whole x one seated =
+    let book = c.args.book.now.objects in
+    let edit = c.args.edit.now in
+    let joining = c.in_ok-joining.joining.items in
+    let leaving = c.in_ok-leaving.leaving.items in
+    let cost = shifts_cost c.args.tie book new (gone_of book edit) (come_of book edit) x c.requires.whole whole one.0 one.1 one.2 c.args.indexes.now c.requires.indexed c.args.change.now c.args.alone.now
+    c.requires.gone c.requires.come c.requires.again c.requires.lone c.args.schedule.now c.in_ok-mid.mid seated joining leaving c.in_ok-joining.ensures.apply
+    (subst (λ (ps : List ℕ). IsShifted (number_in c.args.change.now.gone) (number_in c.args.change.now.come) ps c.args.schedule.now c.in_ok-mid.mid) c.as_slice.ensures.value c.in_ok-mid.ensures.shifted)
+    c.in_ok-joining.ensures.once c.in_ok-leaving.ensures.once in
+    let first = ap (sum_by (most_at c.args.change.now c.args.indexes.now c.args.schedule.now)) c.as_slice.ensures.value in
+    let second = ap (sum_by (most_at c.args.alone.now c.args.indexes.now c.in_ok-mid.mid)) c.as_slice-2.ensures.value in
+    omega (arith, cost, first, second, c.requires.begun, c.in_ok-mid.ensures.least, c.in_ok-after.ensures.least)

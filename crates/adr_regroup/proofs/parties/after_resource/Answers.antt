@@ -1,14 +1,15 @@
-use Rattle.std.proofs.Common.{◌≡◌, ◌+◌, ◌<◌, ◌∷◌, [], ℕ, List, Ok, Option, Some, None, true, false, is_some, length, slice_get, ap, arith, subst, sym, ◌∙◌}
+use Rattle.std.proofs.Common.{◌≡◌, ◌+◌, ◌<◌, ◌∷◌, [], ℕ, List, Ok, Option, Some, None, true, is_some, length, slice_get, ap, arith, subst, sym, ◌∙◌}
 use Rattle.std.proofs.lemmas.Bool.{both_ways}
 use Rattle.std.proofs.lemmas.Option.{slice_get_within}
 use Rattle.adr_object.specs.Object.{id_of}
 use Rattle.adr_object.specs.declared.object.Edit.{Edit}
-use Rattle.adr_object.specs.declared.object.Edit.TheVariants.{Create, Change, Remove}
 use Rattle.adr_object.specs.declared.party.Resource.{Resource}
 use Rattle.adr_model.specs.Book.{resource_by}
 use Rattle.adr_model.specs.Edits.{step}
 use Rattle.adr_schedule.specs.Seating.{Seating}
+use Rattle.adr_regroup.specs.Compared.{most_reseated_at}
 use Rattle.adr_regroup.specs.Party.{is_of_resource, AreSeatedBut}
+use Rattle.adr_regroup.proofs.EditCosts.{changed_cost, created_cost}
 use Rattle.adr_regroup.proofs.PartyEdits.{resource_changes, resource_comes, resource_goes, resource_to_change, resource_to_go}
 use Rattle.adr_regroup.proofs.parties.after_resource.Goals as goal
 
@@ -76,3 +77,24 @@ returns-in_ok-after-in-Remove-clause-seated c =
     resource_goes c.args.tie c.args.old.now.objects c.args.new.now.objects c.in-Remove.field-0 c.in-Remove.id p.0 c.args.schedule.now c.in_ok-after-in-Remove.after c.book_laws.ensures.whole
     (subst (λ (e : Edit). is_of_resource e ≡ true) c.in-Remove.is c.requires.resource) (subst (λ (e : Edit). step c.args.old.now.objects e ≡ Ok c.args.new.now.objects) c.in-Remove.is c.requires.accepted)
     p.1 p.2 p.3 c.requires.seated
+
+pub returns-in_ok-after-in-Create-clause-least : goal.returns-in_ok-after-in-Create-clause-least
+returns-in_ok-after-in-Create-clause-least c =
+    let old = c.args.old.now.objects in
+    let new = c.args.new.now.objects in
+    let more = c.in_ok-more-in-Create.more in
+    let own = created_cost old new c.in-Create.field-0 c.args.schedule.now more c.book_laws-2.ensures.whole
+    (subst (λ (e : Edit). is_of_resource e ≡ true) c.in-Create.is c.requires.resource) (subst (λ (e : Edit). step old e ≡ Ok new) c.in-Create.is c.requires.accepted)
+    c.requires.seated.count c.in_ok-more-in-Create.ensures.place in
+    let here = ap (most_reseated_at new more) c.len-place.ensures in
+    omega (arith, own, here, c.requires.begun, c.in_ok-after-in-Create.ensures.least)
+
+pub returns-in_ok-after-in-Change-clause-least : goal.returns-in_ok-after-in-Change-clause-least
+returns-in_ok-after-in-Change-clause-least c =
+    let old = c.args.old.now.objects in
+    let new = c.args.new.now.objects in
+    let own = changed_cost c.args.tie old new c.in-Change.object c.in-Some.place c.args.schedule.now c.book_laws.ensures.whole c.book_laws-2.ensures.whole
+    (subst (λ (e : Edit). is_of_resource e ≡ true) c.in-Change.is c.requires.resource) (subst (λ (e : Edit). step old e ≡ Ok new) c.in-Change.is c.requires.accepted)
+    (c.in-Some.ensures.value ∙ ap (resource_by old) c.id.ensures) c.requires.seated in
+    let here = ap (λ (s : Seating). most_reseated_at new s c.in-Some.place) c.in_ok-same-in-Change.ensures in
+    omega (arith, own, here, c.requires.begun, c.in_ok-after-in-Change.ensures.least)

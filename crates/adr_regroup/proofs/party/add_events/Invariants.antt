@@ -1,9 +1,11 @@
-use Rattle.std.proofs.Common.{◌≡◌, ◌≤◌, ◌+◌, ◌*◌, ◌++◌, ℕ, map, length}
+use Rattle.std.proofs.Common.{◌≡◌, ◌≤◌, ◌+◌, ◌*◌, ◌++◌, ℕ, List, map, length}
 use Rattle.adr_value.specs.declared.payload.PayloadType.{PayloadType}
+use Rattle.adr_model.specs.declared.written.Written.{Written}
 use Rattle.adr_model.specs.Rank.{ranked}
 use Rattle.adr_stretch.specs.Grouped.{entries_under}
 use Rattle.adr_lines.specs.declared.indexes.Indexes.{Indexes}
-use Rattle.adr_group.specs.Repair.{most_possible}
+use Rattle.adr_group.specs.Repair.{most_possible, most_repaired}
+use Rattle.adr_regroup.specs.Compared.{cost_but, IsMostFor}
 use Rattle.adr_regroup.specs.Party.{entries_but, IsMostOf}
 use Rattle.adr_regroup.proofs.party.add_events.Given as goal
 
@@ -15,6 +17,8 @@ invariant-rest l = record {
       ≡ entries_under l.fn.windows.items k ++ map (ranked l.tie) (entries_but l.book.objects.events l.numbers l.others k);
   most : (indexes : Indexes) (most : ℕ) → IsMostOf l.tie l.book.objects.events indexes most
       → most_possible l.windows.items indexes + length l.rest * most ≤ most_possible l.fn.windows.items indexes + length l.numbers * most;
+  least : (indexes : Indexes) (writes : List ℕ) (cost : Written → ℕ) → IsMostFor l.tie l.book.objects.events indexes writes cost
+      → most_repaired l.windows.items writes indexes + cost_but cost l.book.objects.events l.rest l.others ≤ most_repaired l.fn.windows.items writes indexes + cost_but cost l.book.objects.events l.numbers l.others;
 }
 
 abbrev pub decreases-rest : goal.decreases-rest

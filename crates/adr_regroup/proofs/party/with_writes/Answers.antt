@@ -2,8 +2,9 @@ use Rattle.std.proofs.Common.{◌≡◌, ◌≤◌, ◌<◌, ◌+◌, ◌*◌, �
 use Rattle.std.proofs.lemmas.Result.{IfOk-weaker}
 use Rattle.adr_stretch.specs.Grouped.{entries_under}
 use Rattle.adr_group.specs.Group.{AreWindowsOf, Lines}
-use Rattle.adr_group.specs.Repair.{most_possible}
+use Rattle.adr_group.specs.Repair.{most_possible, most_repaired}
 use Rattle.adr_schedule.proofs.Seated.{none_is_some, some_same}
+use Rattle.adr_regroup.specs.Compared.{cost_but}
 use Rattle.adr_regroup.proofs.party.with_writes.Goals as goal
 
 pub unreachable-requires : goal.unreachable-requires
@@ -36,3 +37,14 @@ returns-clause-right c =
     (λ after right indexed before. right c.args.tie events indexed
     (λ g at. subst (λ (x : Lines). AreWindowsOf events x.writes new (entries_under c.deref.result.now)) (some_same group g (c.in-Some.ensures.value ∙ at)) inside) before)
     c.rewritten.ensures.right
+
+pub returns-clause-least : goal.returns-clause-least
+returns-clause-least c g cost at bound =
+    let events = c.args.book.now.objects.events in
+    let new = c.args.writes.now in
+    let same : c.writes.result.now ≡ g.writes = c.writes.ensures ∙ ap (λ (x : Lines). x.writes) (some_same c.in-Some.group.now g (c.in-Some.ensures.value ∙ at)) in
+    let least = c.in_ok-windows.ensures.least c.args.indexes.now new cost bound in
+    let first = ap (λ ns. cost_but cost events ns new) same in
+    let second = ap (λ ns. cost_but cost events new ns) same in
+    let whole = ap (λ gs. most_repaired gs new c.args.indexes.now) c.deref.ensures.value in
+    omega (arith, least, first, second, whole, c.rewritten.ensures.least)

@@ -1,7 +1,10 @@
-use Rattle.std.proofs.Common.{List, ℕ, length, subst, sym}
+use Rattle.std.proofs.Common.{◌≡◌, List, ℕ, length, sum_by, ap, ◌∙◌, arith, subst, sym}
+use Rattle.adr_object.specs.declared.party.Resource.{Resource}
 use Rattle.adr_model.specs.Book.{Book}
+use Rattle.adr_regroup.specs.Compared.{most_reseated_at, StandOnce}
 use Rattle.adr_regroup.specs.Party.{AreSeatedBut}
 use Rattle.adr_regroup.specs.Program.{with_program, AreThoseMarked}
+use Rattle.adr_regroup.proofs.TouchCosts.{places_cost}
 use Rattle.adr_regroup.proofs.Turned.{left_to_reseat}
 use Rattle.adr_regroup.proofs.program.after_change.Goals as goal
 
@@ -15,3 +18,18 @@ reseated-requires-clause-seated c =
     subst (λ (b : Book). AreSeatedBut c.args.tie b c.as_slice-2.result.now c.args.schedule.now) (sym c.requires.made)
     (subst (λ (ps : List ℕ). AreSeatedBut c.args.tie (with_program old c.args.program.now) ps c.args.schedule.now) (sym c.as_slice-2.ensures.value)
     (left_to_reseat old c.args.program.now c.args.tie marks places c.args.schedule.now c.in_ok-marks.ensures.marked those c.requires.seated))
+
+pub returns-clause-least : goal.returns-clause-least
+returns-clause-least c =
+    let old = c.args.old.now.objects in
+    let new = c.args.new.now.objects in
+    let marks = c.in_ok-marks.marks.items in
+    let places = c.in_ok-places.places.items in
+    let those : AreThoseMarked marks (length marks) places =
+    subst (λ ms. AreThoseMarked ms (length ms) places) c.as_slice.ensures.value c.in_ok-places.ensures.places in
+    let kept : new.events ≡ old.events = ap (λ (b : Book). b.events) c.requires.made in
+    let same : new.resources ≡ old.resources = ap (λ (b : Book). b.resources) c.requires.made in
+    let few = places_cost c.args.tie old new c.args.schedule.now places c.book_laws.ensures.whole c.book_laws-2.ensures.whole kept same c.requires.seated
+    (subst (λ n. StandOnce places n) (c.in_ok-marks.ensures.marked.count ∙ ap (λ (rs : List Resource). length rs) (sym same)) those.once) in
+    let all = ap (sum_by (most_reseated_at new c.args.schedule.now)) c.as_slice-2.ensures.value in
+    omega (arith, few, all, c.in_ok-after.ensures.least)

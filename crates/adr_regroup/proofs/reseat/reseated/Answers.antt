@@ -1,6 +1,11 @@
-use Rattle.std.proofs.Common.{◌≡◌, ◌+◌, ◌*◌, ◌<◌, ◌≤◌, ◌∷◌, ℕ, length, arith, subst, sym}
-use Rattle.adr_regroup.specs.Party.{most_by_event, most_reseated}
+use Rattle.std.proofs.Common.{◌+◌, ◌<◌, ◌≤◌, ◌∷◌, ℕ, arith, subst, sym}
+use Rattle.adr_model.specs.declared.written.Written.{Written}
+use Rattle.adr_model.specs.Touches.{touches_of}
+use Rattle.adr_regroup.specs.Party.{most_by_event}
+use Rattle.adr_regroup.specs.Compared.{most_compared_in}
+use Rattle.adr_regroup.proofs.Differing.{most_for, place_cost, reseats_fewer}
 use Rattle.adr_regroup.proofs.Few.{few_at, is_most}
+use Rattle.adr_regroup.proofs.Placing.{there}
 use Rattle.adr_regroup.proofs.Reseated.{next_seated}
 use Rattle.adr_regroup.proofs.reseat.reseated.Goals as goal
 
@@ -45,3 +50,19 @@ returns-clause-compared c =
     (c.in_ok-after.ensures.compared g.0 most_by_event g.1 (is_most c.args.tie book c.args.indexes.now laws.within c.requires.indexed (c.index_laws.ensures c.args.tie)))
     (few_at c.args.tie book (c.args.place ∷ c.args.others.now) c.args.place c.args.schedule.now g.0 c.in_ok-writes.writes laws.whole.sound laws.within c.requires.seated g.1
     (c.writes_ascend.ensures g.0 g.1) c.in_ok-writes.ensures.writes c.numbers.ensures.order)
+
+pub returns-clause-fewer : goal.returns-clause-fewer
+returns-clause-fewer c =
+    reseats_fewer c.args.new.now.objects c.args.place c.in_ok-writes.writes c.args.schedule.now c.in_ok-after.after c.requires.seated.count c.in_ok-after.ensures.writes c.in_ok-writes.ensures.writes
+
+pub returns-clause-least : goal.returns-clause-least
+returns-clause-least c =
+    let book = c.args.new.now.objects in
+    let laws = c.book_laws.ensures in
+    let g = c.schedule_laws.ensures c.args.place (subst (λ n. c.args.place < n) (sym c.requires.seated.count) c.requires.place) in
+    let r = there book.resources c.args.place c.requires.place in
+    let numbers = c.in_ok-writes.writes in
+    let cost : Written → ℕ = λ w. most_compared_in book (touches_of r.0.id w) in
+    let own = place_cost book c.args.place r.0 numbers r.1 c.in_ok-writes.ensures.writes c.args.schedule.now g.0 g.1 (c.writes_ascend.ensures g.0 g.1) c.numbers.ensures.order in
+    let most = c.in_ok-after.ensures.least g.0 cost g.1 (most_for book c.args.place r.0 numbers r.1 c.in_ok-writes.ensures.writes c.args.tie c.args.indexes.now laws.whole c.requires.indexed) in
+    omega (arith, own, most)

@@ -1,5 +1,7 @@
-use Rattle.std.proofs.Common.{◌≡◌, ◌+◌, ◌*◌, ◌<◌, ◌≤◌, ◌∷◌, ℕ, List, suc, true, length, ap, arith, subst}
+use Rattle.std.proofs.Common.{◌≡◌, ◌+◌, ◌*◌, ◌<◌, ◌≤◌, ℕ, List, suc, true, length, sum_by, ap, ◌∙◌, arith, subst}
+use Rattle.std.proofs.lemmas.List.Sums.{sum_by-cons}
 use Rattle.adr_schedule.specs.Moves.{is_among}
+use Rattle.adr_regroup.specs.Compared.{most_reseated_at}
 use Rattle.adr_regroup.specs.Party.{most_reseated}
 use Rattle.adr_regroup.proofs.Reseated.{first_among, later_among}
 use Rattle.adr_regroup.proofs.reseat.reseated_all.Goals as goal
@@ -19,9 +21,14 @@ reseated-requires-clause-place c =
 pub rest-preserved : goal.rest-preserved
 rest-preserved c =
     let n = length c.args.new.now.objects.resources in
+    let asked : ℕ → ℕ = most_reseated_at c.args.new.now.objects c.args.schedule in
     record {
       within = later_among c.in-Some.place.now c.in-Some.others.now n
           (subst (λ (ps : List ℕ). (p : ℕ) → is_among ps p ≡ true → p < n) c.in-Some.ensures.cases.0 c.rest.invariant.within);
       seated = c.in_ok-after.ensures.seated;
       compared = left _ _ _ _ _ _ c.in_ok-after.ensures.compared (ap (λ (ps : List ℕ). length ps) c.in-Some.ensures.cases.0) c.rest.invariant.compared;
+      fewer = λ p. omega (arith, c.in_ok-after.ensures.fewer p, c.rest.invariant.fewer p);
+      least = (let parts = ap (sum_by asked) c.in-Some.ensures.cases.0 ∙ sum_by-cons asked c.in-Some.place.now c.in-Some.others.now in
+          let own = c.rest.invariant.fewer c.in-Some.place.now in
+          omega (arith, parts, own, c.in_ok-after.ensures.least, c.rest.invariant.least));
     }

@@ -2,7 +2,7 @@ use Rattle.std.proofs.Common.{[], ◌++◌, sym, ap, arith, subst, append-nil}
 use Rattle.std.proofs.lemmas.Result.{IfOk-weaker}
 use Rattle.adr_stretch.specs.Grouped.{entries_under}
 use Rattle.adr_group.specs.Group.{AreWindowsOf}
-use Rattle.adr_group.specs.Repair.{most_possible}
+use Rattle.adr_group.specs.Repair.{most_possible, most_repaired}
 use Rattle.adr_schedule.proofs.place.remade.Goals as goal
 
 pub repaired-requires : goal.repaired-requires
@@ -28,3 +28,10 @@ returns-clause-right c =
     (subst (λ ws. AreWindowsOf events was ws (entries_under (windows ++ []))) (sym c.in_ok-writes.ensures)
     (subst (λ xs. AreWindowsOf events was c.args.writes.now (entries_under xs)) (sym (append-nil windows)) within)) before)
     c.repaired.ensures.right
+
+pub returns-clause-least : goal.returns-clause-least
+returns-clause-least c =
+    let windows = c.args.windows.now in
+    let copied = ap (λ ws. most_repaired (windows ++ []) ws c.args.indexes.now) c.in_ok-writes.ensures in
+    let same = ap (λ xs. most_repaired xs c.args.writes.now c.args.indexes.now) (append-nil windows) in
+    omega (arith, copied, same, c.repaired.ensures.compared)

@@ -16,9 +16,7 @@ make-requires-clause-whole c = led_whole c.self.inside.base (joined c.self.insid
 
 pub invariant_of-self-2 : goal.invariant_of-self-2
 invariant_of-self-2 c =
-    let closed = c.push.ensures.closed ∙ c.reserve.ensures.closed in
-    let pending = c.push.ensures.pending ∙ ap (λ ps. ps ++ c.args.edit ∷ []) c.reserve.ensures.pending in
-    rw (closed, pending)
+    rw (c.in_ok-journal.ensures.closed, c.in_ok-journal.ensures.pending)
     (led_by_one_more c.self.inside.base c.self.inside.journal.closed c.self.inside.journal.pending c.args.edit c.self.inside.objects c.make.new.self c.self.invariant
     (ap (step c.self.inside.objects) (sym (c.in_ok-copy.ensures)) ∙ c.in_ok-make.ensures.ok))
 

@@ -1,6 +1,6 @@
-use Rattle.std.proofs.Common.{◌∙◌, List, ℕ, subst, sym}
+use Rattle.std.proofs.Common.{◌∙◌, List, ℕ, arith, subst, sym}
 use Rattle.adr_group.specs.Group.{Lines}
-use Rattle.adr_schedule.specs.Moves.{is_among, AreMoved}
+use Rattle.adr_schedule.specs.Moves.{asked_at, is_among, AreMoved}
 use Rattle.adr_schedule.specs.Seating.{Seating}
 use Rattle.adr_schedule.specs.Shift.{Becomes}
 use Rattle.adr_schedule.specs.Slots.{AreSeated}
@@ -22,3 +22,7 @@ returns-clause-right c =
     rw (← c.self.view_is)
     (right_shifted c.args.change.now c.args.indexes.now c.args.places.now old new c.self.invariant
     (rw c.in_ok-groups-2.ensures (rw (← c.in_ok-seats.ensures, ← c.in_ok-groups.ensures) c.in_ok-moves.ensures.moved)))
+
+pub returns-clause-least : goal.returns-clause-least
+returns-clause-least c =
+    rw (← c.self.view_is) (rw (← c.in_ok-seats.ensures, ← c.in_ok-groups.ensures) (omega (arith, c.in_ok-moves.ensures.least)))

@@ -1,0 +1,48 @@
+//! Rows of what a publication takes.
+use crate::publishing::{held, published};
+use crate::told::told;
+use adr_board::NewBoard;
+use std::io;
+use std::marker::Brand;
+use std::rt::Clock;
+use std::sync::Wait;
+
+fn print_publications<R: AllocGlobal + Print + Clock + Wait>(
+    rt: &R,
+    resources: usize,
+    is_timed: bool,
+) -> io::Result<()> {
+    let published = told(published::<Brand, R>(rt, NewBoard::new(), resources))?;
+    print!(rt; "| {resources} | {} |", published.last)?;
+    if is_timed {
+        print!(rt; " {} |", published.nanoseconds)?;
+    }
+    println!(rt)
+}
+
+/// Holds so many publications at once, for a measurement of memory from outside.
+pub(crate) fn print_held<R: AllocGlobal + Print + Wait>(rt: &R, count: usize) -> io::Result<()> {
+    let last = told(held::<Brand, R>(rt, NewBoard::new(), count))?;
+    println!(rt; "held {count} up to {last}")
+}
+
+/// The table of publications after one edit each.
+pub(crate) fn print_boards<R: AllocGlobal + Print + Clock + Wait>(
+    rt: &R,
+    is_timed: bool,
+) -> io::Result<()> {
+    println!(rt;
+        "{}",
+        if is_timed {
+            "| Resources | Publications | ns a publication |\n|---|---|---|"
+        } else {
+            "| Resources | Publications |\n|---|---|"
+        }
+    )?;
+    print_publications(rt, 64, is_timed)?;
+    print_publications(rt, 1024, is_timed)?;
+    if is_timed {
+        print_publications(rt, 16_384, is_timed)?;
+    }
+    Ok(())
+}

@@ -1,0 +1,73 @@
+//! The books of the tables.
+use crate::changes::{GROUP, creation};
+use adr_book::{Book, judge};
+use adr_object::{Edit, Kind};
+use adr_value::Refusal;
+use std::alloc::Global;
+
+/// Judges the edit and commits a copy of it.
+pub(crate) fn make(book: &mut Book, edit: &Edit) -> Result<u64, Refusal> {
+    judge(book, edit)?;
+    book.commit(edit.copy()?)
+}
+
+/// Makes the edit and closes the batch.
+fn publish(book: &mut Book, edit: &Edit) -> Result<(), Refusal> {
+    make(book, edit)?;
+    book.seal()
+}
+
+/// Publishes the edit so many times.
+pub(crate) fn publish_often(book: &mut Book, edit: &Edit, times: u32) -> Result<(), Refusal> {
+    for _ in 0..times {
+        publish(book, edit)?;
+    }
+    Ok(())
+}
+
+fn create(
+    alloc: Global,
+    book: &mut Book,
+    kind: Kind,
+    number: usize,
+    intervals: usize,
+) -> Result<u64, Refusal> {
+    let edit = creation(alloc, kind, number, intervals)?;
+    let version = make(book, &edit);
+    drop(edit);
+    version
+}
+
+/// Creates so many objects of a kind. Events have one interval each.
+fn create_all(alloc: Global, book: &mut Book, kind: Kind, count: usize) -> Result<(), Refusal> {
+    for number in 0..count {
+        create(alloc, book, kind, number, 1)?;
+    }
+    Ok(())
+}
+
+fn fill(alloc: Global, book: &mut Book, count: usize) -> Result<(), Refusal> {
+    create_all(alloc, book, Kind::Program, count / GROUP)?;
+    create_all(alloc, book, Kind::Ven, count / GROUP)?;
+    create_all(alloc, book, Kind::Resource, count)?;
+    create_all(alloc, book, Kind::Event, count)
+}
+
+/// A book of so many resources and as many events, in whole groups.
+pub(crate) fn book_of_many(alloc: Global, count: usize) -> Result<Book, Refusal> {
+    let mut book = Book::new(alloc);
+    fill(alloc, &mut book, count)?;
+    Ok(book)
+}
+
+fn begin(alloc: Global, book: &mut Book, intervals: usize) -> Result<u64, Refusal> {
+    create_all(alloc, book, Kind::Program, 1)?;
+    create(alloc, book, Kind::Event, 0, intervals)
+}
+
+/// A book of one program with one event of so many intervals.
+pub(crate) fn book_of_event(alloc: Global, intervals: usize) -> Result<Book, Refusal> {
+    let mut book = Book::new(alloc);
+    begin(alloc, &mut book, intervals)?;
+    Ok(book)
+}

@@ -1,0 +1,56 @@
+//! How books, desks and boards stand after many edits and publications, and how much repairs compare.
+//!
+//! With no word, all by count. With `books`, `desks` or `boards`: that part alone, and how long it takes. With
+//! `hold COUNT`: so many publications are held at once, for a measurement of memory from outside.
+#![tactic(auto)]
+
+mod board_rows;
+mod boards;
+mod bodies;
+mod book_rows;
+mod book_times;
+mod books;
+mod changes;
+mod desk_rows;
+mod desk_times;
+mod desks;
+mod publishing;
+mod told;
+mod works;
+
+use crate::board_rows::{print_boards, print_held};
+use crate::book_rows::print_books;
+use crate::desk_rows::print_desks;
+use std::rt::{Clock, Env};
+use std::sync::Wait;
+use std::{env, io};
+
+/// What stands behind a word.
+fn print_part<R: AllocGlobal + Print + Clock + Wait>(
+    rt: &R,
+    part: &str,
+    count: &str,
+) -> io::Result<()> {
+    match part {
+        "books" => print_books(rt, true),
+        "desks" => print_desks(rt, true),
+        "boards" => print_boards(rt, true),
+        _ => print_held(rt, count.parse::<usize>().unwrap_or(1)),
+    }
+}
+
+fn main(rt: HostRuntime) -> io::Result<()> {
+    let mut words = env::args(&rt)?;
+    let _name = words.next();
+    let part = words.next();
+    let count = words.next();
+    if let Some(part) = &part {
+        let count = count.as_deref().unwrap_or("");
+        return print_part(&rt, part.as_str(), count);
+    }
+    print_books(&rt, false)?;
+    println!(&rt)?;
+    print_desks(&rt, false)?;
+    println!(&rt)?;
+    print_boards(&rt, false)
+}

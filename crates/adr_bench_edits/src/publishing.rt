@@ -1,0 +1,109 @@
+//! Publications of boards with many resources.
+ghost use Rattle.std.specs.Prelude.{◌≡◌};
+
+use crate::boards::{change, fill};
+use adr_board::{Board, Editor, Naming, NewBoard, Reader};
+use adr_model::Tie;
+use adr_snapshot::Snapshot;
+use adr_value::Refusal;
+use std::alloc::Global;
+use std::rt::Clock;
+use std::sync::{Arc, Wait};
+use std::time::Instant;
+
+/// How many publications are timed, of which the least time is told.
+const ROUNDS: u64 = 300;
+
+/// The resources of the board whose publications are held.
+const MANY: usize = 1024;
+
+/// The number of the last publication, and what one takes.
+#[derive(Clone, Copy)]
+pub(crate) struct Taken {
+    pub(crate) last: u64,
+    pub(crate) nanoseconds: u128,
+}
+
+fn publication<J: Naming, R: Clock + Wait>(
+    rt: &R,
+    alloc: Global,
+    editor: &mut Editor<J>,
+    price: u64,
+) -> Result<u128, Refusal> {
+    change(alloc, editor, price)?;
+    let start = Instant::now(rt).map_err(|_| Refusal::NoRuntime)?;
+    editor.publish(rt)?;
+    let elapsed = start.elapsed(rt).map_err(|_| Refusal::NoRuntime)?;
+    Ok(elapsed.as_nanos())
+}
+
+fn publish_again<J: Naming, R: Clock + Wait>(
+    rt: &R,
+    alloc: Global,
+    editor: &mut Editor<J>,
+    resources: usize,
+) -> Result<Taken, Refusal> {
+    fill(rt, alloc, editor, resources)?;
+    let mut least = u128::MAX;
+    for price in 0..ROUNDS {
+        least = least.min(publication(rt, alloc, editor, price)?);
+    }
+    Ok(Taken {
+        last: editor.last().number(),
+        nanoseconds: least,
+    })
+}
+
+/// What a publication after one edit takes on a board with so many resources.
+pub(crate) fn published<J: Naming, R: AllocGlobal + Clock + Wait>(
+    rt: &R,
+    board: NewBoard,
+    resources: usize,
+) -> Result<Taken, Refusal>
+    requires { board.diary.page.book ≡ J.history }
+{
+    let alloc = rt.alloc();
+    let (mut editor, readers) = Board::open::<J, R>(alloc, rt, board, Tie::Newest, 1)?;
+    drop(readers);
+    let taken = publish_again(rt, alloc, &mut editor, resources);
+    editor.close(rt);
+    taken
+}
+
+/// Looks after each of so many publications, and keeps what is seen until the last.
+fn hold<J: Naming, R: Wait>(
+    rt: &R,
+    alloc: Global,
+    editor: &mut Editor<J>,
+    readers: &mut [Reader<J>],
+    count: usize,
+) -> Result<u64, Refusal> {
+    fill(rt, alloc, editor, MANY)?;
+    let mut kept: Vec<Arc<Snapshot>> = Vec::new(alloc);
+    let Some(reader) = readers.first_mut() else {
+        return Ok(0);
+    };
+    let mut price = 0_u64;
+    for _ in 0..count {
+        change(alloc, editor, price)?;
+        editor.publish(rt)?;
+        kept.push(reader.look()?)?;
+        price = price.wrapping_add(1);
+    }
+    Ok(kept.last().map_or(0, |snapshot| snapshot.number()))
+}
+
+/// The number of the last of so many publications that are held at once.
+pub(crate) fn held<J: Naming, R: AllocGlobal + Wait>(
+    rt: &R,
+    board: NewBoard,
+    count: usize,
+) -> Result<u64, Refusal>
+    requires { board.diary.page.book ≡ J.history }
+{
+    let alloc = rt.alloc();
+    let (mut editor, mut readers) = Board::open::<J, R>(alloc, rt, board, Tie::Newest, 1)?;
+    let last = hold(rt, alloc, &mut editor, readers.as_mut_slice(), count);
+    editor.close(rt);
+    last
+}

@@ -1,0 +1,37 @@
+-- A run on a new board.
+use Rattle.std.proofs.Common.{◌≡◌, ℕ, List, [], ◌∷◌, length, replicate, Result, Ok, Err, IfOk, ap, subst}
+use Rattle.std.specs.Prelude.{All}
+use Rattle.std.specs.declared.vec.Vec.{Vec}
+use Rattle.adr_value.specs.declared.refusal.Refusal.{Refusal}
+use Rattle.adr_model.specs.declared.entry.Tie.{Tie}
+use Rattle.adr_model.specs.Book.{empty}
+use Rattle.adr_model.specs.Machine.{State, opening, start}
+use Rattle.adr_board.specs.Boards.{Board, View, newcomer}
+use Rattle.adr_board.specs.declared.run_steps.Step.{Step}
+use Rattle.adr_board.specs.declared.run_steps.Shown.{Shown}
+use Rattle.adr_board.specs.Replay.{AreSteps, IsRun, state_of}
+use Rattle.adr_board.proofs.Reached.{newcomers_reached}
+
+-- the board as it was opened
+pub record IsOpened (b : Board) (views : List View) (tie : Tie) (readers : ℕ) : Type 0 where
+  pub rule : b.tie ≡ tie
+  pub base : b.book.base ≡ empty
+  pub objects : b.book.objects ≡ empty
+  pub pending : b.book.pending ≡ []
+  pub published : b.published ≡ opening ∷ []
+  pub count : length views ≡ readers
+  pub newcomers : All (λ v. v ≡ newcomer) views
+
+from_start : (b c : Board) (views after : List View) (tie : Tie) (readers : ℕ) (steps : List Step) (shown : List Shown) → IsOpened b views tie readers → AreSteps b views steps shown c after
+    → (end : State) × IsRun (start tie readers) steps shown end
+from_start b c views after tie readers steps shown opened run =
+    let zero : b.book.base.version ≡ 0 = ap (λ x. x.version) opened.base in
+    let begin : state_of b (replicate readers 0) ≡ start tie readers = cc (opened.rule, zero, opened.objects, opened.pending, opened.published) in
+    let (next, there, goes) = run (replicate readers 0) (newcomers_reached views readers opened.newcomers opened.count) in
+    (state_of c next, subst (λ (s : State). IsRun s steps shown (state_of c next)) begin goes)
+
+-- steps from there are a run from the start
+pub each_from_start : {Z : Type 0} (r : Result (Vec Shown Z) Refusal) (b c : Board) (views after : List View) (tie : Tie) (readers : ℕ) (steps : List Step) → IsOpened b views tie readers
+    → IfOk r (λ shown. AreSteps b views steps shown.items c after) → IfOk r (λ shown. (end : State) × IsRun (start tie readers) steps shown.items end)
+each_from_start (Ok shown) b c views after tie readers steps opened run = from_start b c views after tie readers steps shown.items opened run
+each_from_start (Err e) b c views after tie readers steps opened run = tt

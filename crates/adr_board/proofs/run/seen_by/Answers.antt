@@ -1,0 +1,18 @@
+use Rattle.std.proofs.Common.{rules, ◌≡◌, List, subst, arith}
+use Rattle.std.specs.Arc.{arc_value}
+use mathlib.Core.List.{IsPrefix}
+use Rattle.adr_model.specs.Machine.{Publication}
+use Rattle.adr_diary.proofs.Prefixes.{prefix_length}
+use Rattle.adr_board.proofs.Settled.{seen_one}
+use Rattle.adr_board.proofs.run.seen_by.Goals as goal
+
+pub returns-clause-shown : goal.returns-clause-shown
+returns-clause-shown g c =
+    let settled = c.in_ok-settle.ensures in
+    let seen = c.look.new.self.seen in
+    let snapshot = arc_value c.in_ok-seen.seen in
+    let tie : snapshot.tie ≡ c.args.editor.now.tie = search rules in
+    seen_one c.args.editor.now.published seen snapshot c.args.editor.now.tie c.in_ok-seen.ensures.last (subst (λ (l : List Publication). IsPrefix seen l) settled.seen settled.kept) tie
+
+pub returns-clause-known : goal.returns-clause-known
+returns-clause-known g c = omega (arith, c.in_ok-seen.ensures.last.numbered, prefix_length c.look.new.self.seen c.settle.new.reader.seen c.in_ok-settle.ensures.kept)

@@ -1,0 +1,35 @@
+-- What a publication of the editor shows of the machine.
+use Rattle.std.proofs.Common.{◌≡◌, ℕ, ◌+◌, ◌-◌, ◌<◌, ◌≤◌, List, [], ◌∷◌, ◌++◌, length, refl, ap, ap₂, sym, subst, ◌∙◌, arith}
+use Rattle.std.proofs.lemmas.List.{length_push}
+use Rattle.adr_value.specs.declared.limits.TheConstants.{MOST_PUBLICATIONS}
+use Rattle.adr_model.specs.Book.{Book}
+use Rattle.adr_model.specs.Machine.{Publication}
+use Rattle.adr_plain.specs.Kept.{Kept}
+use Rattle.adr_board.specs.Boards.{Board, last_of, with_published}
+use Rattle.adr_server.specs.Shown.{kept_of}
+
+last_of_snoc : (ps : List Publication) (p : Publication) → last_of (ps ++ p ∷ []) ≡ p
+last_of_snoc [] p = refl
+last_of_snoc (q ∷ []) p = refl
+last_of_snoc (q ∷ r ∷ rs) p = last_of_snoc (r ∷ rs) p
+
+one_more : (a b n : ℕ) → a ≡ n + 1 → b ≡ a + 1 → b - 1 ≡ (a - 1) + 1
+one_more a b n e f = omega (arith, e, f)
+
+with_one_more : (old : Board) (n : ℕ) → length old.published ≡ n + 1
+    → kept_of (with_published old) ≡ record (kept_of old) { published = old.book.objects; number = (length old.published - 1) + 1 }
+with_one_more old n long =
+    let one : Publication = record { book = old.book.objects; batch = old.book.pending } in
+    ap₂ (λ (b : Book) (k : ℕ). record (kept_of old) { published = b; number = k })
+    (ap (λ (p : Publication). p.book) (last_of_snoc old.published one))
+    (one_more (length old.published) (length (old.published ++ one ∷ [])) n long (length_push old.published one))
+
+pub published_kept : (old new : Board) (n : ℕ) → length old.published ≡ n + 1 → new ≡ with_published old
+    → kept_of new ≡ record (kept_of old) { published = old.book.objects; number = (length old.published - 1) + 1 }
+published_kept old new n long h = ap kept_of h ∙ with_one_more old n long
+
+pub has_room : (long n number : ℕ) → long ≡ n + 1 → number ≡ long → number ≤ MOST_PUBLICATIONS → long - 1 < MOST_PUBLICATIONS
+has_room long n number e f h = omega (arith, e, f, h)
+
+pub next_number : (long n number : ℕ) → long ≡ n + 1 → number ≡ long → number ≡ (long - 1) + 1
+next_number long n number e f = omega (arith, e, f)

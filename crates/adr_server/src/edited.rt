@@ -1,0 +1,99 @@
+//! The editor of a board, as what a script asks.
+use crate::resolver::Resolver;
+use adr_board::{Board, Editor, Naming, NewBoard};
+use adr_model::Tie;
+use adr_object::{Edit, Id};
+use adr_plain::Published;
+use adr_time::Moment;
+use adr_value::{PayloadType, Refusal};
+use std::alloc::Global;
+use std::sync::Wait;
+
+/// The editor of a board: edits repair its timelines, and queries are answered from its last publication. It is not
+/// `Drop`: end it by `close`.
+pub(crate) struct Edited<J: Naming> {
+    editor: Editor<J>,
+    alloc: Global,
+}
+
+impl<J: Naming> Edited<J> {
+    ghost use Rattle.std.specs.Prelude.{◌≡◌, IfOk};
+    ghost use Rattle.adr_plain.specs.Kept.{kept_start};
+    ghost use Rattle.adr_server.specs.Shown.{kept_of};
+
+    /// The editor of a board of its own, with no objects, published as number 0. The place of its one reader is given
+    /// back. `NoMemory` or `NoRuntime` where the board can't be opened.
+    pub(crate) fn open<H: Wait>(
+        alloc: Global,
+        rt: &H,
+        board: NewBoard,
+        tie: Tie,
+    ) -> Result<Edited<J>, Refusal>
+        requires { board.diary.page.book ≡ J.history }
+        ensures { IfOk result (λ edited. kept_of edited.editor ≡ kept_start tie) }
+    {
+        let (editor, readers) = Board::open::<J, H>(alloc, rt, board, tie, 1)?;
+        drop(readers);
+        Ok(Edited { editor, alloc })
+    }
+
+    /// Ends the board.
+    pub(crate) fn close<H: Wait>(self, rt: &H) {
+        let Edited { editor, alloc: _ } = self;
+        editor.close(rt);
+    }
+}
+
+impl<J: Naming> Resolver for Edited<J> {
+    ghost use Rattle.adr_server.specs.Shown.{kept_of};
+
+    ghost kept = { λ e. kept_of e.editor };
+
+    fn edit(&mut self, edit: Edit) -> Result<u64, Refusal> {
+        let _receipt = self.editor.apply(edit)?;
+        Ok(self.editor.desk().book().version())
+    }
+
+    fn publish<H: Wait>(&mut self, rt: &H) -> Result<Published, Refusal> {
+        let _last = self.editor.last();
+        let published = self.editor.publish(rt)?;
+        Ok(Published {
+            number: published.number,
+            version: self.editor.desk().book().version(),
+        })
+    }
+
+    fn condense(&mut self) -> Result<u64, Refusal> {
+        let _version = self.editor.condense()?;
+        Ok(self.editor.last().version())
+    }
+
+    fn at(&self, id: &Id, payload_type: &PayloadType, moment: Moment) -> Result<Vec<u8>, Refusal> {
+        adr_calendar::at(self.alloc, &**self.editor.last(), id, payload_type, moment)
+    }
+
+    fn list(
+        &self,
+        id: &Id,
+        payload_type: &PayloadType,
+        from: Moment,
+        to: Moment,
+    ) -> Result<Vec<u8>, Refusal> {
+        adr_calendar::list(
+            self.alloc,
+            &**self.editor.last(),
+            id,
+            payload_type,
+            from,
+            to,
+        )
+    }
+
+    fn roll(&self, payload_type: &PayloadType, moment: Moment) -> Result<Vec<u8>, Refusal> {
+        adr_calendar::roll(self.alloc, &**self.editor.last(), payload_type, moment)
+    }
+
+    fn types(&self, id: &Id) -> Result<Vec<u8>, Refusal> {
+        adr_calendar::types(self.alloc, &**self.editor.last(), id)
+    }
+}
