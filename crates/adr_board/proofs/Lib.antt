@@ -1,3 +1,4 @@
+pub mod Crossing
 pub mod Lasts
 pub mod Steps
 pub mod Sights

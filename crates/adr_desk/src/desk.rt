@@ -2,6 +2,7 @@
 ghost use Rattle.std.specs.Prelude.{◌≡◌, ◌≢◌, ◌≤◌, ◌++◌, ◌∷◌, [], ℤ, None, Ok, IsOk, IfOk, IfSome, OnOk, OnErr};
 ghost use Rattle.std.specs.Option.{option_copied, option_map_or};
 ghost use Rattle.adr_value.specs.Answer.{Answers, OnlyNoMemory, result_map};
+ghost use Rattle.adr_value.specs.Copy.{IsCopyOf};
 ghost use Rattle.adr_model.specs.Book.{empty};
 ghost use Rattle.adr_model.specs.Edits.{full_at, made as made_book, step_to};
 ghost use Rattle.adr_model.specs.Governor.{governs};
@@ -15,7 +16,7 @@ use crate::make::{Made, make};
 use crate::receipt::Receipt;
 use adr_audience::Audiences;
 use adr_book::{Book, judge};
-use adr_lines::Indexes;
+use adr_lines::{Indexes, exchange_laws};
 use adr_model::Tie;
 use adr_object::{Edit, Id};
 use adr_resolution::Resolution;
@@ -98,6 +99,23 @@ impl Desk {
             keys,
             indexes: Indexes::new(alloc),
             alloc,
+        })
+    }
+
+    /// A desk of its own with the same book and timelines, which it shares. `NoMemory` where there is no room. Cost: the
+    /// keys of all resources and events, and the entries of all events.
+    pub fn copy(&self) -> Result<Desk, Refusal>
+        ensures { IsCopyOf result self.now }
+    {
+        exchange_laws();
+        let resolution = self.resolution.copy()?;
+        let keys = Audiences::of(self.alloc, self.book().objects())?;
+        let indexes = self.indexes.copy(self.alloc)?;
+        Ok(Desk {
+            resolution,
+            keys,
+            indexes,
+            alloc: self.alloc,
         })
     }
 

@@ -130,13 +130,20 @@ impl Places {
         ensures ok { IfOk result (λ list. list.items ≡ filter (has self.now) (range_with_len 0 count)) }
         ensures refusal { OnlyNoMemory result }
     {
-        let mut list = Vec::new(alloc);
+        let mut list = Vec::with_capacity(alloc, bits_in(&self.words))?;
         for index in 0..self.word_count(count) {
             let base = 64 * index;
             push_places(&mut list, base, low_bits(self.words[index], count - base))?;
         }
         Ok(list)
     }
+}
+
+/// How many bits the words have, which says how much room their list takes.
+fn bits_in(words: &[u64]) -> usize {
+    words
+        .iter()
+        .fold(0, |count: usize, word| count.saturating_add(word.count_ones() as usize))
 }
 
 /// Adds the places of the word's bits, in order.

@@ -1,3 +1,4 @@
+pub mod Copied
 pub mod Distinct
 pub mod Exchanged
 pub mod Held

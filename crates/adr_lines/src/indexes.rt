@@ -45,6 +45,19 @@ impl Indexes {
         }
     }
 
+    /// The same entries under each type, in memory of their own. `NoMemory` where there is no room. Cost: all entries.
+    pub fn copy(&self, alloc: Global) -> Result<Indexes, Refusal>
+        ensures entries { IfOk result (λ copy. (k : AnyType) → under copy k ≡ under self.now k) }
+        ensures memory { OnlyNoMemory result }
+    {
+        let mut by_name = IndexMap::with_capacity(alloc, self.by_name.len())?;
+        for (name, index) in self.by_name.iter() {
+            let own = name.as_str().to_string(alloc)?;
+            drop(by_name.insert(own, index.copy()?)?);
+        }
+        Ok(Indexes { by_name })
+    }
+
     /// The entries under the type that meet the window, in order. `NoMemory` where there is no room for them. Cost:
     /// that of `Index::overlapping`, and one look-up of the type's name.
     pub fn overlapping(

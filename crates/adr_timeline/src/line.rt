@@ -223,10 +223,13 @@ impl Line {
         }
     }
 
-    /// Whether a chunk of so many segments is large enough to be shared, and not larger than a chunk may be.
+    /// Whether a chunk of so many segments is large enough to be shared, and not larger than a chunk may be. A chunk that
+    /// is a quarter full at most is copied, so that small ones are put together.
     fn is_shared(&self, count: usize) -> bool {
         let room = self.most.saturating_sub(self.unsealed.len());
-        count <= self.most && (self.unsealed.is_empty() || room < count)
+        self.most / 4 < count
+            && count <= self.most
+            && (self.unsealed.is_empty() || room < count)
     }
 
     /// Puts a chunk at the end, which stays shared where that is worth it.
