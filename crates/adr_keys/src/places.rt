@@ -141,9 +141,10 @@ impl Places {
 
 /// How many bits the words have, which says how much room their list takes.
 fn bits_in(words: &[u64]) -> usize {
-    words
-        .iter()
-        .fold(0, |count: usize, word| count.saturating_add(word.count_ones() as usize))
+    words.iter().fold(
+        0,
+        |count: usize, word| count.saturating_add(word.count_ones() as usize),
+    )
 }
 
 /// Adds the places of the word's bits, in order.

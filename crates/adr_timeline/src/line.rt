@@ -227,9 +227,7 @@ impl Line {
     /// is a quarter full at most is copied, so that small ones are put together.
     fn is_shared(&self, count: usize) -> bool {
         let room = self.most.saturating_sub(self.unsealed.len());
-        self.most / 4 < count
-            && count <= self.most
-            && (self.unsealed.is_empty() || room < count)
+        self.most / 4 < count && count <= self.most && (self.unsealed.is_empty() || room < count)
     }
 
     /// Puts a chunk at the end, which stays shared where that is worth it.
