@@ -7,6 +7,8 @@ mod alike;
 #[cfg(test)]
 mod alone;
 #[cfg(test)]
+mod beside;
+#[cfg(test)]
 mod bodies;
 #[cfg(test)]
 mod lines;
