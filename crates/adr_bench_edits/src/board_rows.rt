@@ -1,4 +1,7 @@
-//! Rows of what a publication takes.
+//! Rows of what a publication takes, and of looks beside publications.
+ghost use Rattle.std.specs.Prelude.{◌<◌, ◌≤◌};
+
+use crate::looking::looked;
 use crate::publishing::{held, published};
 use crate::told::told;
 use adr_board::NewBoard;
@@ -6,6 +9,7 @@ use std::io;
 use std::marker::Brand;
 use std::rt::Clock;
 use std::sync::Wait;
+use std::thread::Threads;
 
 fn print_publications<R: AllocGlobal + Print + Clock + Wait>(
     rt: &R,
@@ -24,6 +28,29 @@ fn print_publications<R: AllocGlobal + Print + Clock + Wait>(
 pub(crate) fn print_held<R: AllocGlobal + Print + Wait>(rt: &R, count: usize) -> io::Result<()> {
     let last = told(held::<Brand, R>(rt, NewBoard::new(), count))?;
     println!(rt; "held {count} up to {last}")
+}
+
+fn print_lookers<R: AllocGlobal + Print + Clock + Threads + Wait + Sync>(
+    rt: &R,
+    readers: usize,
+) -> io::Result<()>
+    requires { (0 < readers) × (readers ≤ 64) }
+{
+    let looked = told(looked::<Brand, R>(rt, NewBoard::new(), readers))?;
+    println!(rt;
+        "| {readers} | {} | {} |",
+        looked.looks, looked.publications
+    )
+}
+
+/// The table of looks in a second beside an editor that publishes.
+pub(crate) fn print_looks<R: AllocGlobal + Print + Clock + Threads + Wait + Sync>(
+    rt: &R,
+) -> io::Result<()> {
+    println!(rt; "| Readers | Looks a second | Publications a second |\n|---|---|---|")?;
+    print_lookers(rt, 1)?;
+    print_lookers(rt, 2)?;
+    print_lookers(rt, 4)
 }
 
 /// The table of publications after one edit each.

@@ -1,7 +1,8 @@
 //! How books, desks and boards stand after many edits and publications, and how much repairs compare.
 //!
-//! With no word, all by count. With `books`, `desks` or `boards`: that part alone, and how long it takes. With
-//! `hold COUNT`: so many publications are held at once, for a measurement of memory from outside.
+//! With no word, all by count. With `books`, `desks` or `boards`: that part alone, and how long it takes. With `looks`: how
+//! often readers look in a second beside an editor that publishes. With `hold COUNT`: so many publications are held at
+//! once, for a measurement of memory from outside.
 #![tactic(auto)]
 
 mod board_rows;
@@ -14,19 +15,21 @@ mod changes;
 mod desk_rows;
 mod desk_times;
 mod desks;
+mod looking;
 mod publishing;
 mod told;
 mod works;
 
-use crate::board_rows::{print_boards, print_held};
+use crate::board_rows::{print_boards, print_held, print_looks};
 use crate::book_rows::print_books;
 use crate::desk_rows::print_desks;
 use std::rt::{Clock, Env};
 use std::sync::Wait;
+use std::thread::Threads;
 use std::{env, io};
 
 /// What stands behind a word.
-fn print_part<R: AllocGlobal + Print + Clock + Wait>(
+fn print_part<R: AllocGlobal + Print + Clock + Threads + Wait + Sync>(
     rt: &R,
     part: &str,
     count: &str,
@@ -35,6 +38,7 @@ fn print_part<R: AllocGlobal + Print + Clock + Wait>(
         "books" => print_books(rt, true),
         "desks" => print_desks(rt, true),
         "boards" => print_boards(rt, true),
+        "looks" => print_looks(rt),
         _ => print_held(rt, count.parse::<usize>().unwrap_or(1)),
     }
 }
