@@ -1,0 +1,153 @@
+//! The threads, one in each level of a recursion, and the input in the innermost.
+ghost use Rattle.std.specs.Prelude.{◌≡◌, ◌≤◌, ◌^◌, true, false, [], IfOk, OnErr, IsErrOf, length};
+ghost use Rattle.std.specs.Io.KnownBytes.{IsAtEnd};
+ghost use Rattle.adr_script.specs.Logs.{reads_made, has_ended, has_read_failed, has_write_failed};
+ghost use Rattle.adr_fan.specs.declared.levels.Ending.TheVariants.{All, ReadFailed, NoMoreReads};
+ghost use Rattle.adr_fan.specs.Levels.{HasTold, HasToldInPart};
+ghost use Rattle.adr_fan.specs.Parts.{AreParts};
+
+use crate::gates::Gate;
+use crate::reading::{Answers, Part, Reply, start};
+use crate::script::FanDesk;
+use adr_board::{Naming, Reader};
+use adr_script::{Fault, ReadLog, WriteLog, serve};
+use std::io::{Read, Write};
+use std::sync::{Arc, Wait};
+use std::thread::{PromisedHandle, Threads};
+
+/// How the input ended, where its lines were answered.
+#[derive(Clone, Copy, PartialEq, Eq)]
+pub(crate) enum Ending {
+    All,
+    ReadFailed,
+    NoMoreReads,
+}
+
+/// Why a run stops before that.
+#[derive(Clone, Copy, PartialEq, Eq)]
+pub(crate) enum Stop {
+    WriteFailed,
+    NoRuntime,
+}
+
+/// What the readers handed back, checked, reader 0 first.
+#[derive(Drop)]
+pub(crate) struct Collected {
+    pub(crate) parts: Vec<Vec<Reply>>,
+    pub(crate) ending: Ending,
+}
+
+/// Answers the lines, and closes the mailboxes.
+fn serve_all<J: Naming, H: AllocGlobal + Threads + Wait, I: Read, W: Write>(
+    rt: &H,
+    reader: &mut I,
+    reads: &mut ReadLog,
+    writer: &mut W,
+    writes: &mut WriteLog,
+    desk: &mut FanDesk<J>,
+) -> Result<Collected, Stop>
+    requires made { reads_made reads.old ≡ 0 }
+    requires no_read { has_read_failed reads.old ≡ false }
+    requires no_write { has_write_failed writes.old ≡ false }
+    ensures told { IfOk result (λ c. HasTold c.ending desk.old (I.remaining reader.old) (I.remaining reader.new) (W.contents writer.old) (W.contents writer.new) desk.new) }
+    ensures end { IfOk result (λ c. c.ending ≡ All → IsAtEnd (I.remaining reader.new)) }
+    ensures parts { IfOk result (λ c. c.parts.items ≡ []) }
+    ensures err { OnErr result (HasToldInPart desk.old (I.remaining reader.old) (I.remaining reader.new) (W.contents writer.old) (W.contents writer.new) desk.new) }
+    ensures bound { reads_made reads.new ≤ 2 ^ 32 }
+    ensures ended { IfOk result (λ c. c.ending ≡ All → has_ended reads.new ≡ true) }
+    ensures read_ends { IfOk result (λ c. c.ending ≡ All → has_read_failed reads.new ≡ false) }
+    ensures write_ends { has_write_failed writes.new ≡ true → result ≡ Err Stop.WriteFailed }
+    ensures read_failed { IfOk result (λ c. c.ending ≡ ReadFailed → has_read_failed reads.new ≡ true) }
+    ensures no_more_reads { IfOk result (λ c. c.ending ≡ NoMoreReads → reads_made reads.new ≡ 2 ^ 32) }
+    ensures write_failed { IsErrOf result Stop.WriteFailed → has_write_failed writes.new ≡ true }
+{
+    let parts = Vec::new(rt.alloc());
+    let served = serve(rt, reader, reads, writer, writes, desk);
+    desk.close_boxes(rt);
+    match served {
+        Ok(()) => Ok(Collected {
+            parts,
+            ending: Ending::All,
+        }),
+        Err(Fault::Reading) => Ok(Collected {
+            parts,
+            ending: Ending::ReadFailed,
+        }),
+        Err(Fault::Reads) => Ok(Collected {
+            parts,
+            ending: Ending::NoMoreReads,
+        }),
+        Err(Fault::Writing) => Err(Stop::WriteFailed),
+        Err(Fault::Runtime) => Err(Stop::NoRuntime),
+    }
+}
+
+/// Starts the thread of the reader in this seat.
+fn start_seat<
+    J: Naming + Send + 'static,
+    H: AllocGlobal + Threads + Wait + Clone + Drop + Send + 'static,
+    G: Gate + Send + Sync + Drop + 'static,
+>(
+    rt: &H,
+    gate: &Arc<G>,
+    desk: &FanDesk<J>,
+    seated: Reader<J>,
+    seat: usize,
+) -> Option<PromisedHandle<Part<J>, Answers<J>>> {
+    let mailbox = desk.boxes.get(seat)?;
+    start(rt, gate, mailbox, seated, desk.editor.desk().tie(), seat)
+}
+
+/// Starts a thread for the last of these readers, and goes on with the others. The innermost level answers the lines.
+/// On the way back each level joins its thread and checks its replies.
+pub(crate) fn level<
+    J: Naming + Send + 'static,
+    H: AllocGlobal + Threads + Wait + Clone + Drop + Send + 'static,
+    I: Read,
+    W: Write,
+    G: Gate + Send + Sync + Drop + 'static,
+>(
+    rt: &H,
+    gate: &Arc<G>,
+    reader: &mut I,
+    reads: &mut ReadLog,
+    writer: &mut W,
+    writes: &mut WriteLog,
+    desk: &mut FanDesk<J>,
+    seats: Vec<Reader<J>>,
+) -> Result<Collected, Stop>
+    requires made { reads_made reads.old ≡ 0 }
+    requires no_read { has_read_failed reads.old ≡ false }
+    requires no_write { has_write_failed writes.old ≡ false }
+    ensures told { IfOk result (λ c. HasTold c.ending desk.old (I.remaining reader.old) (I.remaining reader.new) (W.contents writer.old) (W.contents writer.new) desk.new) }
+    ensures end { IfOk result (λ c. c.ending ≡ All → IsAtEnd (I.remaining reader.new)) }
+    ensures count { IfOk result (λ c. length c.parts.items ≡ length seats.items) }
+    ensures parts { IfOk result (λ c. AreParts desk.new c.parts.items) }
+    ensures err { OnErr result (HasToldInPart desk.old (I.remaining reader.old) (I.remaining reader.new) (W.contents writer.old) (W.contents writer.new) desk.new) }
+    ensures bound { reads_made reads.new ≤ 2 ^ 32 }
+    ensures ended { IfOk result (λ c. c.ending ≡ All → has_ended reads.new ≡ true) }
+    ensures read_ends { IfOk result (λ c. c.ending ≡ All → has_read_failed reads.new ≡ false) }
+    ensures write_ends { has_write_failed writes.new ≡ true → result ≡ Err Stop.WriteFailed }
+    ensures read_failed { IfOk result (λ c. c.ending ≡ ReadFailed → has_read_failed reads.new ≡ true) }
+    ensures no_more_reads { IfOk result (λ c. c.ending ≡ NoMoreReads → reads_made reads.new ≡ 2 ^ 32) }
+    ensures write_failed { IsErrOf result Stop.WriteFailed → has_write_failed writes.new ≡ true }
+{
+    let mut seats = seats;
+    let Some(seated) = seats.pop() else {
+        return serve_all(rt, reader, reads, writer, writes, desk);
+    };
+    let Some(child) = start_seat(rt, gate, desk, seated, seats.len()) else {
+        desk.close_boxes(rt);
+        return Err(Stop::NoRuntime);
+    };
+    let collected = level(rt, gate, reader, reads, writer, writes, desk, seats);
+    let part = child.join(rt);
+    let Collected { mut parts, ending } = collected?;
+    let Some(replies) = desk.check(part) else {
+        return Err(Stop::NoRuntime);
+    };
+    if parts.push(replies).is_err() {
+        return Err(Stop::NoRuntime);
+    }
+    Ok(Collected { parts, ending })
+}

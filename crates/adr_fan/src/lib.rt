@@ -1,0 +1,16 @@
+#![tactic(auto)]
+//! A script that many readers answer, each in a thread of its own, while one thread goes on editing.
+
+mod answering;
+mod checking;
+mod fanning;
+mod gates;
+mod levels;
+mod mailbox;
+mod queries;
+mod reading;
+mod script;
+mod writing;
+
+pub use fanning::{fan, fan_logged};
+pub use gates::{Gate, NoGate};
