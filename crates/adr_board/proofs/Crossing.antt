@@ -291,4 +291,4 @@ module _ (J : RattleType) (g : Names J.Denot) (s : IsSend J) where
   raw_send = search (sendable, std.crosses, shown_sync, part.the_send, seat.the_send, lease.the_send, lease.the_sync, table.the_send, table.the_sync, std.send, std.sync) depth 60 fits 60000
 
   pub reader_send : IsSend (Reader.the_row J g)
-  reader_send = search (sendable, std.crosses, seen.the_send, told_send, raw_send) depth 60 fits 60000
+  reader_send = search (sendable, std.crosses, seen.the_send, told_send, raw_send, snapshot_send, snapshot_sync) depth 60 fits 60000

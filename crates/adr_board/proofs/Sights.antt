@@ -1,19 +1,22 @@
 -- What a look finds.
-use Rattle.std.proofs.Common.{◌≡◌, ◌⊎◌, inl, List, refl, sym, subst, Result, Ok, Err, IfOk, IfErr}
+use Rattle.std.proofs.Common.{◌≡◌, ◌⊎◌, inl, ℕ, true, List, Option, Some, None, refl, sym, subst, arith, Result, Ok, Err, IfOk, IfErr, is_some}
+use Rattle.std.specs.Prelude.{IfSome, option_map}
 use Rattle.std.specs.Arc.{arc_value}
 use Rattle.std.specs.declared.sync.Arc.{Arc}
 use mathlib.Core.List.{IsPrefix}
 use Rattle.logbook.specs.Pages.{Book as History}
 use Rattle.adr_value.specs.declared.refusal.Refusal.{Refusal}
 use Rattle.adr_value.specs.declared.refusal.Refusal.TheVariants.{NoMemory, NoRuntime}
+use Rattle.adr_value.specs.Answer.{OnlyNoMemory}
 use Rattle.adr_model.specs.Machine.{Publication}
+use Rattle.adr_diary.specs.declared.diary.Entry.{Entry}
 use Rattle.adr_diary.specs.History.{seen_by, EndsInAttempt}
-use Rattle.adr_diary.proofs.Prefixes.{prefix_trans}
+use Rattle.adr_diary.proofs.Prefixes.{prefix_trans, prefix_whole}
 use Rattle.adr_diary.proofs.Histories.{seen_at}
 use Rattle.adr_board.specs.declared.shown.Showing.{Showing}
 use Rattle.adr_board.specs.Boards.{View, Grows}
 use Rattle.adr_snapshot.specs.Published.{PublishedBook}
-use Rattle.adr_board.specs.Rules.{IsLast, IsCarried, IsSight, publication_in}
+use Rattle.adr_board.specs.Rules.{IsLast, IsCarried, IsSight, IsTaken, publication_in}
 
 abbrev Publications : Type 0
 Publications = List Publication
@@ -25,9 +28,41 @@ sighted history v w s longer carried =
     let is : seen_by s.page.log ≡ w = seen_at w s.page.log s.snapshot.number s.attempt (publication_in s.snapshot) carried.1 in
     (longer, is, carried.0, (publication_in s.snapshot, subst (λ (p : Publications). EndsInAttempt p s.page.log s.snapshot.number s.attempt (publication_in s.snapshot)) (sym is) carried.1))
 
-pub looked : {Z : Type 0} (r : Result (Arc PublishedBook Z) Refusal) (seen w : Publications) → seen ≡ w → IfOk r (λ s. IsLast w (arc_value s)) → IfOk r (λ s. IsLast seen (arc_value s))
-looked (Ok s) seen w is last = subst (λ (p : Publications). IsLast p (arc_value s)) (sym is) last
-looked (Err e) seen w is last = tt
+-- a snapshot of the last of the publications seen before is that of the last one now where it has the number of what is seen
+pub still_last : (old new : Publications) (log : List Entry) (number attempt : ℕ) (s : PublishedBook) → IsPrefix old new → IsSight new log number attempt
+    → s.number ≡ number → IsLast old s → IsLast new s
+still_last old new log number attempt s longer sight is last =
+    let same : old ≡ new = prefix_whole old new longer (omega (arith, last.numbered, sight.1.numbered)) in
+    subst (λ (l : Publications). IsLast l s) same last
+
+-- what a look takes, of a fresh copy or of the snapshot that its reader has, is the last of what is seen now
+pub taken : {Z : Type 0} (old new known : Publications) (log : List Entry) (number attempt : ℕ) (fresh : Option (Result PublishedBook Refusal)) (own : Option (Arc PublishedBook Z))
+    → IsPrefix old new → IsSight new log number attempt → new ≡ known → IfSome own (λ s. IsLast old (arc_value s))
+    → IfSome fresh (λ copy. IfOk copy (IsLast known) × OnlyNoMemory copy) → (fresh ≡ None → option_map (λ s. (arc_value {X = PublishedBook} s).number) own ≡ Some number)
+    → IsTaken new fresh own
+taken old new known log number attempt None None longer sight is last copies had = tt
+taken old new known log number attempt None (Some s) longer sight is last copies had =
+    let e : Some (arc_value s).number ≡ Some number = had refl in
+    let same : (arc_value s).number ≡ number = cc (e) in
+    still_last old new log number attempt (arc_value s) longer sight same last
+taken old new known log number attempt (Some (Ok s)) own longer sight is last copies had = subst (λ (l : Publications). IsLast l s) (sym is) copies.0
+taken old new known log number attempt (Some (Err e)) own longer sight is last copies had = tt
+
+-- a reader that takes no fresh copy has a snapshot
+pub has_own : {Z : Type 0} (number : ℕ) (fresh : Option (Result PublishedBook Refusal)) (own : Option (Arc PublishedBook Z))
+    → (fresh ≡ None → option_map (λ s. (arc_value {X = PublishedBook} s).number) own ≡ Some number) → fresh ≡ None → is_some own ≡ true
+has_own number fresh None had none = absurd (cc (had none))
+has_own number fresh (Some s) had none = refl
+
+pub fresh_refusal : (fresh : Option (Result PublishedBook Refusal)) (known : Publications) → IfSome fresh (λ copy. IfOk copy (IsLast known) × OnlyNoMemory copy) → IfSome fresh (λ copy. OnlyNoMemory copy)
+fresh_refusal None known copies = tt
+fresh_refusal (Some copy) known copies = copies.1
+
+-- one more share of a snapshot shows what it shows
+pub shared_last : {Z : Type 0} (r : Result (Arc PublishedBook Z) Refusal) (own : Arc PublishedBook Z) (seen : Publications)
+    → IfOk r (λ s. arc_value s ≡ arc_value own) → IsLast seen (arc_value own) → IfOk r (λ s. IsLast seen (arc_value s))
+shared_last (Ok s) own seen same last = subst (λ (x : PublishedBook). IsLast seen x) (sym same) last
+shared_last (Err e) own seen same last = tt
 
 pub either_way : {X : Type 0} (r : Result X Refusal) (P : Type 0) → P → IfOk r (λ _. P)
 either_way (Ok x) P p = p
@@ -38,5 +73,8 @@ refused (Ok x) old new grown why = tt
 refused (Err e) old new grown why = inl (why, grown)
 
 -- a and b are what the rule knows before and after
+pub longer : (was now a b : Publications) → IsPrefix was a → IsPrefix a b → now ≡ b → IsPrefix was now
+longer was now a b p q is = subst (λ (l : Publications). IsPrefix was l) (sym is) (prefix_trans was a b p q)
+
 pub grown : (was now a b told : Publications) → IsPrefix was a → IsPrefix a b → now ≡ b → IsPrefix told now → Grows record { seen = was; learnt = told } record { seen = now; learnt = told }
-grown was now a b told p q is t = (subst (λ (l : Publications). IsPrefix was l) (sym is) (prefix_trans was a b p q), t, refl)
+grown was now a b told p q is t = (longer was now a b p q is, t, refl)

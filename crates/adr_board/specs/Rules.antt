@@ -6,12 +6,14 @@
 --   the enter in a look                       that reader's: the list whose last publication it sees
 --   the leaving in a look                     none changes
 --   an edit, a condense, a tell, a learn      none changes; they touch nothing that is shared
-use Rattle.std.specs.Prelude.{◌≡◌, ℕ, ◌+◌, List, [], ◌∷◌, ◌++◌}
+use Rattle.std.specs.Prelude.{◌≡◌, ℕ, ◌+◌, List, [], ◌∷◌, ◌++◌, Option, Result, IfOk, IfSome, MatchOption}
 use Rattle.std.specs.Arc.{arc_value}
+use Rattle.std.specs.declared.sync.Arc.{Arc}
 use mathlib.Core.Option.{some}
 use mathlib.Core.List.{IsPrefix}
 use lib.ListN.{get_elem?}
 use Rattle.logbook.specs.Pages.{Book as History}
+use Rattle.adr_value.specs.declared.refusal.Refusal.{Refusal}
 use Rattle.adr_model.specs.Edits.{after_from}
 use Rattle.adr_model.specs.Machine.{Publication}
 use Rattle.adr_diary.specs.declared.diary.Entry.{Entry}
@@ -62,3 +64,7 @@ MayFollow history published s t =
 -- a look at the last of these publications: the history, the number and the place of its attempt
 abbrev pub IsSight : List Publication → List Entry → ℕ → ℕ → Type 0
 IsSight published log number attempt = (p : Publication) × EndsInAttempt published log number attempt p
+
+-- what a look takes is the last of these publications: the fresh copy of it, or where there is none the snapshot that its reader has
+abbrev pub IsTaken : {Z : Type 0} → List Publication → Option (Result PublishedBook Refusal) → Option (Arc PublishedBook Z) → Type 0
+IsTaken published fresh own = MatchOption fresh (IfSome own (λ s. IsLast published (arc_value s))) (λ copy. IfOk copy (IsLast published))

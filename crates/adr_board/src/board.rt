@@ -1,21 +1,23 @@
 //! The editor of a board, its readers, and what it tells them.
-ghost use Rattle.std.specs.Prelude.{◌≡◌, ◌⊎◌, ◌+◌, ◌<◌, ◌≤◌, ◌++◌, ◌∷◌, [], length, All, IfErr, IfNone, IfOk, IfSome, IsTrue, Ok, OnErr, OnOk, vec_len};
+ghost use Rattle.std.specs.Prelude.{◌≡◌, ◌⊎◌, ◌+◌, ◌<◌, ◌≤◌, ◌++◌, ◌∷◌, [], length, All, IfErr, IfNone, IfOk, IfSome, IsTrue, List, None, Ok, OnErr, OnOk, Some, is_some, option_map, true, vec_len};
 ghost use Rattle.std.specs.Arc.{arc_value};
 ghost use Rattle.std.specs.List.{flat_map};
 ghost use mathlib.Core.List.{IsPrefix};
 ghost use Rattle.left_right.specs.Sides.{view as known};
 ghost use Rattle.adr_value.specs.Answer.{Answers, OnlyNoMemory, result_map};
+ghost use Rattle.adr_value.specs.Copy.{IsCopyOf};
 ghost use Rattle.adr_value.specs.declared.refusal.Refusal.TheVariants.{NoRuntime, NoMemory, Full};
 ghost use Rattle.adr_model.specs.Book.{empty};
 ghost use Rattle.adr_model.specs.Edits.{full_at, made as made_book, step_to};
-ghost use Rattle.adr_model.specs.Machine.{opening};
+ghost use Rattle.adr_model.specs.Machine.{Publication, opening};
 ghost use Rattle.adr_model.specs.Touches.{touches};
 ghost use Rattle.adr_book.specs.Ledger.{sealed_of};
+ghost use Rattle.adr_snapshot.specs.Published.{PublishedBook};
 ghost use Rattle.adr_snapshot.specs.Types.{ArePrivate, edit_names, HasPrivateNames};
 ghost use Rattle.adr_diary.specs.History.{HasLast, begun, published_by, seen_by};
 ghost use Rattle.adr_diary.specs.Publications.{publication_of};
 ghost use Rattle.adr_board.specs.Boards.{Grows, last_of, newcomer, with_published};
-ghost use Rattle.adr_board.specs.Rules.{IsCarried, IsLast, IsSight, MayFollow, publication_in, showing};
+ghost use Rattle.adr_board.specs.Rules.{IsCarried, IsLast, IsSight, IsTaken, MayFollow, publication_in, showing};
 
 use crate::rule::{Add, Look, Naming, RuledReader, RuledWriter};
 use crate::shown::Shown;
@@ -113,11 +115,16 @@ impl<J: Naming> Told<J> {
 }
 
 /// One of the readers. Contracts see the publications that it has seen, and those that it has learnt of.
+///
+/// It holds the snapshot that it saw last until it sees another, in a share of its own, so that readers which look at one
+/// publication beside each other don't count its shares in one place.
 #[derive(Drop)]
 pub struct Reader<J: Naming> {
+    alloc: Global,
     raw: RuledReader<J>,
     page: Page,
     told: Told<J>,
+    own: Option<Arc<Snapshot>>,
 }
 
 impl<J: Naming> Model for Reader<J> {
@@ -125,39 +132,44 @@ impl<J: Naming> Model for Reader<J> {
 
     ghost Value = { View };
 
-    ghost use Rattle.std.specs.Prelude.{◌≡◌};
+    ghost use Rattle.std.specs.Prelude.{◌≡◌, IfSome};
+    ghost use Rattle.std.specs.Arc.{arc_value};
     ghost use mathlib.Core.List.{IsPrefix};
     ghost use Rattle.left_right.specs.Sides.{view as known};
     ghost use Rattle.adr_diary.specs.History.{seen_by};
+    ghost use Rattle.adr_board.specs.Rules.{IsLast};
 
     ghost view = { λ r. record { seen = seen_by r.page.log; learnt = r.told } };
 
-    ghost invariant = { λ r. IsPrefix (seen_by r.page.log) (known r.raw.place) };
+    ghost invariant = { λ r. IsPrefix (seen_by r.page.log) (known r.raw.place) × IfSome r.own (λ s. IsLast (seen_by r.page.log) (arc_value s)) };
 }
 
-// What a look finds: the history of the last publication, its number and the place of its attempt, and a share of it.
+// What a look finds: the history of the last publication, its number and the place of its attempt, and a copy of it
+// where it is not the one that the reader has.
 #[derive(Drop)]
 struct Sight {
     page: Page,
     number: u64,
     attempt: u64,
-    share: Result<Arc<Snapshot>, Refusal>,
+    fresh: Option<Result<Snapshot, Refusal>>,
 }
 
-// Enters, takes a share of what is shown, and leaves.
-fn enter<J: Naming>(reader: RuledReader<J>) -> (RuledReader<J>, Option<Sight>)
+// Enters, copies what is shown unless it has the number that the reader has, and leaves.
+fn enter<J: Naming>(reader: RuledReader<J>, had: Option<u64>) -> (RuledReader<J>, Option<Sight>)
     ensures sight { IfSome result.1 (λ g. IsPrefix (known reader.place) (known result.0.place) × (seen_by g.page.log ≡ known result.0.place) × (g.page.book ≡ J.history) × IsSight (seen_by g.page.log) g.page.log g.number g.attempt) }
-    ensures share { IfSome result.1 (λ g. IfOk g.share (λ s. IsLast (known result.0.place) (arc_value s)) × IfErr g.share (λ e. e ≡ NoMemory)) }
+    ensures fresh { IfSome result.1 (λ g. IfSome g.fresh (λ copy. IfOk copy (IsLast (known result.0.place)) × OnlyNoMemory copy)) }
+    ensures had { IfSome result.1 (λ g. g.fresh ≡ None → had ≡ Some g.number) }
     ensures none { IfNone result.1 (known result.0.place ≡ known reader.place) }
 {
     match reader.enter_as::<Look<J>>() {
         Ok(reading) => {
             let shown = reading.get();
+            let number = shown.snapshot.number();
             let sight = Sight {
                 page: shown.page.again(),
-                number: shown.snapshot.number(),
+                number,
                 attempt: shown.attempt,
-                share: Arc::try_clone(&shown.snapshot).map_err(|_| Refusal::NoMemory),
+                fresh: copy_unless(&shown.snapshot, had == Some(number)),
             };
             (reading.leave(), Some(sight))
         }
@@ -165,25 +177,75 @@ fn enter<J: Naming>(reader: RuledReader<J>) -> (RuledReader<J>, Option<Sight>)
     }
 }
 
+// A copy of the snapshot, unless the reader has it.
+fn copy_unless(snapshot: &Snapshot, is_had: bool) -> Option<Result<Snapshot, Refusal>>
+    ensures copy { IfSome result (λ copy. IsCopyOf copy snapshot.now) }
+    ensures had { result ≡ None → is_had ≡ true }
+{
+    if is_had { None } else { Some(snapshot.copy()) }
+}
+
 // The same in place.
-fn glance<J: Naming>(reader: &mut RuledReader<J>) -> Option<Sight>
+fn glance<J: Naming>(reader: &mut RuledReader<J>, had: Option<u64>) -> Option<Sight>
     ensures sight { IfSome result (λ g. IsPrefix (known reader.old.place) (known reader.new.place) × (seen_by g.page.log ≡ known reader.new.place) × (g.page.book ≡ J.history) × IsSight (seen_by g.page.log) g.page.log g.number g.attempt) }
-    ensures share { IfSome result (λ g. IfOk g.share (λ s. IsLast (known reader.new.place) (arc_value s)) × IfErr g.share (λ e. e ≡ NoMemory)) }
+    ensures fresh { IfSome result (λ g. IfSome g.fresh (λ copy. IfOk copy (IsLast (known reader.new.place)) × OnlyNoMemory copy)) }
+    ensures had { IfSome result (λ g. g.fresh ≡ None → had ≡ Some g.number) }
     ensures none { IfNone result (known reader.new.place ≡ known reader.old.place) }
 {
-    replace_with(reader, (), |reader, _| enter(reader))
+    replace_with(reader, had, |reader, had| enter(reader, had))
+}
+
+// The number of the snapshot that a reader has.
+fn number_of(own: &Option<Arc<Snapshot>>) -> Option<u64>
+    ensures { result ≡ option_map (λ s. (arc_value {X = PublishedBook} s).number) own.now }
+{
+    match own {
+        Some(own) => Some(own.number()),
+        None => None,
+    }
+}
+
+// The reader's own share of the publication that is last: that of the fresh copy, or else the one that it has.
+fn renewed(
+    alloc: Global,
+    fresh: Option<Result<Snapshot, Refusal>>,
+    own: Option<Arc<Snapshot>>,
+) -> Result<Arc<Snapshot>, Refusal>
+    requires has { fresh ≡ None → is_some own ≡ true }
+    requires copy { IfSome fresh (λ copy. OnlyNoMemory copy) }
+    ensures last { (published : List Publication) → IsTaken published fresh own → IfOk result (λ s. IsLast published (arc_value s)) }
+    ensures refusal { OnlyNoMemory result }
+{
+    match (fresh, own) {
+        (Some(copy), _) => match Arc::new(alloc, copy?) {
+            Ok(own) => Ok(own),
+            Err(_) => Err(Refusal::NoMemory),
+        },
+        (None, Some(own)) => Ok(own),
+        (None, None) => unreachable!(),
+    }
+}
+
+// One more share of it.
+fn shared(own: &Arc<Snapshot>) -> Result<Arc<Snapshot>, Refusal>
+    ensures same { IfOk result (λ s. arc_value s ≡ arc_value own.now) }
+    ensures refusal { OnlyNoMemory result }
+{
+    Arc::try_clone(own).map_err(|_| Refusal::NoMemory)
 }
 
 impl<J: Naming> Reader<J> {
     /// The last publication. It waits for nobody.
     ///
-    /// `NoMemory` where the snapshot can't be shared once more; `NoRuntime` once the editor has closed the board.
+    /// `NoMemory` where there is no room for a share of it; `NoRuntime` once the editor has closed the board. Cost: one
+    /// more share of the snapshot that the reader has, which takes no memory; at the first look at a publication a copy
+    /// of its snapshot, which shares all.
     pub fn look(&mut self) -> Result<Arc<Snapshot>, Refusal>
         ensures last { IfOk result (λ s. IsLast self.new.seen (arc_value s)) }
         ensures grows { IfOk result (λ _. Grows self.old self.new) }
         ensures refused { IfErr result (λ e. ((e ≡ NoMemory) × Grows self.old self.new) ⊎ ((e ≡ NoRuntime) × (self.new ≡ self.old))) }
     {
-        let Some(sight) = glance(&mut self.raw) else {
+        let Some(sight) = glance(&mut self.raw, number_of(&self.own)) else {
             return Err(Refusal::NoRuntime);
         };
         if !self.told.begins(&sight) {
@@ -193,9 +255,12 @@ impl<J: Naming> Reader<J> {
             page,
             number: _,
             attempt: _,
-            share,
+            fresh,
         } = sight;
         self.page = page;
+        let own = renewed(self.alloc, fresh, self.own.take())?;
+        let share = shared(&own);
+        self.own = Some(own);
         share
     }
 
@@ -557,9 +622,11 @@ fn seat_readers<J: Naming>(
             return Err(Refusal::NoRuntime);
         };
         let reader = Reader {
+            alloc,
             raw,
             page: page.again(),
             told: told.again(),
+            own: None,
         };
         if list.push(reader).is_err() {
             return Err(Refusal::NoMemory);

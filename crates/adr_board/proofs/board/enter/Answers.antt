@@ -9,4 +9,4 @@ enter_as-requires g c x = looks _ _ _ x
 pub returns-in-Ok-clause-sight : goal.returns-in-Ok-clause-sight
 returns-in-Ok-clause-sight g c =
     let saw = c.in-Ok.ensures.1 in
-    rw (c.again.ensures, c.number.ensures, c.deref.ensures, c.get-shown.ensures, c.leave.ensures.1) (sighted _ _ _ (showing c.in-Ok.reading.part.value) saw.0 saw.2)
+    rw (c.again.ensures, c.number-number.ensures, c.deref.ensures, c.get-shown.ensures, c.leave.ensures.1) (sighted _ _ _ (showing c.in-Ok.reading.part.value) saw.0 saw.2)
