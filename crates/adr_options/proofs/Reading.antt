@@ -1,18 +1,37 @@
 -- What the matches of a subcommand hold.
 use Rattle.std.proofs.Common.{ap₂, ◌∙◌, arith, refl, length, [], ◌∷◌, ◌≡◌, ◌<◌, ◌^◌, ℕ, List, Option, Some, None, Result, Ok, Err, ap}
-use Rattle.std.specs.Prelude.{codes, option_map}
+use Rattle.std.specs.Prelude.{codes, option_map, Box}
+use Rattle.std.specs.Box.{box_value}
 use Rattle.std.specs.Str.Parse.{IsNumeral, ParsesUnsigned, digits_value, without_leading_plus}
 use Rattle.std.specs.Borrow.{Bor}
 use Rattle.std.proofs.lemmas.Result.{Ok-from_Ok_iff}
 use Rattle.clap.specs.Walk.{texts}
-use Rattle.clap.specs.Matches.{ReadsOne}
-use Rattle.clap.specs.Words.{Row, Text, first_of, one_of}
-use Rattle.adr_options.specs.Grammar.{Places, text_at, tie_in, tie_names, workers_in}
+use Rattle.clap.specs.Matches.{ReadsOne, subcommand_name_of}
+use Rattle.clap.specs.Simple.{subcommand_rows, subcommand_rows_of}
+use Rattle.clap.specs.Words.{Row, Text, first_of}
+use Rattle.clap.specs.declared.parser.matches.ArgMatches.{ArgMatches}
+use Rattle.clap.specs.declared.parser.matches.ArgMatches.TheViews.{out-ArgMatches, out-SubCommand}
+use Rattle.clap.specs.declared.parser.matches.SubCommand.{SubCommand}
+use Rattle.adr_options.specs.Grammar.{Places, text_at, tie_in, tie_names}
 
-pub workers_in-rows : (entered : Option (Text × List Row)) (rows : List Row) → Some rows ≡ option_map (λ own. own.1) entered
-    → one_of (codes "workers") rows ≡ workers_in entered
-workers_in-rows None rows same = cc
-workers_in-rows (Some own) rows same = let is : rows ≡ own.1 = cc in ap (one_of (codes "workers")) is
+-- the name and the rows of what was entered, together
+pub entered-pairs : {A X Y : Type 0} (f : A → X) (g : A → Y) (found : Option A) (own : Option (X × Y)) → option_map f found ≡ option_map (λ p. p.0) own
+    → option_map g found ≡ option_map (λ p. p.1) own → option_map (λ a. (f a, g a)) found ≡ own
+entered-pairs f g None None names rows = refl
+entered-pairs f g None (Some own) names rows = absurd (cc (names))
+entered-pairs f g (Some a) None names rows = absurd (cc (names))
+entered-pairs f g (Some a) (Some own) names rows =
+    let name : f a ≡ own.0 = cc in
+    let row : g a ≡ own.1 = cc in
+    ap₂ (λ x y. Some (x, y)) name row
+
+-- the name that was entered is that of its matches
+pub entered-name : (m : ArgMatches) → subcommand_name_of m ≡ option_map (λ p. p.0) (subcommand_rows_of m)
+entered-name m = go (out-ArgMatches m).subcommand
+  where
+    go : {Z : Type 0} (sub : Option (Box SubCommand Z)) → option_map (λ b. (out-SubCommand (box_value b)).name.now) sub ≡ option_map (λ p. p.0) (subcommand_rows sub)
+    go None = refl
+    go (Some b) = refl
 
 pub tie_in-rows : (entered : Option (Text × List Row)) (rows : List Row) → Some rows ≡ option_map (λ own. own.1) entered
     → first_of (codes "tie") rows ≡ tie_in entered

@@ -1,5 +1,5 @@
 -- The command line, in clap's words: what `adr` has, and what a line of words asks of it.
-use Rattle.std.specs.Prelude.{ℕ, true, false, pos, List, [], ◌∷◌, Option, Some, codes, option_and_then, if◌then◌else◌}
+use Rattle.std.specs.Prelude.{ℕ, Bool, true, false, pos, List, [], ◌∷◌, Option, Some, codes, option_and_then, option_map, if◌then◌else◌}
 use Rattle.std.specs.Str.{bytes_eq}
 use Rattle.std.specs.Option.{option_map_or}
 use Rattle.std.specs.Borrow.{Bor}
@@ -8,10 +8,10 @@ use Rattle.adr_model.specs.declared.entry.Tie.TheVariants.{Newest, LatestStart}
 use Rattle.clap.specs.Words.{App, Row, Rule, Text, new_app, new_rule, first_of, one_of, subcommand_of, with_rule, with_subcommand}
 use Rattle.clap.specs.declared.builder.value_parser.ValueParser.TheVariants.{Signed, Names}
 
--- `--workers N`, of 1 to 64, and 1 where it isn't given
-abbrev pub workers_rule : Rule
-workers_rule = record (new_rule (codes "workers")) {
-  long = Some (codes "workers");
+-- `--NAME N`, of 1 to 64, and 1 where it isn't given
+abbrev pub count_rule : Text → Rule
+count_rule name = record (new_rule name) {
+  long = Some name;
   value_names = 1;
   defaults = codes "1" ∷ [];
   parser = Some (Signed (pos 1) (pos 64));
@@ -34,36 +34,56 @@ tie_names places = record {
 }
 
 -- `--tie newest|latest-start`, and newest where it isn't given
-abbrev pub tie_rule : Places → Rule
-tie_rule places = record (new_rule (codes "tie")) {
+abbrev pub tie_rule : Bor (List (Bor Text)) → Rule
+tie_rule names = record (new_rule (codes "tie")) {
   long = Some (codes "tie");
   value_names = 1;
   defaults = codes "newest" ∷ [];
-  parser = Some (Names (tie_names places));
+  parser = Some (Names names);
 }
+
+-- `NAME [--COUNT N] [--tie newest|latest-start]`
+abbrev pub command_grammar : Text → Text → Bor (List (Bor Text)) → App
+command_grammar name count ties = with_rule (with_rule (new_app name) (count_rule count)) (tie_rule ties)
 
 -- `run [--workers N] [--tie newest|latest-start]`
 abbrev pub run_grammar : Places → App
-run_grammar places = with_rule (with_rule (new_app (codes "run")) workers_rule) (tie_rule places)
+run_grammar places = command_grammar (codes "run") (codes "workers") (tie_names places)
+
+-- `fan [--readers N] [--tie newest|latest-start]`
+abbrev pub fan_grammar : Places → App
+fan_grammar places = command_grammar (codes "fan") (codes "readers") (tie_names places)
 
 abbrev pub bare_grammar : App
 bare_grammar = record (new_app (codes "adr")) { top = record (new_app (codes "adr")).top { no_binary_name = true; subcommand_required = true } }
 
--- `adr` has to be told what to do, and `run` is all that it does
+-- `adr` has to be told what to do: `run` or `fan`
 abbrev pub adr_grammar : Places → App
-adr_grammar places = with_subcommand bare_grammar (run_grammar places).top
+adr_grammar places = with_subcommand (with_subcommand bare_grammar (run_grammar places).top) (fan_grammar places).top
 
 -- it holds of the grammar whose names stand at one of these places
 abbrev pub ByTheGrammar : (App → Type 0) → Type 0
 ByTheGrammar P = (places : Places) × P (adr_grammar places)
 
--- the text that stands for the number of workers among a subcommand's matches
-abbrev pub workers_in : Option (Text × List Row) → Option Text
-workers_in = option_and_then (λ own. one_of (codes "workers") own.1)
+-- whether a subcommand's name is `fan`
+abbrev pub is_fan_name : Text → Bool
+is_fan_name name = bytes_eq name (codes "fan")
+
+-- whether it is `fan` that a subcommand's matches are of
+abbrev pub is_fan_in : Option (Text × List Row) → Bool
+is_fan_in own = option_map_or is_fan_name (option_map (λ own. own.0) own) false
+
+-- and what a line of words names
+abbrev pub asks_for_fan : App → List Text → Bool
+asks_for_fan adr words = is_fan_in (subcommand_of adr words)
+
+-- the text of `--workers` or, of `fan`, of `--readers` among a subcommand's matches
+abbrev pub count_in : Option (Text × List Row) → Option Text
+count_in = option_and_then (λ own. if is_fan_name own.0 then one_of (codes "readers") own.1 else one_of (codes "workers") own.1)
 
 -- and in a line of words
-abbrev pub workers_text : App → List Text → Option Text
-workers_text adr words = workers_in (subcommand_of adr words)
+abbrev pub count_text : App → List Text → Option Text
+count_text adr words = count_in (subcommand_of adr words)
 
 -- the word that names a rule for ties among a subcommand's matches
 abbrev pub tie_in : Option (Text × List Row) → Option Text

@@ -3,12 +3,13 @@
 
 ghost use Rattle.std.specs.Prelude.{◌≤◌};
 
-use adr_server::{Job, Tie, job, run, status};
+use adr_fan::{NoGate, fan};
+use adr_server::{Fault, Job, Tie, job, run, status};
 use clap::{Error, error};
 use std::fmt::Display;
 use std::process::ExitCode;
 use std::rt::Env;
-use std::sync::Wait;
+use std::sync::{Arc, Wait};
 use std::thread::Threads;
 use std::{env, io};
 
@@ -19,12 +20,15 @@ const BAD_COMMAND_LINE: u8 = 2;
 /// Does what the words of the command line ask for, and answers the exit status: 0 at the end of input, 1 after a
 /// fault, 2 for a bad command line. What standard output and standard error take changes no status, but that a help
 /// text which can't be written is a fault.
-pub fn start_program<R: AllocGlobal + Env + Input + Print + Eprint + Threads + Wait>(
+pub fn start_program<
+    R: AllocGlobal + Env + Input + Print + Eprint + Threads + Wait + Clone + Drop + Send + 'static,
+>(
     rt: &R,
 ) -> ExitCode {
     match words(rt) {
         Ok(words) => match job(rt.alloc(), words) {
             Ok(Job::Run(workers, tie)) => run_script(rt, workers, tie),
+            Ok(Job::Fan(readers, tie)) => fan_script(rt, readers, tie),
             Err(error) => explain(rt, &error),
         },
         Err(error) if error.kind() == io::ErrorKind::InvalidData => {
@@ -53,10 +57,34 @@ fn run_script<R: AllocGlobal + Input + Print + Eprint + Threads + Wait>(
     let mut reader = rt.reader();
     let mut writer = io::writer(rt);
     let outcome = run(rt, &mut reader, &mut writer, workers, tie);
-    if let Err(fault) = &outcome {
+    end(rt, &outcome)
+}
+
+/// Has readers answer standard input on standard output.
+fn fan_script<
+    R: AllocGlobal + Input + Print + Eprint + Threads + Wait + Clone + Drop + Send + 'static,
+>(
+    rt: &R,
+    readers: usize,
+    tie: Tie,
+) -> ExitCode
+    requires { (1 ≤ readers) × (readers ≤ 64) }
+{
+    let Ok(gate) = Arc::new(rt.alloc(), NoGate) else {
+        return no_runtime(rt);
+    };
+    let mut reader = rt.reader();
+    let mut writer = io::writer(rt);
+    let outcome = fan(rt, &mut reader, &mut writer, readers, tie, &gate);
+    end(rt, &outcome)
+}
+
+/// Says what ended the script, if a fault did, and answers the exit status.
+fn end<R: Eprint>(rt: &R, outcome: &Result<(), Fault>) -> ExitCode {
+    if let Err(fault) = outcome {
         tell(rt, fault);
     }
-    ExitCode::from(status(&outcome))
+    ExitCode::from(status(outcome))
 }
 
 /// Says what is wrong with the command line, or gives the help that it asks for.

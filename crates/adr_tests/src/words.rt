@@ -15,21 +15,30 @@ fn words(alloc: Global, texts: &[&str]) -> Result<Vec<String>, AllocError> {
 #[test]
 fn reads_jobs(rt: HostRuntime) -> Result<(), Fail> {
     let alloc = rt.alloc();
-    let lines: [(&[&str], usize, Tie); 7] = [
-        (&["run"], 1, Tie::Newest),
-        (&["run", "--workers", "1"], 1, Tie::Newest),
-        (&["run", "--workers", "64"], 64, Tie::Newest),
-        (&["run", "--workers=7"], 7, Tie::Newest),
-        (&["run", "--tie", "newest"], 1, Tie::Newest),
-        (&["run", "--tie", "latest-start"], 1, Tie::LatestStart),
+    let lines: [(&[&str], Job); 11] = [
+        (&["run"], Job::Run(1, Tie::Newest)),
+        (&["run", "--workers", "1"], Job::Run(1, Tie::Newest)),
+        (&["run", "--workers", "64"], Job::Run(64, Tie::Newest)),
+        (&["run", "--workers=7"], Job::Run(7, Tie::Newest)),
+        (&["run", "--tie", "newest"], Job::Run(1, Tie::Newest)),
+        (
+            &["run", "--tie", "latest-start"],
+            Job::Run(1, Tie::LatestStart),
+        ),
         (
             &["run", "--tie=latest-start", "--workers", "2"],
-            2,
-            Tie::LatestStart,
+            Job::Run(2, Tie::LatestStart),
+        ),
+        (&["fan"], Job::Fan(1, Tie::Newest)),
+        (&["fan", "--readers", "2"], Job::Fan(2, Tie::Newest)),
+        (&["fan", "--readers=64"], Job::Fan(64, Tie::Newest)),
+        (
+            &["fan", "--readers", "3", "--tie", "latest-start"],
+            Job::Fan(3, Tie::LatestStart),
         ),
     ];
-    for (line, workers, tie) in lines {
-        assert!(rt; job(alloc, words(alloc, line)?)? == Job::Run(workers, tie));
+    for (line, asked) in lines {
+        assert!(rt; job(alloc, words(alloc, line)?)? == asked);
     }
     Ok(())
 }
@@ -37,9 +46,13 @@ fn reads_jobs(rt: HostRuntime) -> Result<(), Fail> {
 #[test]
 fn refuses_other_words(rt: HostRuntime) -> Result<(), Fail> {
     let alloc = rt.alloc();
-    let lines: [&[&str]; 10] = [
+    let lines: [&[&str]; 14] = [
         &[],
-        &["fan"],
+        &["walk"],
+        &["fan", "--workers", "2"],
+        &["fan", "--readers", "0"],
+        &["fan", "--readers", "65"],
+        &["run", "--readers", "2"],
         &["adr", "run"],
         &["run", "more"],
         &["run", "--workers"],

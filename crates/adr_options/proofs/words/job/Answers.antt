@@ -3,9 +3,8 @@ use Rattle.std.specs.Str.Parse.{digits_value, without_leading_plus}
 use Rattle.std.proofs.lemmas.Result.{IfOk-from_err, err_from_is_err_and}
 use Rattle.clap.specs.Words.{HasKind, app_of, fault_of, is_simple, is_simple_and_free, subcommand_of}
 use Rattle.clap.proofs.OnLiterals.{clap_on_literals}
-use Rattle.adr_options.specs.Grammar.{Places, adr_grammar, tie_in, tie_named, workers_in}
-use Rattle.adr_options.specs.Task.{HasTheWorkers}
-use Rattle.adr_options.specs.declared.jobs.Job.TheVariants.{Run}
+use Rattle.adr_options.specs.Grammar.{Places, adr_grammar, count_in, is_fan_in, tie_in, tie_named}
+use Rattle.adr_options.specs.Task.{HasTheCount}
 use Rattle.adr_options.proofs.words.job.Goals as goal
 
 is_free : (places : Places) → is_simple_and_free (adr_grammar places) ≡ true
@@ -43,15 +42,19 @@ returns-clause-asked c =
     let is : app_of c.in_ok-adr.adr ≡ adr_grammar places = c.in_ok-adr.ensures.1 in
     let words_are = ap (map string_bytes) c.as_slice.ensures.value in
     let entered = (c.in_ok-matches.ensures.matches (ap is_simple is ∙ simple places)).1 ∙ ap₂ subcommand_of is words_are in
-    let workers : HasTheWorkers (adr_grammar places) (map string_bytes c.args.words.items) (Run c.clamp.result c.tie_of-tie.result) = λ text written numeral low high.
-    let found = c.workers_of.ensures text (ap workers_in entered ∙ written) numeral (omega arith) in
+    let count : HasTheCount (adr_grammar places) (map string_bytes c.args.words.items) c.job_with.result = λ text written numeral low high.
+    let found = c.count_of.ensures text (ap count_in entered ∙ written) numeral (omega arith) in
     let number = digits_value 10 (without_leading_plus text) in
-    let held : c.unwrap_or-workers.result ≡ number = c.unwrap_or-workers.ensures ∙ ap (λ o. unwrap_or o 1) found in
-    let same : c.clamp.result ≡ number = omega arith in same
+    let held : c.unwrap_or.result ≡ number = c.unwrap_or.ensures ∙ ap (λ o. unwrap_or o 1) found in
+    let same : c.clamp-count.result ≡ number = omega arith in c.job_with.ensures.count ∙ same
     in (
       places,
       (
         sym (ap₂ fault_of is words_are) ∙ c.in_ok-matches.ensures.kinds (ap is_simple_and_free is ∙ is_free places),
-        (workers, c.tie_of-tie.ensures ∙ ap (λ own. tie_named (tie_in own)) entered),
+        (
+          c.job_with.ensures.fan ∙ c.is_fan-is_fan.ensures ∙ ap is_fan_in entered,
+          count,
+          c.job_with.ensures.tie ∙ c.tie_of-tie.ensures ∙ ap (λ own. tie_named (tie_in own)) entered,
+        ),
       ),
     )
