@@ -24,6 +24,7 @@ use crate::shown::Shown;
 use adr_book::{Book, SharedList};
 use adr_desk::{Desk, Receipt};
 use adr_diary::{Diary, Page};
+use adr_gate::Gate;
 use adr_model::Tie;
 use adr_object::Edit;
 use adr_resolution::Resolution;
@@ -34,6 +35,7 @@ use core::mem::replace_with;
 use std::alloc::Global;
 use std::marker::{Model, PhantomData};
 use std::sync::{Arc, Wait};
+use std::thread::Threads;
 
 /// The number of a publication, and the version that it shows.
 #[derive(Clone, Copy, Debug, PartialEq, Eq)]
@@ -397,6 +399,31 @@ impl<J: Naming> Editor<J> {
         has_private_names(&edit);
         names_stay_private();
         self.desk.apply(edit)
+    }
+
+    /// The same by several workers, 1 to 64, who share out the repair of timelines and pass the gate before each of its
+    /// jobs, as the desk's `apply_with` does. The answer is the same for every number of workers.
+    pub fn apply_with<R: Threads + Sync, G: Gate + Sync>(
+        &mut self,
+        rt: &R,
+        workers: usize,
+        gate: &G,
+        edit: Edit,
+    ) -> Result<Receipt, Refusal>
+        ensures answer { Answers (result_map (λ _. made_book self.old.book.objects edit) result) (step_to (full_at self.old.book.base.version) self.old.book.objects edit) }
+        ensures tie { self.new.tie ≡ self.old.tie }
+        ensures base { self.new.book.base ≡ self.old.book.base }
+        ensures objects { OnOk result (step_to (full_at self.old.book.base.version) self.old.book.objects edit ≡ Ok self.new.book.objects) }
+        ensures pending { OnOk result (self.new.book.pending ≡ self.old.book.pending ++ edit ∷ []) }
+        ensures closed { self.new.book.closed ≡ self.old.book.closed }
+        ensures version { IfOk result (λ receipt. receipt.version ≡ self.new.book.objects.version) }
+        ensures touched { IfOk result (λ receipt. receipt.touched ≡ touches self.old.book.objects self.new.book.objects) }
+        ensures published { self.new.published ≡ self.old.published }
+        ensures unchanged { OnErr result (self.new ≡ self.old) }
+    {
+        has_private_names(&edit);
+        names_stay_private();
+        self.desk.apply_with(rt, workers, gate, edit)
     }
 
     /// The desk.

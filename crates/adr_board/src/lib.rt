@@ -8,6 +8,7 @@ mod run_steps;
 mod shown;
 
 pub use adr_desk::{Desk, Receipt};
+pub use adr_gate::{Gate, NoGate};
 pub use board::{Board, Editor, NewBoard, Published, Reader, Told};
 pub use rule::Naming;
 pub use run::replay;

@@ -1,8 +1,10 @@
 //! The desk.
-ghost use Rattle.std.specs.Prelude.{◌≡◌, ◌≢◌, ◌≤◌, ◌++◌, ◌∷◌, [], ℤ, None, Ok, IsOk, IfOk, IfSome, OnOk, OnErr};
+ghost use denote.Param.Send.{IsSync};
+ghost use Rattle.std.specs.Prelude.{◌≡◌, ◌≢◌, ◌<◌, ◌≤◌, ◌^◌, ◌++◌, ◌∷◌, [], sum_by, ℤ, None, Ok, IsOk, IfOk, IfSome, OnOk, OnErr};
 ghost use Rattle.std.specs.Option.{option_copied, option_map_or};
 ghost use Rattle.adr_value.specs.Answer.{Answers, OnlyNoMemory, result_map};
 ghost use Rattle.adr_value.specs.Copy.{IsCopyOf};
+ghost use Rattle.adr_group.specs.Jobs.{most_done, AreDone, IsCrew};
 ghost use Rattle.adr_model.specs.Book.{empty};
 ghost use Rattle.adr_model.specs.Edits.{full_at, made as made_book, step_to};
 ghost use Rattle.adr_model.specs.Governor.{governs};
@@ -10,12 +12,16 @@ ghost use Rattle.adr_model.specs.Timeline.{shows, IsCanonical};
 ghost use Rattle.adr_model.specs.Touches.{touches};
 ghost use Rattle.adr_book.specs.Ledger.{sealed_of};
 ghost use Rattle.adr_regroup.specs.Compared.{most_compared_in};
+ghost use Rattle.adr_bulk.specs.Loaded.{accepted_of, answers_to, objects_after};
 
 use crate::empty::without_events;
 use crate::make::{Made, make};
 use crate::receipt::Receipt;
 use adr_audience::Audiences;
 use adr_book::{Book, judge};
+use adr_bulk::{commit_all, index_all, seat_all};
+use adr_crew::{Gate, NoGate, do_all};
+use adr_group::{Done, Job, do_jobs};
 use adr_lines::{Indexes, exchange_laws};
 use adr_model::Tie;
 use adr_object::{Edit, Id};
@@ -27,6 +33,7 @@ use adr_value::{PayloadType, Refusal};
 use std::alloc::Global;
 use std::marker::Model;
 use std::mem;
+use std::thread::Threads;
 
 /// A book with its timelines, which edits repair where they touch them. Contracts see the book and the rule for ties.
 ///
@@ -100,6 +107,42 @@ impl Desk {
             indexes: Indexes::new(alloc),
             alloc,
         })
+    }
+
+    /// The desk of the edits, from an empty book, and for each edit in order the version after it or why it is refused: as
+    /// `apply` makes and answers them one after the other on a new desk. A refused edit changes nothing. All timelines are
+    /// built once, at the end, by as many threads as there are processors. `NoMemory` for one edit or one timeline refuses
+    /// all.
+    ///
+    /// Cost: that of judging and committing each edit; the keys of all resources and events; each event is laid out once
+    /// for all and once for each group to which it applies, where its entries are indexed; and for each group and payload
+    /// type one pass over the entries of its own events.
+    pub fn load<R: Threads + Sync>(
+        rt: &R,
+        alloc: Global,
+        edits: Vec<Edit>,
+        tie: Tie,
+    ) -> Result<(Desk, Vec<Result<u64, Refusal>>), Refusal>
+        ensures answers { IfOk result (λ loaded. loaded.1.items ≡ answers_to (full_at empty.version) empty edits.items) }
+        ensures objects { IfOk result (λ loaded. loaded.0.book.objects ≡ objects_after (full_at empty.version) empty edits.items) }
+        ensures pending { IfOk result (λ loaded. loaded.0.book.pending ≡ accepted_of (full_at empty.version) empty edits.items) }
+        ensures closed { IfOk result (λ loaded. loaded.0.book.closed ≡ []) }
+        ensures base { IfOk result (λ loaded. loaded.0.book.base ≡ empty) }
+        ensures tie { IfOk result (λ loaded. loaded.0.tie ≡ tie) }
+        ensures refusal { OnlyNoMemory result }
+    {
+        let (book, answers) = commit_all(alloc, edits)?;
+        let keys = Audiences::of(alloc, book.objects())?;
+        let indexes = index_all(alloc, tie, &book)?;
+        let schedule = seat_all(rt, alloc, tie, &book, &keys)?;
+        let schedule = Shared::new(alloc, schedule)?;
+        let desk = Desk {
+            resolution: Resolution::of(tie, book, schedule),
+            keys,
+            indexes,
+            alloc,
+        };
+        Ok((desk, answers))
     }
 
     /// A desk of its own with the same book and timelines, which it shares. `NoMemory` where there is no room. Cost: the
@@ -204,9 +247,14 @@ impl Desk {
         self.resolution.condense(at)
     }
 
-    /// Makes an edit that the book accepts.
-    fn make(&mut self, edit: &Edit) -> Result<Receipt, Refusal>
-        requires { IsOk (step_to (full_at self.old.book.base.version) self.old.book.objects edit.now) }
+    /// Makes an edit that the book accepts: the crew repairs the timelines.
+    fn make<C: Fn(&Indexes, &[Job]) -> Result<Vec<Done>, Refusal>>(
+        &mut self,
+        crew: &C,
+        edit: &Edit,
+    ) -> Result<Receipt, Refusal>
+        requires crew { IsCrew (λ v. v.items) (C.pre crew.now) (C.post crew.now) }
+        requires accepted { IsOk (step_to (full_at self.old.book.base.version) self.old.book.objects edit.now) }
         ensures tie { self.new.tie ≡ self.old.tie }
         ensures base { self.new.book.base ≡ self.old.book.base }
         ensures objects { OnOk result (step_to (full_at self.old.book.base.version) self.old.book.objects edit.now ≡ Ok self.new.book.objects) }
@@ -220,6 +268,7 @@ impl Desk {
     {
         let made = make(
             self.alloc,
+            crew,
             &self.resolution,
             &mut self.keys,
             &mut self.indexes,
@@ -257,7 +306,63 @@ impl Desk {
         ensures compares { IfOk result (λ receipt. receipt.compares ≤ most_compared_in self.new.book.objects receipt.touched) }
         ensures unchanged { OnErr result (self.new ≡ self.old) }
     {
+        let alloc = self.alloc;
+        let alone = |indexes: &Indexes, jobs: &[Job]| -> Result<Vec<Done>, Refusal>
+            requires { sum_by (most_done indexes.now) jobs.now < 2 ^ 128 }
+            ensures done { IfOk result (λ done. AreDone indexes.now jobs.now done.items) }
+            ensures refusal { OnlyNoMemory result }
+        { do_jobs(alloc, indexes, &NoGate, 0, jobs) };
+        self.apply_by(&alone, edit)
+    }
+
+    /// The same by several workers, 1 to 64, who share out the repair of timelines where an event is edited: see `do_all` of adr_crew.
+    /// Each passes the gate before each of its jobs. The answer is the same for every number of workers.
+    pub fn apply_with<R: Threads + Sync, G: Gate + Sync>(
+        &mut self,
+        rt: &R,
+        workers: usize,
+        gate: &G,
+        edit: Edit,
+    ) -> Result<Receipt, Refusal>
+        ensures answer { Answers (result_map (λ _. made_book self.old.book.objects edit) result) (step_to (full_at self.old.book.base.version) self.old.book.objects edit) }
+        ensures tie { self.new.tie ≡ self.old.tie }
+        ensures base { self.new.book.base ≡ self.old.book.base }
+        ensures objects { OnOk result (step_to (full_at self.old.book.base.version) self.old.book.objects edit ≡ Ok self.new.book.objects) }
+        ensures pending { OnOk result (self.new.book.pending ≡ self.old.book.pending ++ edit ∷ []) }
+        ensures closed { self.new.book.closed ≡ self.old.book.closed }
+        ensures version { IfOk result (λ receipt. receipt.version ≡ self.new.book.objects.version) }
+        ensures touched { IfOk result (λ receipt. receipt.touched ≡ touches self.old.book.objects self.new.book.objects) }
+        ensures compares { IfOk result (λ receipt. receipt.compares ≤ most_compared_in self.new.book.objects receipt.touched) }
+        ensures unchanged { OnErr result (self.new ≡ self.old) }
+    {
+        let alloc = self.alloc;
+        let crowd = |indexes: &Indexes, jobs: &[Job]| -> Result<Vec<Done>, Refusal>
+            requires { IsSync R.row × IsSync G.row × (sum_by (most_done indexes.now) jobs.now < 2 ^ 128) }
+            ensures done { IfOk result (λ done. AreDone indexes.now jobs.now done.items) }
+            ensures refusal { OnlyNoMemory result }
+        { do_all(rt, alloc, indexes, workers, gate, jobs) };
+        self.apply_by(&crowd, edit)
+    }
+
+    /// The same by a crew.
+    fn apply_by<C: Fn(&Indexes, &[Job]) -> Result<Vec<Done>, Refusal>>(
+        &mut self,
+        crew: &C,
+        edit: Edit,
+    ) -> Result<Receipt, Refusal>
+        requires crew { IsCrew (λ v. v.items) (C.pre crew.now) (C.post crew.now) }
+        ensures answer { Answers (result_map (λ _. made_book self.old.book.objects edit) result) (step_to (full_at self.old.book.base.version) self.old.book.objects edit) }
+        ensures tie { self.new.tie ≡ self.old.tie }
+        ensures base { self.new.book.base ≡ self.old.book.base }
+        ensures objects { OnOk result (step_to (full_at self.old.book.base.version) self.old.book.objects edit ≡ Ok self.new.book.objects) }
+        ensures pending { OnOk result (self.new.book.pending ≡ self.old.book.pending ++ edit ∷ []) }
+        ensures closed { self.new.book.closed ≡ self.old.book.closed }
+        ensures version { IfOk result (λ receipt. receipt.version ≡ self.new.book.objects.version) }
+        ensures touched { IfOk result (λ receipt. receipt.touched ≡ touches self.old.book.objects self.new.book.objects) }
+        ensures compares { IfOk result (λ receipt. receipt.compares ≤ most_compared_in self.new.book.objects receipt.touched) }
+        ensures unchanged { OnErr result (self.new ≡ self.old) }
+    {
         judge(self.resolution.book(), &edit)?;
-        self.make(&edit)
+        self.make(crew, &edit)
     }
 }

@@ -12,6 +12,7 @@ mod making;
 mod receipt;
 mod side;
 
+pub use adr_crew::{Gate, NoGate};
 pub use desk::Desk;
 pub use laws::edits_have_room;
 pub use receipt::{Receipt, Touched};

@@ -5,6 +5,7 @@ ghost use Rattle.adr_model.specs.Edits.{full_at, made, step, step_to};
 ghost use Rattle.adr_model.specs.Touches.{touches};
 ghost use Rattle.adr_model.specs.Whole.{IsWhole};
 ghost use Rattle.adr_audience.specs.Keys.{AreKeysOf};
+ghost use Rattle.adr_group.specs.Jobs.{IsCrew};
 ghost use Rattle.adr_lines.specs.Exchange.{IsIndexOf};
 ghost use Rattle.adr_schedule.specs.Seating.{AreSeatedFor};
 ghost use Rattle.adr_regroup.specs.Compared.{most_compared_in};
@@ -16,6 +17,7 @@ use crate::making::after_event;
 use crate::receipt::Touched;
 use adr_audience::Audiences;
 use adr_book::Book;
+use adr_group::{Done, Job};
 use adr_lines::Indexes;
 use adr_model::{Tie, edit_laws};
 use adr_object::Edit;
@@ -139,8 +141,9 @@ fn after_other(
 
 /// Makes an accepted edit to the keys and the indexes, and answers the groups after it. A refused call leaves keys and
 /// indexes of the old book.
-fn grouped(
+fn grouped<C: Fn(&Indexes, &[Job]) -> Result<Vec<Done>, Refusal>>(
     alloc: Global,
+    crew: &C,
     tie: Tie,
     old: &Book,
     new: &Book,
@@ -150,6 +153,7 @@ fn grouped(
     edit: &Edit,
     meter: &mut Meter,
 ) -> Result<Shared<Schedule>, Refusal>
+    requires crew { IsCrew (λ v. v.items) (C.pre crew.now) (C.post crew.now) }
     requires accepted { step old.now.objects edit.now ≡ Ok new.now.objects }
     requires desk { IsDesk tie old.now.objects keys.old indexes.old schedule.now }
     requires begun { meter.old ≡ 0 }
@@ -159,20 +163,24 @@ fn grouped(
     ensures refusal { OnlyNoMemory result }
 {
     if is_of_event(edit) {
-        after_event(alloc, tie, old, new, keys, indexes, schedule, edit, meter)
+        after_event(
+            alloc, crew, tie, old, new, keys, indexes, schedule, edit, meter,
+        )
     } else {
         after_other(alloc, tie, old, new, keys, indexes, schedule, edit, meter)
     }
 }
 
 /// Makes an accepted edit. A refused call leaves keys and indexes of the old book.
-pub(crate) fn make(
+pub(crate) fn make<C: Fn(&Indexes, &[Job]) -> Result<Vec<Done>, Refusal>>(
     alloc: Global,
+    crew: &C,
     old: &Resolution,
     keys: &mut Audiences,
     indexes: &mut Indexes,
     edit: &Edit,
 ) -> Result<Made, Refusal>
+    requires crew { IsCrew (λ v. v.items) (C.pre crew.now) (C.post crew.now) }
     requires accepted { IsOk (step_to (full_at old.now.book.base.version) old.now.book.objects edit.now) }
     requires desk { AreOf old.now.tie old.now.book.objects keys.old indexes.old }
     ensures desk { IfOk result (λ made. AreOf made.resolution.tie made.resolution.book.objects keys.new indexes.new) }
@@ -193,6 +201,7 @@ pub(crate) fn make(
     let mut meter = Meter::new();
     let schedule = grouped(
         alloc,
+        crew,
         old.tie(),
         book,
         &after,

@@ -9,6 +9,7 @@ ghost use Rattle.adr_model.specs.Whole.{IsWhole};
 ghost use Rattle.adr_audience.specs.Keys.{AreKeysOf};
 ghost use Rattle.adr_index.specs.Index.{inserted_all, others_all, AreNew};
 ghost use Rattle.adr_stretch.specs.Grouped.{entries_under};
+ghost use Rattle.adr_group.specs.Jobs.{IsCrew};
 ghost use Rattle.adr_lines.specs.Exchange.{IsIndexOf};
 ghost use Rattle.adr_lines.specs.Indexes.{under};
 ghost use Rattle.adr_schedule.specs.Seating.{AreSeatedFor};
@@ -22,7 +23,7 @@ use crate::laws::edits_have_room;
 use crate::side::{come_side, gone_side};
 use adr_audience::Audiences;
 use adr_book::Book;
-use adr_group::{repairs_compare_little, right_moves};
+use adr_group::{Done, Job, repairs_compare_little, right_moves};
 use adr_lines::{Indexes, exchange_laws};
 use adr_model::Tie;
 use adr_object::Edit;
@@ -62,8 +63,9 @@ fn take_out(indexes: &mut Indexes, leaving: &[TypeEntries])
 }
 
 /// The groups where the one event goes and the other comes; `alone` is the one that goes.
-fn regrouped(
+fn regrouped<C: Fn(&Indexes, &[Job]) -> Result<Vec<Done>, Refusal>>(
     alloc: Global,
+    crew: &C,
     tie: Tie,
     book: &Book,
     keys: &Audiences,
@@ -74,6 +76,7 @@ fn regrouped(
     alone: &Change,
     meter: &mut Meter,
 ) -> Result<Schedule, Refusal>
+    requires crew { IsCrew (λ v. v.items) (C.pre crew.now) (C.post crew.now) }
     requires whole { IsWhole book.now.objects }
     requires keys { AreKeysOf book.now.objects keys.now }
     requires gone { IsSideOf tie (gone_of book.now.objects edit.now) change.now.gone }
@@ -92,14 +95,15 @@ fn regrouped(
     right_moves();
     let joining = joining(alloc, keys, book, edit)?;
     let leaving = leaving(alloc, keys, book, edit)?;
-    let mid = schedule.shifted(alloc, indexes, joining.as_slice(), change, meter)?;
-    let after = mid.shifted(alloc, indexes, leaving.as_slice(), alone, meter)?;
+    let mid = schedule.shifted(alloc, indexes, crew, joining.as_slice(), change, meter)?;
+    let after = mid.shifted(alloc, indexes, crew, leaving.as_slice(), alone, meter)?;
     Ok(after)
 }
 
 /// The groups after the edit, and then the keys. A refused call leaves the keys.
-fn followed(
+fn followed<C: Fn(&Indexes, &[Job]) -> Result<Vec<Done>, Refusal>>(
     alloc: Global,
+    crew: &C,
     tie: Tie,
     book: &Book,
     keys: &mut Audiences,
@@ -110,6 +114,7 @@ fn followed(
     alone: &Change,
     meter: &mut Meter,
 ) -> Result<Shared<Schedule>, Refusal>
+    requires crew { IsCrew (λ v. v.items) (C.pre crew.now) (C.post crew.now) }
     requires whole { IsWhole book.now.objects }
     requires accepted { IsOk (step book.now.objects edit.now) }
     requires keys { AreKeysOf book.now.objects keys.old }
@@ -128,7 +133,7 @@ fn followed(
     ensures refusal { OnlyNoMemory result }
 {
     let after = regrouped(
-        alloc, tie, book, keys, indexes, schedule, edit, change, alone, meter,
+        alloc, crew, tie, book, keys, indexes, schedule, edit, change, alone, meter,
     )?;
     let after = Shared::new(alloc, after)?;
     keys.follow(book.objects(), edit)?;
@@ -136,8 +141,9 @@ fn followed(
 }
 
 /// Makes the edit: the entries of the event that comes go in first, and out again where it is refused.
-fn exchanged(
+fn exchanged<C: Fn(&Indexes, &[Job]) -> Result<Vec<Done>, Refusal>>(
     alloc: Global,
+    crew: &C,
     tie: Tie,
     old: &Book,
     new: &Book,
@@ -149,6 +155,7 @@ fn exchanged(
     alone: &Change,
     meter: &mut Meter,
 ) -> Result<Shared<Schedule>, Refusal>
+    requires crew { IsCrew (λ v. v.items) (C.pre crew.now) (C.post crew.now) }
     requires whole { IsWhole old.now.objects }
     requires accepted { step old.now.objects edit.now ≡ Ok new.now.objects }
     requires exchange { IsExchanged old.now.objects new.now.objects (gone_of old.now.objects edit.now) (come_of old.now.objects edit.now) }
@@ -167,7 +174,7 @@ fn exchanged(
     exchange_laws();
     put_in(alloc, indexes, entries(&change.come))?;
     match followed(
-        alloc, tie, old, keys, indexes, schedule, edit, change, alone, meter,
+        alloc, crew, tie, old, keys, indexes, schedule, edit, change, alone, meter,
     ) {
         Ok(after) => {
             take_out(indexes, entries(&change.gone));
@@ -182,8 +189,9 @@ fn exchanged(
 
 /// Makes an accepted edit of an event to the keys and the indexes, and answers the groups after it; `new` is the book
 /// after the edit. A refused call leaves keys and indexes of the old book.
-pub(crate) fn after_event(
+pub(crate) fn after_event<C: Fn(&Indexes, &[Job]) -> Result<Vec<Done>, Refusal>>(
     alloc: Global,
+    crew: &C,
     tie: Tie,
     old: &Book,
     new: &Book,
@@ -193,6 +201,7 @@ pub(crate) fn after_event(
     edit: &Edit,
     meter: &mut Meter,
 ) -> Result<Shared<Schedule>, Refusal>
+    requires crew { IsCrew (λ v. v.items) (C.pre crew.now) (C.post crew.now) }
     requires event { is_of_event edit.now ≡ true }
     requires accepted { step old.now.objects edit.now ≡ Ok new.now.objects }
     requires desk { IsDesk tie old.now.objects keys.old indexes.old schedule.now }
@@ -211,6 +220,6 @@ pub(crate) fn after_event(
     let gone = gone_side(alloc, tie, old, edit)?;
     let alone = Change { gone, come: None };
     exchanged(
-        alloc, tie, old, new, keys, indexes, schedule, edit, &change, &alone, meter,
+        alloc, crew, tie, old, new, keys, indexes, schedule, edit, &change, &alone, meter,
     )
 }

@@ -7,6 +7,8 @@ mod edits;
 #[cfg(test)]
 mod kept;
 #[cfg(test)]
+mod loading;
+#[cfg(test)]
 mod reading;
 #[cfg(test)]
 mod receipts;
@@ -14,3 +16,5 @@ mod receipts;
 mod scan;
 #[cfg(test)]
 mod targets;
+#[cfg(test)]
+mod workers;

@@ -8,12 +8,12 @@ ghost use Rattle.adr_server.specs.Fan.{fan_start, IsFanned, IsFannedOf};
 ghost use Rattle.adr_fan.specs.Levels.{IsCutShort, HasWritten, IsEndedAs};
 ghost use Rattle.adr_fan.specs.Parts.{all_texts};
 
-use crate::gates::Gate;
 use crate::levels::{Collected, Ending, Stop, level};
 use crate::mailbox::Mailbox;
 use crate::script::FanDesk;
 use crate::writing::write_parts;
 use adr_board::{Board, Naming, NewBoard, Reader};
+use adr_gate::Gate;
 use adr_model::Tie;
 use adr_script::{Fault, ReadLog, WriteLog};
 use std::alloc::{AllocError, Global};

@@ -6,10 +6,10 @@ ghost use Rattle.adr_fan.specs.declared.levels.Ending.TheVariants.{All, ReadFail
 ghost use Rattle.adr_fan.specs.Levels.{HasTold, HasToldInPart};
 ghost use Rattle.adr_fan.specs.Parts.{AreParts};
 
-use crate::gates::Gate;
 use crate::reading::{Answers, Part, Reply, start};
 use crate::script::FanDesk;
 use adr_board::{Naming, Reader};
+use adr_gate::Gate;
 use adr_script::{Fault, ReadLog, WriteLog, serve};
 use std::io::{Read, Write};
 use std::sync::{Arc, Wait};

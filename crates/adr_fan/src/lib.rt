@@ -4,7 +4,6 @@
 mod answering;
 mod checking;
 mod fanning;
-mod gates;
 mod levels;
 mod mailbox;
 mod queries;
@@ -13,4 +12,4 @@ mod script;
 mod writing;
 
 pub use fanning::{fan, fan_logged};
-pub use gates::{Gate, NoGate};
+pub use adr_gate::{Gate, NoGate};

@@ -6,10 +6,10 @@ ghost use Rattle.adr_model.specs.Queries.{answer as answer_of};
 ghost use Rattle.adr_fan.specs.Parts.{IsTrueReply, AreTrue};
 
 use crate::answering::answer;
-use crate::gates::Gate;
 use crate::mailbox::Mailbox;
 use crate::queries::Sent;
 use adr_board::{Naming, Reader};
+use adr_gate::Gate;
 use adr_model::Tie;
 use adr_snapshot::Snapshot as PublishedSnapshot;
 use adr_value::Refusal;

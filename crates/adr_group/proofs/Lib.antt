@@ -1,4 +1,6 @@
+pub mod Gathered
 pub mod Halves
+pub mod Jobs
 pub mod Listed
 pub mod Numbers
 pub mod Possible

@@ -22,7 +22,7 @@ use Rattle.adr_lines.specs.Indexes.{own_entries, under}
 use Rattle.adr_group.specs.Group.{shown_in}
 use Rattle.adr_group.specs.Repair.{most_repaired}
 
-one_name : (a b : PayloadType) → same_type a b ≡ true → name_of a ≡ name_of b
+pub one_name : (a b : PayloadType) → same_type a b ≡ true → name_of a ≡ name_of b
 one_name a b h = (bytes_eq-Decides (name_of a) (name_of b)).0 h
 
 -- what the writes show of the type
@@ -70,7 +70,7 @@ module _ (k : PayloadType) (t : ℤ) (w line new total : Option Winner) (rest mo
 
 -- ---- two lists of windows
 
-under_both : (xs ys : List TypeEntries) (k : PayloadType) → entries_under (xs ++ ys) k ≡ entries_under xs k ++ entries_under ys k
+pub under_both : (xs ys : List TypeEntries) (k : PayloadType) → entries_under (xs ++ ys) k ≡ entries_under xs k ++ entries_under ys k
 under_both [] ys k = refl
 under_both (g ∷ xs) ys k = ap (λ (es : List Entry). own_entries g k ++ es) (under_both xs ys k) ∙ sym (append_assoc (own_entries g k) (entries_under xs k) (entries_under ys k))
 

@@ -1,4 +1,5 @@
 pub mod Group
+pub mod Jobs
 pub mod Repair
 pub mod Room
 pub mod Writes

@@ -1,5 +1,6 @@
 //! The timelines of resources to which the same events apply.
 ghost use Rattle.std.specs.Prelude.{◌≡◌, ◌≢◌, ◌+◌, ◌++◌, ◌<◌, ◌≤◌, ◌^◌, ℤ, List, [], None, length, option_map, slice_get, IfOk, IfSome, if◌then◌else◌};
+ghost use Rattle.std.specs.List.{AllZip};
 ghost use Rattle.std.specs.Option.{option_copied, option_map_or};
 ghost use Rattle.adr_value.specs.Answer.{OnlyNoMemory};
 ghost use Rattle.adr_value.specs.Copy.{IsCopyOf};
@@ -12,12 +13,15 @@ ghost use Rattle.adr_model.specs.Governor.{winner_at};
 ghost use Rattle.adr_model.specs.Timeline.{shows, IsCanonical};
 ghost use Rattle.adr_stretch.specs.Grouped.{any_covers_at, entries_under};
 ghost use Rattle.adr_stretch.specs.Right.{written_in};
+ghost use Rattle.adr_lines.specs.declared.indexes.Indexes.{Indexes as AllIndexes};
 ghost use Rattle.adr_lines.specs.Exchange.{IsIndexOf};
 ghost use Rattle.adr_lines.specs.Indexes.{under};
 ghost use Rattle.adr_group.specs.Group.{shown_in, AgreeOutside, AllShow, AreWindowsOf, IsRightOf};
+ghost use Rattle.adr_group.specs.Jobs.{jobs_for, IsDone};
 ghost use Rattle.adr_group.specs.Repair.{most_repaired};
 
-use crate::repair::repaired;
+use crate::job::Done;
+use crate::repair::{repaired, together};
 use crate::timelines::Timelines;
 use crate::writes::Writes;
 use adr_lines::Indexes;
@@ -144,6 +148,26 @@ impl Group {
         let lines = repaired(alloc, &self.lines, indexes, windows, &writes, meter)?;
         let lines = repaired(alloc, &lines, indexes, more, &writes, meter)?;
         let writes = Shared::new(alloc, writes)?;
+        Ok(Group { writes, lines })
+    }
+
+    /// The group of those writes, put together of this one and of what was built inside the windows: if each was built of
+    /// the events that are indexed, then the new one is right of them as `Group::repaired` makes it. It compares nothing.
+    /// `NoMemory` where there is no room. Cost: for each type one splice where its windows stand in order and apart, else
+    /// one for each window.
+    pub fn with_built(
+        &self,
+        alloc: Global,
+        writes: &Shared<Writes>,
+        windows: &[Shared<TypeEntries>],
+        done: &[Done],
+    ) -> Result<Group, Refusal>
+        ensures writes { IfOk result (λ group. group.writes ≡ writes.now) }
+        ensures right { IfOk result (λ group. (indexes : AllIndexes) → AllZip (IsDone indexes) (jobs_for writes.now windows.now) done.now → (tie : Tie) (events : List Written) → IsIndexOf tie events indexes → AreWindowsOf events self.now.writes writes.now (entries_under windows.now) → IsRightOf tie events self.now → IsRightOf tie events group) }
+        ensures memory { OnlyNoMemory result }
+    {
+        let lines = together(alloc, &self.lines, windows, done)?;
+        let writes = writes.copy()?;
         Ok(Group { writes, lines })
     }
 }

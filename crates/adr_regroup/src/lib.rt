@@ -7,6 +7,8 @@ mod party;
 mod places;
 mod program;
 mod reseat;
+mod writes;
 
 pub use parties::{after_resource, after_ven};
 pub use program::after_program;
+pub use writes::writes_of;

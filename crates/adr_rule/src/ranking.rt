@@ -43,6 +43,14 @@ impl Meter {
     {
         self.count += 1;
     }
+
+    /// Counts that many more, as another meter counted them.
+    pub fn add(&mut self, more: u128)
+        requires { self.old + more < 2 ^ 128 }
+        ensures { self.new ≡ self.old + more }
+    {
+        self.count += more;
+    }
 }
 
 // Which of two ranks of one priority goes before the other.

@@ -1,7 +1,6 @@
 -- How much a move of groups compares.
-use Rattle.std.proofs.Common.{◌≡◌, ◌⊎◌, inl, inr, ℕ, ◌==◌, ◌+◌, ◌≤◌, ◌||◌, Bool, true, false, if◌then◌else◌, List, [], ◌∷◌, ◌++◌, set, filter, slice_get, is_some, Option, Some, None, refl, ap, ap₂, sym, subst, ◌∙◌, arith}
+use Rattle.std.proofs.Common.{◌≡◌, ◌⊎◌, inl, inr, ℕ, ◌==◌, ◌+◌, ◌||◌, Bool, true, false, if◌then◌else◌, List, [], ◌∷◌, set, filter, slice_get, Option, Some, None, refl, ap, ap₂, sym, subst, ◌∙◌}
 use Rattle.std.specs.Prelude.{option_to_list}
-use Rattle.std.specs.Option.{option_map_or}
 use Rattle.std.proofs.lemmas.List.Folds.{list_any-append}
 use Rattle.adr_model.specs.declared.entry.Entry.{Entry}
 use Rattle.adr_model.proofs.Lists.{filter-same}
@@ -15,12 +14,12 @@ use Rattle.adr_group.specs.Repair.{most_inside, most_repaired}
 use Rattle.adr_group.specs.Writes.{changed_number, is_number, stays}
 use Rattle.adr_group.proofs.Numbers.{staying_has}
 use Rattle.adr_schedule.specs.declared.change.Change.{Change}
-use Rattle.adr_schedule.specs.Moves.{asked_at, asked_by, asked_in, AreUnmoved, IsNext, IsSat, KeepsUnknown}
+use Rattle.adr_schedule.specs.Moves.{AreUnmoved, IsNext, IsSat, KeepsUnknown}
 use Rattle.adr_schedule.specs.Seating.{shifted}
 use Rattle.adr_schedule.specs.Shift.{kept_side, most_shifted, number_in, shifted_writes, sides_for, AreTwo}
-use Rattle.adr_schedule.specs.Slots.{in_slot, is_taken, value_at}
+use Rattle.adr_schedule.specs.Slots.{in_slot, is_taken}
 use Rattle.adr_schedule.proofs.Numbered.{one_or_other, put_here, put_elsewhere, taken_elsewhere, set_here, set_elsewhere}
-use Rattle.adr_schedule.proofs.Seated.{at_slot, none_is_some, some_same}
+use Rattle.adr_schedule.proofs.Seated.{none_is_some, some_same}
 use Rattle.adr_schedule.proofs.Variant.{changed_shifted}
 
 -- ---- writes with the same numbers compare as much
@@ -64,15 +63,6 @@ pub repaired_shifted : (change : Change) (indexes : Indexes) (g : Lines) (writes
 unfolding most_shifted
 repaired_shifted change indexes g writes two numbers =
     same_repaired writes (shifted_writes change g.writes) (λ n. numbers n ∙ changed_shifted change g.writes two n ∙ sym (shifted_has change g.writes n)) (sides_for change g.writes) indexes
-
--- ---- where its members go was not known
-
-module _ {G : Type 0} (cost : G → ℕ) (values : List (List ℕ × G)) (slots : List (List ℕ × ℕ)) where
-  pub asked_unknown : (slot : ℕ) (o : Option G) → in_slot slots slot ≡ None → o ≡ in_slot values slot → option_map_or cost o 0 ≡ asked_in cost values slots slot
-  asked_unknown slot o none is = ap (λ (x : Option G). option_map_or cost x 0) is ∙ sym (ap (λ (x : Option ℕ). if is_some x then 0 else option_map_or cost (in_slot values slot) 0) none)
-
-  pub asked_there : (seats : List ℕ) (place slot : ℕ) → slice_get seats place ≡ Some slot → asked_in cost values slots slot ≡ asked_by cost seats values slots place
-  asked_there seats place slot at = sym (ap (λ (x : Option ℕ). option_map_or (asked_in cost values slots) x 0) at)
 
 -- ---- the slots that stay unknown
 
@@ -132,20 +122,3 @@ module _ {G : Type 0} (seats : List ℕ) (values : List (List ℕ × G)) (slots 
   pub unmoved_passes : (mid others : List ℕ) (between after : List (List ℕ × G)) (known later : List (List ℕ × ℕ))
       → AreUnmoved seats values slots mid between known → AreUnmoved mid between known others after later → AreUnmoved seats values slots others after later
   unmoved_passes mid others between after known later a b p s h k = let y = b p s h k in let x = a p s y.0 y.1 in (x.0, x.1, y.2 ∙ x.2)
-
-  -- a place asks no more than it did at first
-  pub asked_no_more : (cost : G → ℕ) (others : List ℕ) (after : List (List ℕ × G)) (later : List (List ℕ × ℕ)) (place : ℕ) → AreUnmoved seats values slots others after later
-      → asked_by cost others after later place ≤ asked_at cost seats values place
-  asked_no_more cost others after later place unmoved = by (slice_get others place) refl
-    where
-      known : (s : ℕ) → slice_get others place ≡ Some s → (o : Option ℕ) → in_slot later s ≡ o → (if is_some o then 0 else option_map_or cost (in_slot after s) 0) ≤ asked_at cost seats values place
-      known s h (Some t) e = omega arith
-      known s h None e =
-          let u = unmoved place s h e in
-          let same : option_map_or cost (in_slot after s) 0 ≡ asked_at cost seats values place =
-          ap (λ (x : Option G). option_map_or cost x 0) (u.2 ∙ sym (at_slot seats values place s u.0)) in
-          omega (arith, same)
-
-      by : (o : Option ℕ) → slice_get others place ≡ o → option_map_or (asked_in cost after later) o 0 ≤ asked_at cost seats values place
-      by None e = omega arith
-      by (Some s) e = known s e (in_slot later s) refl

@@ -1,3 +1,5 @@
+pub mod Drafts
+pub mod Filled
 pub mod Least
 pub mod Numbered
 pub mod Places

@@ -1,10 +1,8 @@
 -- Look-ups by numbers, and lists with one element changed.
-use Rattle.std.proofs.Common.{◌≡◌, ℕ, zero, suc, ◌<◌, ◌==◌, ◌||◌, ◌⊎◌, inl, inr, Bool, true, false, cond, not, List, [], ◌∷◌, ◌++◌, set, length, slice_get, Option, Some, None, refl, ap, sym, ◌∙◌, arith, eqb-true, eq-eqb}
-use Rattle.std.specs.List.{list_any}
+use Rattle.std.proofs.Common.{◌≡◌, ℕ, zero, suc, ◌==◌, ◌||◌, ◌⊎◌, inl, inr, Bool, true, false, cond, List, [], ◌∷◌, set, length, slice_get, Some, None, refl, ap, ◌∙◌, eqb-true, eq-eqb}
 use Rattle.std.specs.Str.{bytes_eq}
 use Rattle.std.proofs.lemmas.Slice.Eq.{bytes_eq-Decides}
-use Rattle.adr_shared.specs.Map.{lookup, put, without}
-use Rattle.adr_shared.specs.Laws.{PutIsFound, TakenIsGone}
+use Rattle.adr_shared.specs.Map.{put, without}
 use Rattle.adr_shared.proofs.LookUps.{put_is_found, taken_is_gone}
 use Rattle.adr_schedule.specs.Slots.{in_slot, is_taken}
 

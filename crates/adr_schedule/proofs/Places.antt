@@ -1,5 +1,5 @@
 -- A place that comes last, one that goes, and one that moves to another slot.
-use Rattle.std.proofs.Common.{◌≡◌, ℕ, zero, suc, ◌==◌, ◌<◌, ◌≤◌, ◌+◌, ◌||◌, ◌⊎◌, inl, inr, Bool, true, false, nat_lt, if◌then◌else◌, List, [], ◌∷◌, ◌++◌, set, remove, length, slice_get, Option, Some, None, refl, ap, sym, subst, ◌∙◌, arith, eqb-true, eq-eqb, ltb-true, ltb-false, ne_eqb}
+use Rattle.std.proofs.Common.{◌≡◌, ℕ, zero, suc, ◌==◌, ◌<◌, ◌≤◌, ◌+◌, ◌⊎◌, inl, inr, Bool, true, false, nat_lt, if◌then◌else◌, List, [], ◌∷◌, ◌++◌, remove, length, slice_get, Option, Some, None, refl, ap, sym, subst, ◌∙◌, arith, eqb-true, eq-eqb, ltb-true, ltb-false, ne_eqb}
 use Rattle.std.proofs.lemmas.Bool.{both_ways}
 use Rattle.std.specs.Option.{option_and_then, option_map_or}
 use Rattle.adr_shared.specs.Map.{put, without}
@@ -7,7 +7,7 @@ use Rattle.adr_model.specs.declared.entry.Tie.{Tie}
 use Rattle.adr_model.specs.declared.written.Written.{Written}
 use Rattle.adr_stretch.specs.Right.{has_number}
 use Rattle.adr_group.specs.Group.{Lines, IsRightOf}
-use Rattle.adr_schedule.specs.Moves.{is_among, AreMoved, AreMoving, IsNext, IsSat}
+use Rattle.adr_schedule.specs.Moves.{is_among, AreMoved, IsNext, IsSat}
 use Rattle.adr_schedule.specs.Place.{HasPlace, HasValue, IsPlaced, IsRewritten, LacksPlace, StaysRight}
 use Rattle.adr_schedule.specs.Seating.{group_at, has_at, AreRight, Seating}
 use Rattle.adr_schedule.specs.Slots.{in_slot, is_taken, value_at, AreSeated}

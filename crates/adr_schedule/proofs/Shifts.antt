@@ -1,5 +1,5 @@
 -- What a schedule shows after its groups moved.
-use Rattle.std.proofs.Common.{◌≡◌, ℕ, zero, suc, ◌+◌, ◌*◌, ◌<◌, Bool, true, false, if◌then◌else◌, List, [], ◌∷◌, length, slice_get, Option, Some, None, refl, ap, sym, subst, ◌∙◌, arith}
+use Rattle.std.proofs.Common.{◌≡◌, ℕ, zero, suc, ◌+◌, ◌*◌, ◌<◌, Bool, true, false, if◌then◌else◌, List, [], ◌∷◌, length, slice_get, Some, refl, ap, sym, subst, ◌∙◌, arith}
 use Rattle.std.specs.Option.{option_map_or}
 use Rattle.adr_model.specs.declared.entry.Tie.{Tie}
 use Rattle.adr_model.specs.declared.written.Written.{Written}
@@ -11,7 +11,7 @@ use Rattle.adr_schedule.specs.declared.change.Change.{Change}
 use Rattle.adr_schedule.specs.Moves.{is_among, AreMoved}
 use Rattle.adr_schedule.specs.Seating.{group_at, has_at, shifted, Seating, AreRight, IsShifted}
 use Rattle.adr_schedule.specs.Shift.{number_in, AreSidesOf, Becomes}
-use Rattle.adr_schedule.specs.Slots.{in_slot, value_at, AreSeated}
+use Rattle.adr_schedule.specs.Slots.{AreSeated}
 use Rattle.adr_schedule.proofs.Seated.{at_slot, slot_of, some_same}
 
 pub none_left : {X : Type 0} (xs : List X) → length xs ≡ 0 → xs ≡ []

@@ -1,15 +1,13 @@
 -- What becomes of a group.
-use Rattle.std.proofs.Common.{◌≡◌, ℕ, ℤ, ◌+◌, ◌≤◌, ◌==◌, ◌||◌, ◌⊎◌, inl, inr, Bool, true, false, if◌then◌else◌, List, [], ◌∷◌, ◌++◌, map, flat_map, Option, Some, None, refl, ap, sym, subst, ◌∙◌, arith, eqb-true, eq-eqb}
+use Rattle.std.proofs.Common.{◌≡◌, ℕ, ℤ, ◌+◌, ◌≤◌, ◌==◌, ◌||◌, ◌⊎◌, inl, inr, Bool, true, false, if◌then◌else◌, List, [], ◌∷◌, ◌++◌, map, Option, Some, None, refl, ap, sym, subst, ◌∙◌, arith, eqb-true}
 use Rattle.std.proofs.lemmas.Bool.{both_ways}
 use Rattle.std.proofs.lemmas.Grind.{flat_map-append}
-use Rattle.std.specs.List.{list_any}
 use Rattle.adr_value.specs.declared.payload.PayloadType.{PayloadType}
 use Rattle.adr_time.specs.Spans.{covers}
 use Rattle.adr_model.specs.declared.entry.Entry.{Entry}
 use Rattle.adr_model.specs.declared.entry.Tie.{Tie}
 use Rattle.adr_model.specs.declared.written.Written.{Written}
 use Rattle.adr_model.specs.Governor.{entries_of}
-use Rattle.adr_model.specs.Lists.{In}
 use Rattle.adr_model.specs.Rank.{ranked}
 use Rattle.adr_stretch.specs.declared.grouped.TypeEntries.{TypeEntries}
 use Rattle.adr_stretch.specs.Grouped.{any_covers_at, entries_under}
@@ -159,7 +157,7 @@ module _ (k : PayloadType) (t : ℤ) where
   under_right xs ys h = rw (flat_map-append) (any_right (entries_under xs k) (entries_under ys k) t h)
 
 -- a side that makes a difference is the side
-kept_is : (has : Bool) (writes : List ℕ) (o : Option Side) (s : Side) → kept_side has writes o ≡ Some s → o ≡ Some s
+pub kept_is : (has : Bool) (writes : List ℕ) (o : Option Side) (s : Side) → kept_side has writes o ≡ Some s → o ≡ Some s
 kept_is has writes None s h = absurd (cc)
 kept_is true writes (Some x) s h = by (has_number writes x.written) h
   where

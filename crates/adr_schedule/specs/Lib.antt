@@ -1,3 +1,4 @@
+pub mod Draft
 pub mod Moves
 pub mod Place
 pub mod Seating

@@ -1,5 +1,5 @@
 -- Places move to slots of other values.
-use Rattle.std.specs.Prelude.{◌≡◌, ◌==◌, ◌⊎◌, ℕ, Bool, true, false, List, [], ◌∷◌, length, set, slice_get, is_some, Option, Some, None, if◌then◌else◌}
+use Rattle.std.specs.Prelude.{MatchOption, ◌≡◌, ◌==◌, ◌⊎◌, ℕ, Bool, true, false, List, [], ◌∷◌, length, set, slice_get, Some, None}
 use Rattle.std.specs.List.{list_any}
 use Rattle.std.specs.Option.{option_map_or}
 use Rattle.adr_shared.specs.Map.{without}
@@ -42,14 +42,6 @@ IsSat seats place slot next values others after =
 abbrev pub asked_at : {G : Type 0} → (G → ℕ) → List ℕ → List (List ℕ × G) → ℕ → ℕ
 asked_at cost seats values place = option_map_or cost (value_at seats values place) 0
 
--- by the value in the slot, unless it is known where its members go
-abbrev pub asked_in : {G : Type 0} → (G → ℕ) → List (List ℕ × G) → List (List ℕ × ℕ) → ℕ → ℕ
-asked_in cost values slots slot = if is_some (in_slot slots slot) then 0 else option_map_or cost (in_slot values slot) 0
-
--- by the value in the place's slot, unless it is known where its members go
-abbrev pub asked_by : {G : Type 0} → (G → ℕ) → List ℕ → List (List ℕ × G) → List (List ℕ × ℕ) → ℕ → ℕ
-asked_by cost seats values slots place = option_map_or (asked_in cost values slots) (slice_get seats place) 0
-
 -- a slot of which it is not known where its members go has the value that it had, and it was not known before
 abbrev pub KeepsUnknown : {G : Type 0} → List (List ℕ × G) → List (List ℕ × ℕ) → List (List ℕ × G) → List (List ℕ × ℕ) → Type 0
 KeepsUnknown values slots after later = (slot : ℕ) → in_slot later slot ≡ None → (in_slot slots slot ≡ None) × (in_slot after slot ≡ in_slot values slot)
@@ -59,3 +51,18 @@ abbrev pub AreUnmoved : {G : Type 0} → List ℕ → List (List ℕ × G) → L
 AreUnmoved seats values slots others after later =
     (place slot : ℕ) → slice_get others place ≡ Some slot → in_slot later slot ≡ None
     → (slice_get seats place ≡ Some slot) × (in_slot slots slot ≡ None) × (in_slot after slot ≡ in_slot values slot)
+
+-- what was made for the slot stands to its value as is asked; where nothing was made its value does
+abbrev pub IsMadeAt : {G : Type 0} → (G → G → Type 0) → List (List ℕ × G) → List (List ℕ × G) → ℕ → Type 0
+IsMadeAt {G} P values made slot = (g : G) → in_slot values slot ≡ Some g → MatchOption (in_slot made slot) (P g g) (λ h. P g h)
+
+-- and it is so for the slot of each of the places
+abbrev pub AreMadeFor : {G : Type 0} → (G → G → Type 0) → List ℕ → List ℕ → List (List ℕ × G) → List (List ℕ × G) → Type 0
+AreMadeFor P places seats values made = (place slot : ℕ) → is_among places place ≡ true → slice_get seats place ≡ Some slot → IsMadeAt P values made slot
+
+-- places moved: they are on the move still, those that are left have what they had, and each that moved has what was asked
+pub record HasMoved {G : Type 0} (P : G → G → Type 0) (moves : ℕ → Bool) (seats : List ℕ) (values : List (List ℕ × G)) (slots : List (List ℕ × ℕ))
+    (others : List ℕ) (after : List (List ℕ × G)) (later : List (List ℕ × ℕ)) : Type 0 where
+  pub moving : AreMoving P others after later
+  pub unmoved : AreUnmoved seats values slots others after later
+  pub moved : AreMoved P moves seats values others after

@@ -2,6 +2,9 @@
 //! Which group of timelines each resource has.
 
 mod change;
+mod draft;
+mod gathered;
+mod made;
 mod moves;
 mod place;
 mod schedule;

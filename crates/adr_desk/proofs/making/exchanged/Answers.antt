@@ -10,7 +10,7 @@ use Rattle.adr_desk.proofs.Sides.{two_sides}
 use Rattle.adr_desk.proofs.making.exchanged.Goals as goal
 
 pub put_in-requires : goal.put_in-requires
-put_in-requires c =
+put_in-requires g c =
     let old = c.args.old.now.objects in
     let edit = c.args.edit.now in
     record {
@@ -19,20 +19,20 @@ put_in-requires c =
     }
 
 pub followed-requires-clause-two : goal.followed-requires-clause-two
-followed-requires-clause-two c =
+followed-requires-clause-two g c =
     let old = c.args.old.now.objects in
     let edit = c.args.edit.now in
     two_sides c.args.tie old c.args.new.now.objects (gone_of old edit) (come_of old edit) c.requires.exchange c.args.change.now c.requires.gone c.requires.come
 
 pub followed-requires-clause-indexed : goal.followed-requires-clause-indexed
-followed-requires-clause-indexed c =
+followed-requires-clause-indexed g c =
     let old = c.args.old.now.objects in
     let edit = c.args.edit.now in
     come_indexed c.args.tie old c.args.new.now.objects (gone_of old edit) (come_of old edit) c.requires.exchange (c.exchange_laws.ensures.makes c.args.tie) c.args.indexes.now c.put_in.new.indexes c.args.change.now.come
     c.requires.desk.indexed c.requires.come (λ k. c.in_ok-put_in.ensures.ok k ∙ ap (λ es. inserted_all (entries_under es k) (under c.args.indexes.now k)) c.entries.ensures)
 
 pub returns-in-Ok-clause-ok : goal.returns-in-Ok-clause-ok
-returns-in-Ok-clause-ok c =
+returns-in-Ok-clause-ok g c =
     let old = c.args.old.now.objects in
     let new = c.args.new.now.objects in
     let edit = c.args.edit.now in
@@ -44,7 +44,7 @@ returns-in-Ok-clause-ok c =
     (c.in-Ok.ensures.seated new c.requires.exchange c.requires.desk.seated)
 
 pub returns-in-Err-clause-err : goal.returns-in-Err-clause-err
-returns-in-Err-clause-err c =
+returns-in-Err-clause-err g c =
     let old = c.args.old.now.objects in
     let edit = c.args.edit.now in
     rw c.in-Err.ensures.unchanged
@@ -54,4 +54,4 @@ returns-in-Err-clause-err c =
     (λ k. c.take_out-in-Err.ensures k ∙ ap (λ es. others_all (entries_under es k) (under c.put_in.new.indexes k)) c.entries-in-Err.ensures))
 
 pub returns-in-Ok-clause-least : goal.returns-in-Ok-clause-least
-returns-in-Ok-clause-least c whole one = c.in-Ok.ensures.least c.args.new.now.objects whole c.requires.exchange one c.requires.desk.seated
+returns-in-Ok-clause-least g c whole one = c.in-Ok.ensures.least c.args.new.now.objects whole c.requires.exchange one c.requires.desk.seated

@@ -10,7 +10,7 @@ use Rattle.adr_desk.proofs.Sides.{groups_of_side}
 use Rattle.adr_desk.proofs.making.regrouped.Goals as goal
 
 pub shifted-requires-clause-room : goal.shifted-requires-clause-room
-shifted-requires-clause-room c =
+shifted-requires-clause-room g c =
     let book = c.args.book.now.objects in
     let edit = c.args.edit.now in
     let room = c.requires.room c.args.indexes.now (entries_in c.args.change.now.gone) (entries_in c.args.change.now.come) c.requires.indexed
@@ -20,7 +20,7 @@ shifted-requires-clause-room c =
     omega (arith, few, c.requires.begun)
 
 pub shifted-requires-2-clause-room : goal.shifted-requires-2-clause-room
-shifted-requires-2-clause-room c =
+shifted-requires-2-clause-room g c =
     let book = c.args.book.now.objects in
     let edit = c.args.edit.now in
     let room = c.requires.room c.args.indexes.now (entries_in c.args.change.now.gone) (entries_in c.args.change.now.come) c.requires.indexed
@@ -34,7 +34,7 @@ shifted-requires-2-clause-room c =
     omega (arith, few, less, c.requires.begun, c.shifted.ensures.compared)
 
 pub returns-clause-seated : goal.returns-clause-seated
-returns-clause-seated c =
+returns-clause-seated g c =
     let book = c.args.book.now.objects in
     let edit = c.args.edit.now in
     seated_after c.right_moves.ensures c.args.tie book (gone_of book edit) (come_of book edit) c.args.indexes.now c.args.change.now c.args.alone.now
@@ -45,7 +45,7 @@ returns-clause-seated c =
     c.in_ok-mid.ensures.shifted c.in_ok-mid.ensures.right c.in_ok-after.ensures.shifted c.in_ok-after.ensures.right
 
 pub returns-clause-least : goal.returns-clause-least
-returns-clause-least c new whole x one seated =
+returns-clause-least g c new whole x one seated =
     let book = c.args.book.now.objects in
     let edit = c.args.edit.now in
     let joining = c.in_ok-joining.joining.items in

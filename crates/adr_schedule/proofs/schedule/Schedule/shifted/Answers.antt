@@ -1,28 +1,41 @@
-use Rattle.std.proofs.Common.{◌∙◌, List, ℕ, arith, subst, sym}
-use Rattle.adr_group.specs.Group.{Lines}
-use Rattle.adr_schedule.specs.Moves.{asked_at, is_among, AreMoved}
+use Rattle.std.proofs.Common.{sym, subst}
+use Rattle.adr_schedule.specs.Moves.{AreMadeFor}
 use Rattle.adr_schedule.specs.Seating.{Seating}
 use Rattle.adr_schedule.specs.Shift.{Becomes}
-use Rattle.adr_schedule.specs.Slots.{AreSeated}
 use Rattle.adr_schedule.proofs.Shifts.{is_shifted, right_shifted}
 use Rattle.adr_schedule.proofs.schedule.Schedule.shifted.Goals as goal
 
+pub invariant_of-result : goal.invariant_of-result
+invariant_of-result g c =
+    let p = Becomes c.args.change.now c.args.indexes.now in
+    let made = c.in_ok-made.made in
+    let at = subst (λ z. AreMadeFor p c.args.places.now z c.in_ok-groups.groups made) (sym c.in_ok-seats.ensures)
+    (subst (λ z. AreMadeFor p c.args.places.now c.self.inside.seats z made) (sym c.in_ok-groups.ensures)
+    (subst (λ (s : Seating). AreMadeFor p c.args.places.now s.seats s.groups made) (sym c.self.view_is) c.in_ok-made.ensures.made)) in
+    rw c.in_ok-groups-2.ensures (c.in_ok-moves.ensures.moved c.args.change.now c.args.indexes.now at).moving.seated
+
 pub returns-clause-shifted : goal.returns-clause-shifted
-returns-clause-shifted c =
+returns-clause-shifted g c =
+    let p = Becomes c.args.change.now c.args.indexes.now in
+    let made = c.in_ok-made.made in
+    let at = subst (λ z. AreMadeFor p c.args.places.now z c.in_ok-groups.groups made) (sym c.in_ok-seats.ensures)
+    (subst (λ z. AreMadeFor p c.args.places.now c.self.inside.seats z made) (sym c.in_ok-groups.ensures)
+    (subst (λ (s : Seating). AreMadeFor p c.args.places.now s.seats s.groups made) (sym c.self.view_is) c.in_ok-made.ensures.made)) in
     let old : Seating = record { seats = c.self.inside.seats; groups = c.self.inside.groups } in
     let new : Seating = record { seats = c.move_all.new.seats; groups = c.in_ok-groups-2.groups } in
     rw (← c.self.view_is)
     (is_shifted c.args.change.now c.args.indexes.now c.args.places.now old new c.self.invariant
-    (rw c.in_ok-groups-2.ensures (rw (← c.in_ok-seats.ensures, ← c.in_ok-groups.ensures) c.in_ok-moves.ensures.moved)))
+    (rw c.in_ok-groups-2.ensures (rw (← c.in_ok-seats.ensures, ← c.in_ok-groups.ensures) (c.in_ok-moves.ensures.moved c.args.change.now c.args.indexes.now at).moved)))
 
 pub returns-clause-right : goal.returns-clause-right
-returns-clause-right c =
+returns-clause-right g c =
+    let p = Becomes c.args.change.now c.args.indexes.now in
+    let made = c.in_ok-made.made in
+    let at = subst (λ z. AreMadeFor p c.args.places.now z c.in_ok-groups.groups made) (sym c.in_ok-seats.ensures)
+    (subst (λ z. AreMadeFor p c.args.places.now c.self.inside.seats z made) (sym c.in_ok-groups.ensures)
+    (subst (λ (s : Seating). AreMadeFor p c.args.places.now s.seats s.groups made) (sym c.self.view_is) c.in_ok-made.ensures.made)) in
     let old : Seating = record { seats = c.self.inside.seats; groups = c.self.inside.groups } in
     let new : Seating = record { seats = c.move_all.new.seats; groups = c.in_ok-groups-2.groups } in
     rw (← c.self.view_is)
     (right_shifted c.args.change.now c.args.indexes.now c.args.places.now old new c.self.invariant
-    (rw c.in_ok-groups-2.ensures (rw (← c.in_ok-seats.ensures, ← c.in_ok-groups.ensures) c.in_ok-moves.ensures.moved)))
-
-pub returns-clause-least : goal.returns-clause-least
-returns-clause-least c =
-    rw (← c.self.view_is) (rw (← c.in_ok-seats.ensures, ← c.in_ok-groups.ensures) (omega (arith, c.in_ok-moves.ensures.least)))
+    (rw c.in_ok-groups-2.ensures (rw (← c.in_ok-seats.ensures, ← c.in_ok-groups.ensures) (c.in_ok-moves.ensures.moved c.args.change.now c.args.indexes.now at).moved)))

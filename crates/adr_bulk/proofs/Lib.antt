@@ -1,0 +1,5 @@
+pub mod Crossing
+pub mod Choosing
+pub mod Covering
+pub mod Owning
+pub mod Seats

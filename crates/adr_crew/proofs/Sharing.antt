@@ -1,0 +1,85 @@
+-- The parts of jobs that are shared out are all the jobs.
+use Rattle.std.proofs.Common.{◌≡◌, ℕ, zero, suc, ◌+◌, ◌*◌, ◌/◌, ◌-◌, ◌≤◌, ◌<◌, ◌^◌, List, [], ◌∷◌, ◌++◌, length, take, drop, sum_by, refl, sym, ap, subst, ◌∙◌, arith, append-nil}
+use Rattle.std.specs.List.{AllZip}
+use Rattle.std.proofs.Math.Seq.{take-add, take-length}
+use Rattle.std.proofs.Math.Nat.{div-mul-le_self}
+use Rattle.std.proofs.lemmas.List.Sums.{sum_by-append, sum_by-take-drop, sum_by-take-le}
+use Rattle.std.proofs.lemmas.Nat.{le-div, div-mul-add}
+use Rattle.adr_lines.specs.declared.indexes.Indexes.{Indexes}
+use Rattle.adr_group.specs.declared.job.Done.{Done}
+use Rattle.adr_group.specs.declared.job.Job.{Job}
+use Rattle.adr_group.specs.Jobs.{most_done, AreDone, IsDone}
+
+-- ---- where parts begin and end
+
+-- a front and what stands behind it are a longer front
+front_and_part : {X : Type 0} (i j : ℕ) (xs : List X) → i ≤ j → take i xs ++ take (j - i) (drop i xs) ≡ take j xs
+front_and_part i j xs le =
+    let whole : i + (j - i) ≡ j = omega arith in
+    sym (take-add i (j - i) xs) ∙ ap (λ k. take k xs) whole
+
+-- where a later worker's jobs begin is no earlier
+pub bound_le : (a b n w : ℕ) → a ≤ b → 0 < w → a * n / w ≤ b * n / w
+bound_le a b n w le pos =
+    let low : a * n / w * w ≤ a * n = div-mul-le_self (a * n) w in
+    let more : a * n ≤ b * n = grind arith in
+    le-div (a * n / w) (b * n) w pos (omega arith)
+
+pub bound_last : (n w : ℕ) → 0 < w → w * n / w ≡ n
+bound_last n w pos =
+    let e : w * n ≡ n * w + 0 = grind arith in
+    ap (λ k. k / w) e ∙ div-mul-add n w 0 pos
+
+pub bound_first : (n w : ℕ) → 0 < w → 0 * n / w ≡ 0
+bound_first n w pos =
+    let e : 0 * n ≡ 0 * w + 0 = grind arith in
+    ap (λ k. k / w) e ∙ div-mul-add 0 w 0 pos
+
+-- no bound is past the end
+pub bound_inside : (a n w : ℕ) → a ≤ w → 0 < w → a * n / w ≤ n
+bound_inside a n w le pos =
+    let more = bound_le a w n w le pos in
+    let last = bound_last n w pos in
+    omega (arith, more, last)
+
+-- ---- what parts compare
+
+-- a part compares no more than all
+pub part_less : {X : Type 0} (f : X → ℕ) (i n : ℕ) (xs part : List X) → part ≡ take n (drop i xs) → sum_by f part ≤ sum_by f xs
+part_less f i n xs part is =
+    let same = ap (sum_by f) is in
+    let front = sum_by-take-le f (drop i xs) n in
+    let back = sum_by-take-drop f xs i in
+    omega (arith, same, front, back)
+
+-- ---- what was done of them
+
+both_done : {X D : Type 0} (R : X → D → Type 0) (xs ys : List X) (us vs : List D) → AllZip R xs us → AllZip R ys vs → AllZip R (xs ++ ys) (us ++ vs)
+both_done R [] ys [] vs h k = k
+both_done R [] ys (u ∷ us) vs h k = absurd h
+both_done R (x ∷ xs) ys [] vs h k = absurd h
+both_done R (x ∷ xs) ys (u ∷ us) vs h k = (h.0, both_done R xs ys us vs h.1 k)
+
+-- what the last worker did, behind what the others did
+pub shared : (indexes : Indexes) (ours theirs all : List Done) (jobs part : List Job) (i j : ℕ)
+    → i ≤ j → all ≡ ours ++ theirs → AreDone indexes (take i jobs) ours → part ≡ take (j - i) (drop i jobs) → AreDone indexes part theirs
+    → AreDone indexes (take j jobs) all
+shared indexes ours theirs all jobs part i j le is front cut back =
+    subst (λ l. AreDone indexes l all) (ap (λ l. take i jobs ++ l) cut ∙ front_and_part i j jobs le)
+    (subst (λ l. AreDone indexes (take i jobs ++ part) l) (sym is)
+    (record {
+      each = both_done (IsDone indexes) (take i jobs) part ours theirs front.each back.each;
+      compared =
+          let jobs_parts = sum_by-append (most_done indexes) (take i jobs) part in
+          let done_parts = sum_by-append (λ (d : Done). d.compared) ours theirs in
+          omega (arith, jobs_parts, done_parts, front.compared, back.compared);
+    }))
+
+empty : {X : Type 0} (xs : List X) → length xs ≡ 0 → xs ≡ []
+empty [] e = refl
+empty (x ∷ xs) e = absurd (omega arith)
+
+-- a worker with no jobs adds none
+pub none_more : {X : Type 0} (jobs part : List X) (i j : ℕ) → i ≤ j → part ≡ take (j - i) (drop i jobs) → length part ≡ 0 → take i jobs ≡ take j jobs
+none_more jobs part i j le cut none =
+    sym (append-nil (take i jobs)) ∙ ap (λ l. take i jobs ++ l) (sym (empty part none) ∙ cut) ∙ front_and_part i j jobs le

@@ -1,0 +1,95 @@
+//! A desk that is loaded is the one to which the same edits were applied.
+use crate::reading::edit;
+use adr_desk::Desk;
+use adr_model::Tie;
+use adr_object::{Edit, Id};
+use adr_time::Moment;
+use adr_value::{PayloadType, Refusal};
+use std::alloc::Global;
+use std::test::Fail;
+use std::thread::Threads;
+
+/// Two events of one priority, the first of which is written again; a resource that is there already is refused.
+const EDITS: &str = r#"create program p1 {"programName":"P"}
+create ven v1 {"venName":"V"}
+create resource r1 {"resourceName":"R","venID":"v1"}
+create event e1 {"programID":"p1","priority":3,"intervals":[{"intervalPeriod":{"start":"1970-01-01T00:00:00Z","duration":"PT2H"},"payloads":[{"type":"PRICE","values":[10]}]}]}
+create resource r1 {"resourceName":"R","venID":"v1"}
+create event e2 {"programID":"p1","priority":3,"intervals":[{"intervalPeriod":{"start":"1970-01-01T01:00:00Z","duration":"PT2H"},"payloads":[{"type":"PRICE","values":[20]}]}]}
+change event e1 {"programID":"p1","priority":3,"intervals":[{"intervalPeriod":{"start":"1970-01-01T00:00:00Z","duration":"PT2H"},"payloads":[{"type":"PRICE","values":[10]}]}]}"#;
+
+fn read(alloc: Global) -> Result<Vec<Edit>, Refusal> {
+    let mut edits = Vec::new(alloc);
+    for line in EDITS.split('\n') {
+        edits.push(edit(alloc, line)?)?;
+    }
+    Ok(edits)
+}
+
+fn version_after(desk: &mut Desk, edit: Edit) -> Result<u64, Refusal> {
+    let receipt = desk.apply(edit)?;
+    let version = receipt.version;
+    drop(receipt);
+    Ok(version)
+}
+
+/// A desk to which the edits are applied one after the other.
+fn applied(alloc: Global, tie: Tie) -> Result<Desk, Refusal> {
+    let mut desk = Desk::new(alloc, tie)?;
+    for edit in read(alloc)? {
+        let _ = version_after(&mut desk, edit);
+    }
+    Ok(desk)
+}
+
+/// The number of the event that governs the resource in the middle of the hour, from 1970.
+fn written(desk: &Desk, alloc: Global, hour: u8) -> Result<Option<u64>, Refusal> {
+    let id = Id::read(alloc, "r1")?;
+    let at = Moment::of((2 * i128::from(hour) + 1) * 1_800_000_000_000);
+    let written = match (desk.timeline(&id, &PayloadType::Price), at) {
+        (Some(line), Some(at)) => line.governor(at).map(|winner| winner.written),
+        _ => None,
+    };
+    drop(id);
+    Ok(written)
+}
+
+/// Whether both desks show the same in the middle of each of the first hours.
+fn show_the_same(one: &Desk, other: &Desk, alloc: Global) -> Result<bool, Refusal> {
+    let mut same = true;
+    for hour in 0..4u8 {
+        same = same && written(one, alloc, hour)? == written(other, alloc, hour)?;
+    }
+    Ok(same)
+}
+
+/// Loads the edits, and judges what is answered and shown; in the second hour the event of that number governs.
+fn load(rt: &(impl Threads + Sync), alloc: Global, tie: Tie, last: u64) -> Result<bool, Refusal> {
+    let (desk, answers) = Desk::load(rt, alloc, read(alloc)?, tie)?;
+    let wanted = [
+        Ok(1),
+        Ok(2),
+        Ok(3),
+        Ok(4),
+        Err(Refusal::Exists),
+        Ok(5),
+        Ok(6),
+    ];
+    let answered = answers.as_slice() == wanted.as_slice();
+    let other = applied(alloc, tie)?;
+    let same = show_the_same(&desk, &other, alloc)?;
+    let first = written(&desk, alloc, 0)? == Some(6);
+    let second = written(&desk, alloc, 1)? == Some(last);
+    let fourth = written(&desk, alloc, 3)?.is_none();
+    drop(other);
+    drop(answers);
+    drop(desk);
+    Ok(answered && same && first && second && fourth)
+}
+
+#[test]
+fn a_loaded_desk_shows_what_edits_leave(rt: HostRuntime) -> Result<(), Fail> {
+    assert!(rt; load(&rt, rt.alloc(), Tie::Newest, 6)?);
+    assert!(rt; load(&rt, rt.alloc(), Tie::LatestStart, 5)?);
+    Ok(())
+}

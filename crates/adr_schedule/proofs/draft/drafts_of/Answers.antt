@@ -1,0 +1,24 @@
+use Rattle.std.proofs.Common.{◌≡◌, ◌+◌, sum_by, ap, ◌∙◌, arith}
+use Rattle.std.proofs.lemmas.List.Sums.{sum_by-cons}
+use Rattle.adr_schedule.specs.Moves.{asked_at}
+use Rattle.adr_schedule.specs.Shift.{most_shifted}
+use Rattle.adr_schedule.proofs.Drafts.{next_seen}
+use Rattle.adr_schedule.proofs.draft.drafts_of.Goals as goal
+
+pub rest-preserved : goal.rest-preserved
+rest-preserved c =
+    let place = c.in-Some.place.now in
+    let more = c.in-Some.more.now in
+    let new = c.in_ok-add_place in
+    record {
+      drafts = new.ensures.drafts;
+      known = new.ensures.known;
+      seen = λ p s among at. next_seen c.args.change.now c.args.groups.now c.rest.drafts.list.items c.add_place.new.drafts.list.items c.args.seats.now c.rest.rest.now more place
+          c.in-Some.ensures.cases.0 new.ensures.grows new.ensures.seen p s at (c.rest.invariant.seen p s among at);
+      least = λ indexes.
+          (let asked = asked_at (most_shifted c.args.change.now indexes) c.args.seats.now c.args.groups.now in
+          let parts : sum_by asked c.rest.rest.now ≡ asked place + sum_by asked more = ap (sum_by asked) c.in-Some.ensures.cases.0 ∙ sum_by-cons asked place more in
+          let before = c.rest.invariant.least indexes in
+          let one = new.ensures.least indexes in
+          omega (arith, parts, before, one));
+    }
