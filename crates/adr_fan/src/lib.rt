@@ -11,5 +11,5 @@ mod reading;
 mod script;
 mod writing;
 
-pub use fanning::{fan, fan_logged};
 pub use adr_gate::{Gate, NoGate};
+pub use fanning::{fan, fan_logged};

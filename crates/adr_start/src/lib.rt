@@ -22,9 +22,7 @@ const BAD_COMMAND_LINE: u8 = 2;
 /// text which can't be written is a fault.
 pub fn start_program<
     R: AllocGlobal + Env + Input + Print + Eprint + Threads + Wait + Clone + Drop + Send + 'static,
->(
-    rt: &R,
-) -> ExitCode {
+>(rt: &R) -> ExitCode {
     match words(rt) {
         Ok(words) => match job(rt.alloc(), words) {
             Ok(Job::Run(workers, tie)) => run_script(rt, workers, tie),
@@ -63,11 +61,7 @@ fn run_script<R: AllocGlobal + Input + Print + Eprint + Threads + Wait>(
 /// Has readers answer standard input on standard output.
 fn fan_script<
     R: AllocGlobal + Input + Print + Eprint + Threads + Wait + Clone + Drop + Send + 'static,
->(
-    rt: &R,
-    readers: usize,
-    tie: Tie,
-) -> ExitCode
+>(rt: &R, readers: usize, tie: Tie) -> ExitCode
     requires { (1 ≤ readers) × (readers ≤ 64) }
 {
     let Ok(gate) = Arc::new(rt.alloc(), NoGate) else {
