@@ -2,30 +2,24 @@
 use crate::bodies::{MEMBERS, event, program, resource, ven};
 use adr_desk::Desk;
 use adr_model::Tie;
-use adr_object::{Edit, Object};
+use adr_object::Edit;
 use adr_value::Refusal;
 use std::alloc::Global;
 
 /// The priority of an event that was not changed.
 pub(crate) const PRIORITY: u32 = 5;
 
-fn create(desk: &mut Desk, object: Object) -> Result<(), Refusal> {
-    let receipt = desk.apply(Edit::Create(object))?;
-    drop(receipt);
-    Ok(())
-}
-
-fn create_parties(alloc: Global, desk: &mut Desk, count: usize) -> Result<(), Refusal> {
+fn add_parties(alloc: Global, edits: &mut Vec<Edit>, count: usize) -> Result<(), Refusal> {
     for number in 0..count / MEMBERS + 1 {
-        create(desk, program(alloc, number, None)?)?;
-        create(desk, ven(alloc, number, number)?)?;
+        edits.push(Edit::Create(program(alloc, number, None)?))?;
+        edits.push(Edit::Create(ven(alloc, number, number)?))?;
     }
     Ok(())
 }
 
-fn create_resources(alloc: Global, desk: &mut Desk, count: usize) -> Result<(), Refusal> {
+fn add_resources(alloc: Global, edits: &mut Vec<Edit>, count: usize) -> Result<(), Refusal> {
     for number in 0..count {
-        create(desk, resource(alloc, number, number / MEMBERS)?)?;
+        edits.push(Edit::Create(resource(alloc, number, number / MEMBERS)?))?;
     }
     Ok(())
 }
@@ -38,25 +32,39 @@ pub(crate) fn group_of(number: usize, count: usize) -> usize {
     }
 }
 
-fn create_events(alloc: Global, desk: &mut Desk, count: usize) -> Result<(), Refusal> {
+fn add_events(alloc: Global, edits: &mut Vec<Edit>, count: usize) -> Result<(), Refusal> {
     for number in 0..count {
         let group = group_of(number, count);
-        create(desk, event(alloc, number, Some(group), PRIORITY)?)?;
+        edits.push(Edit::Create(event(alloc, number, Some(group), PRIORITY)?))?;
     }
     Ok(())
 }
 
-fn fill(alloc: Global, desk: &mut Desk, count: usize) -> Result<(), Refusal> {
-    create_parties(alloc, desk, count)?;
-    create_resources(alloc, desk, count)?;
-    create_events(alloc, desk, count)?;
+/// The edits that make so many resources, 64 to a ven and its group, and as many events, 64 to a program and for a group.
+pub(crate) fn edits_of(alloc: Global, count: usize) -> Result<Vec<Edit>, Refusal> {
+    let mut edits = Vec::new(alloc);
+    add_parties(alloc, &mut edits, count)?;
+    add_resources(alloc, &mut edits, count)?;
+    add_events(alloc, &mut edits, count)?;
+    Ok(edits)
+}
+
+fn apply_all(desk: &mut Desk, edits: Vec<Edit>) -> Result<(), Refusal> {
+    for edit in edits {
+        let receipt = desk.apply(edit)?;
+        drop(receipt);
+    }
     desk.seal()
 }
 
-/// A desk of so many resources, 64 to a ven and its group, and as many events, 64 to a program and for a group. The batch
-/// of what made it is closed: an edit copies what is open.
-pub(crate) fn desk_of(alloc: Global, count: usize) -> Result<Desk, Refusal> {
+/// A desk that the edits make, one after the other. Their batch is closed: an edit copies what is open.
+pub(crate) fn made_of(alloc: Global, edits: Vec<Edit>) -> Result<Desk, Refusal> {
     let mut desk = Desk::new(alloc, Tie::Newest)?;
-    fill(alloc, &mut desk, count)?;
+    apply_all(&mut desk, edits)?;
     Ok(desk)
+}
+
+/// The desk of these edits for so many resources.
+pub(crate) fn desk_of(alloc: Global, count: usize) -> Result<Desk, Refusal> {
+    made_of(alloc, edits_of(alloc, count)?)
 }

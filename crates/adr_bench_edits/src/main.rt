@@ -1,8 +1,9 @@
 //! How books, desks and boards stand after many edits and publications, and how much repairs compare.
 //!
 //! With no word, all by count. With `books`, `desks` or `boards`: that part alone, and how long it takes. With `looks`: how
-//! often readers look in a second beside an editor that publishes. With `hold COUNT`: so many publications are held at
-//! once, for a measurement of memory from outside.
+//! often readers look in a second beside an editor that publishes. With `crews`: how long an edit takes by several workers,
+//! and a desk to be loaded. With `hold COUNT`: so many publications are held at once, for a measurement of memory from
+//! outside.
 #![tactic(auto)]
 
 mod board_rows;
@@ -12,6 +13,7 @@ mod book_rows;
 mod book_times;
 mod books;
 mod changes;
+mod crews;
 mod desk_rows;
 mod desk_times;
 mod desks;
@@ -22,6 +24,7 @@ mod works;
 
 use crate::board_rows::{print_boards, print_held, print_looks};
 use crate::book_rows::print_books;
+use crate::crews::print_crews;
 use crate::desk_rows::print_desks;
 use std::rt::{Clock, Env};
 use std::sync::Wait;
@@ -39,6 +42,7 @@ fn print_part<R: AllocGlobal + Print + Clock + Threads + Wait + Sync>(
         "desks" => print_desks(rt, true),
         "boards" => print_boards(rt, true),
         "looks" => print_looks(rt),
+        "crews" => print_crews(rt),
         _ => print_held(rt, count.parse::<usize>().unwrap_or(1)),
     }
 }
