@@ -20,11 +20,12 @@ const MILLISECONDS: u128 = 1000;
 /// How often each of them looks or publishes before it reads the clock again.
 const BETWEEN: u64 = 100;
 
-/// A reader, and how often it has looked.
+/// A reader, and how often it has looked. The gap keeps what one writes from the cache lines of the next.
 #[derive(Drop)]
 struct Looker<J: Naming> {
     reader: Reader<J>,
     looks: u64,
+    gap: [u64; 32],
 }
 
 /// How often all readers looked, and how often the editor published.
@@ -124,7 +125,11 @@ fn look_beside<J: Naming + Send, R: Clock + Threads + Wait + Sync>(
 fn lookers<J: Naming>(alloc: Global, readers: Vec<Reader<J>>) -> Result<Vec<Looker<J>>, Refusal> {
     let mut all = Vec::new(alloc);
     for reader in readers {
-        all.push(Looker { reader, looks: 0 })?;
+        all.push(Looker {
+            reader,
+            looks: 0,
+            gap: [0; 32],
+        })?;
     }
     Ok(all)
 }
