@@ -1,12 +1,12 @@
 //! What the events of some writes show of one payload type, and its repair inside windows.
-ghost use Rattle.std.specs.Prelude.{◌≡◌, ◌+◌, ◌<◌, ◌≤◌, ◌^◌, ℤ, None, IfOk, if◌then◌else◌};
+ghost use Rattle.std.specs.Prelude.{◌≡◌, ◌+◌, ◌<◌, ◌≤◌, ◌^◌, ◌++◌, ℤ, None, IfOk, IsTrue, length, if◌then◌else◌};
 ghost use Rattle.adr_value.specs.Answer.{OnlyNoMemory};
 ghost use Rattle.adr_time.specs.Spans.{covers};
 ghost use Rattle.adr_model.specs.Entries.{meeting};
 ghost use Rattle.adr_model.specs.Governor.{winner_at};
 ghost use Rattle.adr_model.specs.Timeline.{shows};
 ghost use Rattle.adr_timeline.specs.Build.{most_compared};
-ghost use Rattle.adr_timeline.specs.Windows.{any_covers};
+ghost use Rattle.adr_timeline.specs.Windows.{any_covers, are_apart as is_each_apart};
 ghost use Rattle.adr_stretch.specs.Grouped.{any_covers_at};
 ghost use Rattle.adr_stretch.specs.Right.{written_in};
 ghost use Rattle.adr_lines.specs.Indexes.{under};
@@ -114,8 +114,46 @@ fn spliced_each(line: &Timeline, spans: &[Span], inner: &Timeline) -> Result<Tim
     Ok(shown)
 }
 
+/// How many of the spans come before the first that starts before the one ahead of it ends.
+fn in_order(spans: &[Span]) -> usize
+    ensures { result ≤ length spans.now }
+{
+    let mut count = 0;
+    let mut rest = spans;
+    'rest: while let Some((span, more)) = rest.split_first() {
+        count += 1;
+        rest = more;
+        match rest.first() {
+            Some(next) if next.start.is_before(span.end) => break,
+            _ => (),
+        }
+    }
+    count
+}
+
+/// The line with what the inner one shows inside the spans, which stand in order in two runs.
+fn spliced_runs(
+    line: &Timeline,
+    front: &[Span],
+    back: &[Span],
+    inner: &Timeline,
+) -> Result<Timeline, Refusal>
+    requires front { IsTrue (is_each_apart front.now) }
+    requires back { IsTrue (is_each_apart back.now) }
+    ensures shows { IfOk result (λ timeline. (t : ℤ) → shows timeline t ≡ (if any_covers (front.now ++ back.now) t then shows inner.now t else shows line.now t)) }
+    ensures memory { OnlyNoMemory result }
+{
+    let shown = line.splice_all(front, inner)?;
+    if back.is_empty() {
+        Ok(shown)
+    } else {
+        shown.splice_all(back, inner)
+    }
+}
+
 /// The line with what the inner one shows inside the windows: in one pass where each window ends before the next one
-/// starts, as those of an event mostly do, and else window by window. `NoMemory` where there is no room for it.
+/// starts, as those of an event mostly do, in two where those of one event stand behind those of another, and else window
+/// by window. `NoMemory` where there is no room for it.
 pub(crate) fn spliced(
     alloc: Global,
     line: &Timeline,
@@ -126,8 +164,9 @@ pub(crate) fn spliced(
     ensures memory { OnlyNoMemory result }
 {
     let spans = lasting_spans(alloc, windows)?;
-    if are_apart(spans.as_slice()) {
-        line.splice_all(spans.as_slice(), inner)
+    let (front, back) = spans.as_slice().split_at(in_order(spans.as_slice()));
+    if are_apart(front) && are_apart(back) {
+        spliced_runs(line, front, back, inner)
     } else {
         spliced_each(line, spans.as_slice(), inner)
     }
