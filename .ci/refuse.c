@@ -1,11 +1,14 @@
 // Refuses one growth of a program that it is loaded before: the one whose number, from 1, is in REFUSE; and one start of
-// a thread: the one whose number is in REFUSE_THREAD. It says so on file descriptor 3.
+// a thread: the one whose number is in REFUSE_THREAD. It says so on file descriptor 3. Where REFUSE_AFTER has a line of
+// standard output, only growths between that line and the next are counted.
 #define _GNU_SOURCE
 #include <dlfcn.h>
 #include <errno.h>
 #include <pthread.h>
 #include <stdatomic.h>
 #include <stdlib.h>
+#include <string.h>
+#include <sys/syscall.h>
 #include <unistd.h>
 
 void *__libc_malloc(size_t size);
@@ -15,6 +18,10 @@ void *__libc_memalign(size_t alignment, size_t size);
 
 static long number, thread;
 static atomic_long count, threads;
+static const char *after;
+static atomic_int is_elsewhere;
+static char line[4096];
+static size_t length;
 
 static long number_in(const char *name) {
     const char *text = getenv(name);
@@ -24,11 +31,34 @@ static long number_in(const char *name) {
 __attribute__((constructor)) static void begin(void) {
     number = number_in("REFUSE");
     thread = number_in("REFUSE_THREAD");
+    after = getenv("REFUSE_AFTER");
+    is_elsewhere = after != NULL;
     count = 0;
 }
 
+static void read_line(char next) {
+    if (next != '\n') {
+        line[length] = next;
+        length += length + 1 < sizeof line;
+        return;
+    }
+    line[length] = 0;
+    length = 0;
+    is_elsewhere = strcmp(line, after) != 0;
+}
+
+ssize_t write(int file, const void *bytes, size_t size) {
+    ssize_t written = syscall(SYS_write, file, bytes, size);
+    for (ssize_t place = 0; after != NULL && file == STDOUT_FILENO && place < written; place++) {
+        read_line(((const char *)bytes)[place]);
+    }
+    return written;
+}
+
+ssize_t __write(int file, const void *bytes, size_t size) { return write(file, bytes, size); }
+
 static int is_refused(void) {
-    if (number == 0 || ++count != number) {
+    if (number == 0 || is_elsewhere || ++count != number) {
         return 0;
     }
     errno = ENOMEM;

@@ -39,6 +39,16 @@ pub(crate) fn vens(alloc: Global, count: usize) -> Result<Vec<Ven>, Refusal> {
     Ok(vens)
 }
 
+/// Adds the resources to the index, each with one of the vens in turn.
+fn fill(audience: &mut Audience, resources: &[Resource], vens: &[Ven]) -> Result<(), Refusal> {
+    for (place, resource) in resources.iter().enumerate() {
+        if place % 256 < vens.len() {
+            audience.push(resource, &vens[place % 256])?;
+        }
+    }
+    Ok(())
+}
+
 /// The index of the resources, each with one of the vens in turn.
 pub(crate) fn indexed(
     alloc: Global,
@@ -46,12 +56,36 @@ pub(crate) fn indexed(
     vens: &[Ven],
 ) -> Result<Audience, Refusal> {
     let mut audience = Audience::new(alloc);
-    for (place, resource) in resources.iter().enumerate() {
-        if place % 256 < vens.len() {
-            audience.push(resource, &vens[place % 256])?;
+    match fill(&mut audience, resources, vens) {
+        Ok(()) => Ok(audience),
+        Err(refusal) => {
+            drop(audience);
+            Err(refusal)
         }
     }
-    Ok(audience)
+}
+
+/// How many places the event is for.
+pub(crate) fn count(
+    audience: &Audience,
+    event: &Event,
+    program: &Program,
+) -> Result<usize, Refusal> {
+    let places = audience.audience(event, program)?;
+    Ok(places.len())
+}
+
+fn audience_time<C: Clock>(
+    clock: &C,
+    audience: &Audience,
+    event: &Event,
+    program: &Program,
+) -> io::Result<u128> {
+    let start = Instant::now(clock)?;
+    let places = audience.audience(event, program);
+    let passed = start.elapsed(clock);
+    drop(places);
+    Ok(passed?.as_nanos())
 }
 
 /// The nanoseconds of an audience: the least of some times.
@@ -63,12 +97,21 @@ pub(crate) fn fastest_audience<C: Clock>(
 ) -> io::Result<u128> {
     let mut least = u128::MAX;
     for _ in 0..ROUNDS {
-        let start = Instant::now(clock)?;
-        let places = audience.audience(event, program);
-        least = least.min(start.elapsed(clock)?.as_nanos());
-        drop(places);
+        least = least.min(audience_time(clock, audience, event, program)?);
     }
     Ok(least)
+}
+
+fn index_time<R: AllocGlobal + Clock>(
+    rt: &R,
+    resources: &[Resource],
+    vens: &[Ven],
+) -> io::Result<u128> {
+    let start = Instant::now(rt)?;
+    let audience = indexed(rt.alloc(), resources, vens);
+    let passed = start.elapsed(rt);
+    drop(audience);
+    Ok(passed?.as_nanos())
 }
 
 /// The nanoseconds of an index of all resources: the least of some times.
@@ -79,10 +122,7 @@ pub(crate) fn fastest_index<R: AllocGlobal + Clock>(
 ) -> io::Result<u128> {
     let mut least = u128::MAX;
     for _ in 0..ROUNDS {
-        let start = Instant::now(rt)?;
-        let audience = indexed(rt.alloc(), resources, vens);
-        least = least.min(start.elapsed(rt)?.as_nanos());
-        drop(audience);
+        least = least.min(index_time(rt, resources, vens)?);
     }
     Ok(least)
 }

@@ -1,9 +1,8 @@
 -- The seating after an edit of an event.
-use Rattle.std.proofs.Common.{◌≡◌, ℕ, zero, suc, ◌<◌, ◌⊎◌, inl, inr, Bool, true, false, if◌then◌else◌, List, [], ◌∷◌, length, slice_get, Option, Some, None, refl, ap, sym, subst, ◌∙◌, arith, eqb-true, eq-eqb}
+use Rattle.std.proofs.Common.{◌≡◌, ℕ, ◌<◌, ◌⊎◌, inl, inr, Bool, true, false, if◌then◌else◌, List, length, slice_get, Option, Some, None, refl, ap, sym, subst, ◌∙◌, eqb-true, eq-eqb}
 use Rattle.std.proofs.lemmas.Bool.{both_ways}
 use Rattle.std.proofs.lemmas.Option.{slice_get_within}
 use Rattle.std.specs.Prelude.{option_to_list}
-use Rattle.std.specs.Option.{option_map_or, option_and_then}
 use Rattle.adr_object.specs.declared.party.Resource.{Resource}
 use Rattle.adr_model.specs.declared.entry.Tie.{Tie}
 use Rattle.adr_model.specs.declared.written.Written.{Written}
@@ -12,10 +11,10 @@ use Rattle.adr_model.specs.Governor.{applies_to}
 use Rattle.adr_model.specs.Lists.{In}
 use Rattle.adr_model.proofs.Lists.{In-append_left, In-append_right, In-append_cases}
 use Rattle.adr_stretch.specs.Right.{has_number}
-use Rattle.adr_group.specs.Group.{Lines, RightMoves}
+use Rattle.adr_group.specs.Group.{RightMoves}
 use Rattle.adr_group.specs.Writes.{is_number}
 use Rattle.adr_schedule.specs.Moves.{is_among}
-use Rattle.adr_schedule.specs.Seating.{group_at, has_at, shifted, Seating, AreRight, AreSeatedFor, IsShifted}
+use Rattle.adr_schedule.specs.Seating.{has_at, shifted, Seating, AreRight, AreSeatedFor, IsShifted}
 use Rattle.adr_regroup.proofs.Placing.{there, has_group, has_place, number_at}
 use Rattle.adr_desk.specs.Edited.{number_of, with_come, IsExchanged}
 
@@ -49,6 +48,27 @@ module _ (gone come : Option ℕ) (n : ℕ) where
   shift_gone : is_number come n ≡ false → is_number gone n ≡ true → (j was : Bool) → (j ≡ false → was ≡ false) → (if j then shifted gone come was n else was) ≡ false
   shift_gone c g true was h = rw (c, g) refl
   shift_gone c g false was h = h refl
+
+-- where one has gone and the other has come, there is nothing left that goes
+pub same_places : (gone come : Option ℕ) (places : List ℕ) (s mid : Seating) → ((n : ℕ) → is_number gone n ≡ true → is_number come n ≡ true → ⊥)
+    → IsShifted gone come places s mid → IsShifted gone None places mid mid
+same_places gone come places s mid two first = record {
+  count = refl;
+  writes = λ p n within. by p n (is_among places p) (first.writes p n (subst (λ m. p < m) first.count within));
+}
+  where
+    not_both : (n : ℕ) → is_number gone n ≡ true → (b : Bool) → is_number come n ≡ b → b ≡ false
+    not_both n g true c = absurd (two n g c)
+    not_both n g false c = refl
+
+    went : (p n : ℕ) (b : Bool) → is_number gone n ≡ b → has_at mid p n ≡ shifted gone come (has_at s p n) n → has_at mid p n ≡ (if b then false else has_at mid p n)
+    went p n true g is = is ∙ rw (not_both n g (is_number come n) refl, g) refl
+    went p n false g is = refl
+
+    by : (p n : ℕ) (j : Bool) → has_at mid p n ≡ (if j then shifted gone come (has_at s p n) n else has_at s p n)
+        → has_at mid p n ≡ (if j then shifted gone None (has_at mid p n) n else has_at mid p n)
+    by p n true is = went p n (is_number gone n) refl is
+    by p n false is = refl
 
 pub in_come : (come : Option Written) (w : Written) → In w (option_to_list come) → come ≡ Some w
 in_come None w m = absurd m

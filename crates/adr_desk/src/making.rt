@@ -1,5 +1,5 @@
 //! An accepted edit of an event, made to the indexes, the keys and the groups.
-ghost use Rattle.std.specs.Prelude.{◌≡◌, ◌≤◌, true, None, Ok, IsOk, IfOk, OnOk, OnErr};
+ghost use Rattle.std.specs.Prelude.{◌≡◌, ◌≤◌, true, Ok, IsOk, IfOk, OnOk, OnErr};
 ghost use Rattle.adr_value.specs.Answer.{OnlyNoMemory};
 ghost use Rattle.adr_value.specs.declared.payload.PayloadType.{PayloadType as AnyType};
 ghost use Rattle.adr_model.specs.Book.{Book as Objects};
@@ -62,7 +62,8 @@ fn take_out(indexes: &mut Indexes, leaving: &[TypeEntries])
     indexes.exchange(leaving, &[]);
 }
 
-/// The groups where the one event goes and the other comes; `alone` is the one that goes.
+/// The groups where the one event goes and the other comes: first at the places to which the other comes, and then, where
+/// these are not the same, at those which the one leaves.
 fn regrouped<C: Fn(&Indexes, &[Job]) -> Result<Vec<Done>, Refusal>>(
     alloc: Global,
     crew: &C,
@@ -73,7 +74,6 @@ fn regrouped<C: Fn(&Indexes, &[Job]) -> Result<Vec<Done>, Refusal>>(
     schedule: &Schedule,
     edit: &Edit,
     change: &Change,
-    alone: &Change,
     meter: &mut Meter,
 ) -> Result<Schedule, Refusal>
     requires crew { IsCrew (λ v. v.items) (C.pre crew.now) (C.post crew.now) }
@@ -81,8 +81,6 @@ fn regrouped<C: Fn(&Indexes, &[Job]) -> Result<Vec<Done>, Refusal>>(
     requires keys { AreKeysOf book.now.objects keys.now }
     requires gone { IsSideOf tie (gone_of book.now.objects edit.now) change.now.gone }
     requires come { IsSideOf tie (come_of book.now.objects edit.now) change.now.come }
-    requires again { IsSideOf tie (gone_of book.now.objects edit.now) alone.now.gone }
-    requires lone { alone.now.come ≡ None }
     requires two { AreTwo change.now }
     requires indexed { IsIndexOf tie (with_come book.now.objects (come_of book.now.objects edit.now)) indexes.now }
     requires room { HasRoom tie book.now.objects (gone_of book.now.objects edit.now) (come_of book.now.objects edit.now) }
@@ -96,7 +94,12 @@ fn regrouped<C: Fn(&Indexes, &[Job]) -> Result<Vec<Done>, Refusal>>(
     let joining = joining(alloc, keys, book, edit)?;
     let leaving = leaving(alloc, keys, book, edit)?;
     let mid = schedule.shifted(alloc, indexes, crew, joining.as_slice(), change, meter)?;
-    let after = mid.shifted(alloc, indexes, crew, leaving.as_slice(), alone, meter)?;
+    if leaving.as_slice() == joining.as_slice() {
+        return Ok(mid);
+    }
+    let gone = gone_side(alloc, tie, book, edit)?;
+    let alone = Change { gone, come: None };
+    let after = mid.shifted(alloc, indexes, crew, leaving.as_slice(), &alone, meter)?;
     Ok(after)
 }
 
@@ -111,7 +114,6 @@ fn followed<C: Fn(&Indexes, &[Job]) -> Result<Vec<Done>, Refusal>>(
     schedule: &Schedule,
     edit: &Edit,
     change: &Change,
-    alone: &Change,
     meter: &mut Meter,
 ) -> Result<Shared<Schedule>, Refusal>
     requires crew { IsCrew (λ v. v.items) (C.pre crew.now) (C.post crew.now) }
@@ -120,8 +122,6 @@ fn followed<C: Fn(&Indexes, &[Job]) -> Result<Vec<Done>, Refusal>>(
     requires keys { AreKeysOf book.now.objects keys.old }
     requires gone { IsSideOf tie (gone_of book.now.objects edit.now) change.now.gone }
     requires come { IsSideOf tie (come_of book.now.objects edit.now) change.now.come }
-    requires again { IsSideOf tie (gone_of book.now.objects edit.now) alone.now.gone }
-    requires lone { alone.now.come ≡ None }
     requires two { AreTwo change.now }
     requires indexed { IsIndexOf tie (with_come book.now.objects (come_of book.now.objects edit.now)) indexes.now }
     requires room { HasRoom tie book.now.objects (gone_of book.now.objects edit.now) (come_of book.now.objects edit.now) }
@@ -133,7 +133,7 @@ fn followed<C: Fn(&Indexes, &[Job]) -> Result<Vec<Done>, Refusal>>(
     ensures refusal { OnlyNoMemory result }
 {
     let after = regrouped(
-        alloc, crew, tie, book, keys, indexes, schedule, edit, change, alone, meter,
+        alloc, crew, tie, book, keys, indexes, schedule, edit, change, meter,
     )?;
     let after = Shared::new(alloc, after)?;
     keys.follow(book.objects(), edit)?;
@@ -152,7 +152,6 @@ fn exchanged<C: Fn(&Indexes, &[Job]) -> Result<Vec<Done>, Refusal>>(
     schedule: &Schedule,
     edit: &Edit,
     change: &Change,
-    alone: &Change,
     meter: &mut Meter,
 ) -> Result<Shared<Schedule>, Refusal>
     requires crew { IsCrew (λ v. v.items) (C.pre crew.now) (C.post crew.now) }
@@ -161,8 +160,6 @@ fn exchanged<C: Fn(&Indexes, &[Job]) -> Result<Vec<Done>, Refusal>>(
     requires exchange { IsExchanged old.now.objects new.now.objects (gone_of old.now.objects edit.now) (come_of old.now.objects edit.now) }
     requires gone { IsSideOf tie (gone_of old.now.objects edit.now) change.now.gone }
     requires come { IsSideOf tie (come_of old.now.objects edit.now) change.now.come }
-    requires again { IsSideOf tie (gone_of old.now.objects edit.now) alone.now.gone }
-    requires lone { alone.now.come ≡ None }
     requires room { HasRoom tie old.now.objects (gone_of old.now.objects edit.now) (come_of old.now.objects edit.now) }
     requires desk { IsDesk tie old.now.objects keys.old indexes.old schedule.now }
     requires begun { meter.old ≡ 0 }
@@ -174,7 +171,7 @@ fn exchanged<C: Fn(&Indexes, &[Job]) -> Result<Vec<Done>, Refusal>>(
     exchange_laws();
     put_in(alloc, indexes, entries(&change.come))?;
     match followed(
-        alloc, crew, tie, old, keys, indexes, schedule, edit, change, alone, meter,
+        alloc, crew, tie, old, keys, indexes, schedule, edit, change, meter,
     ) {
         Ok(after) => {
             take_out(indexes, entries(&change.gone));
@@ -217,9 +214,7 @@ pub(crate) fn after_event<C: Fn(&Indexes, &[Job]) -> Result<Vec<Done>, Refusal>>
     let gone = gone_side(alloc, tie, old, edit)?;
     let come = come_side(alloc, tie, old, edit)?;
     let change = Change { gone, come };
-    let gone = gone_side(alloc, tie, old, edit)?;
-    let alone = Change { gone, come: None };
     exchanged(
-        alloc, crew, tie, old, new, keys, indexes, schedule, edit, &change, &alone, meter,
+        alloc, crew, tie, old, new, keys, indexes, schedule, edit, &change, meter,
     )
 }

@@ -1,8 +1,8 @@
 -- What is seen inside windows.
-use Rattle.std.proofs.Common.{◌≡◌, ℕ, ◌+◌, ◌*◌, length, ℤ, Bool, true, false, cond, if◌then◌else◌, ◌&&◌, ◌||◌, int_le, List, [], ◌∷◌, Option, None, refl, ap, sym, ◌∙◌, filter, arith}
-use Rattle.std.specs.Option.{option_map}
-use Rattle.std.proofs.lemmas.Bool.{both_ways}
+use Rattle.std.proofs.Common.{◌≡◌, ℕ, ◌+◌, ◌≤◌, ℤ, Bool, true, false, cond, if◌then◌else◌, ◌&&◌, ◌||◌, int_le, int_lt, List, [], ◌∷◌, ◌++◌, take, drop, Option, refl, ap, sym, ◌∙◌, arith}
 use Rattle.std.proofs.lemmas.Int.{ints}
+use Rattle.std.proofs.lemmas.List.{take-append-drop}
+use Rattle.std.proofs.lemmas.Bool.{false≢true, and_parts}
 use Rattle.adr_time.specs.Spans.{covers, meets, is_before}
 use Rattle.adr_time.specs.declared.span.End.{End}
 use Rattle.adr_time.specs.declared.span.End.TheVariants.{At, Endless}
@@ -10,97 +10,237 @@ use Rattle.adr_time.specs.declared.span.Span.{Span}
 use Rattle.adr_model.specs.declared.entry.Entry.{Entry}
 use Rattle.adr_model.specs.declared.timeline.Winner.{Winner}
 use Rattle.adr_model.specs.Entries.{meeting}
-use Rattle.adr_model.specs.Governor.{first_of, winner_at, winner_of}
-use Rattle.adr_timeline.specs.Build.{most_compared}
+use Rattle.adr_timeline.specs.Build.{most_compared, most_compared_all}
+use Rattle.adr_timeline.specs.Windows.{all_last, any_covers, are_apart}
 use Rattle.adr_stretch.specs.Grouped.{any_covers_at}
 use Rattle.adr_stretch.specs.Right.{has_number, written_in}
+use Rattle.adr_group.specs.Repair.{most_inside}
 
 -- ---- the entries that meet a window
 
-abbrev at : ℤ → Entry → Bool
-at t e = covers e.span t
-
 module _ (window : Span) (ws : List ℕ) where
-  -- those that meet it meet it again
-  pub met_again : (es : List Entry) → meeting (written_in ws (meeting es window)) window ≡ meeting (written_in ws es) window
-  met_again [] = refl
-  met_again (e ∷ es) = by (meets e.span window) refl (met_again es)
+  -- those of the writes among those that meet it are those that meet it among those of the writes
+  pub written_meeting : (es : List Entry) → written_in ws (meeting es window) ≡ meeting (written_in ws es) window
+  written_meeting [] = refl
+  written_meeting (e ∷ es) = by (meets e.span window) (has_number ws e.rank.written) refl refl (written_meeting es)
     where
-      both : (xs ys : List Entry) → meeting xs window ≡ meeting ys window → (h : Bool) → meeting (cond h (e ∷ xs) xs) window ≡ meeting (cond h (e ∷ ys) ys) window
-      both xs ys rest true = ap (λ (r : List Entry). cond (meets e.span window) (e ∷ r) r) rest
-      both xs ys rest false = rest
+      by : (m h : Bool) → meets e.span window ≡ m → has_number ws e.rank.written ≡ h
+          → written_in ws (meeting es window) ≡ meeting (written_in ws es) window
+          → written_in ws (cond m (e ∷ meeting es window) (meeting es window)) ≡ meeting (cond h (e ∷ written_in ws es) (written_in ws es)) window
+      by true true m h rest = rw (m, h) (ap (λ (r : List Entry). e ∷ r) rest)
+      by true false m h rest = rw h rest
+      by false true m h rest = rw m rest
+      by false false m h rest = rest
 
-      skip : (xs ys : List Entry) → meeting xs window ≡ meeting ys window → meets e.span window ≡ false → (h : Bool) → meeting xs window ≡ meeting (cond h (e ∷ ys) ys) window
-      skip xs ys rest apart true = rest ∙ sym (ap (λ b. cond b (e ∷ meeting ys window) (meeting ys window)) apart)
-      skip xs ys rest apart false = rest
+-- ---- windows in two parts
 
-      by : (m : Bool) → meets e.span window ≡ m → meeting (written_in ws (meeting es window)) window ≡ meeting (written_in ws es) window
-          → meeting (written_in ws (cond m (e ∷ meeting es window) (meeting es window))) window ≡ meeting (cond (has_number ws e.rank.written) (e ∷ written_in ws es) (written_in ws es)) window
-      by true is rest = both (written_in ws (meeting es window)) (written_in ws es) rest (has_number ws e.rank.written)
-      by false is rest = skip (written_in ws (meeting es window)) (written_in ws es) rest is (has_number ws e.rank.written)
-
-  -- as much is compared of them
-  pub most_given : (es given : List Entry) → given ≡ written_in ws (meeting es window) → most_compared given window ≡ most_compared (written_in ws es) window
-  most_given es given same = ap (λ (xs : List Entry). length xs * (2 * length xs + 1)) (ap (λ (xs : List Entry). meeting xs window) same ∙ met_again es)
-
-module _ (window : Span) (t : ℤ) (ws : List ℕ) where
-  pub seen_in_window : ((e : Entry) → covers e.span t ≡ true → meets e.span window ≡ true) → (es : List Entry)
-      → filter (at t) (written_in ws (meeting es window)) ≡ filter (at t) (written_in ws es)
-  seen_in_window meets_it [] = refl
-  seen_in_window meets_it (e ∷ es) = by (meets e.span window) refl (seen_in_window meets_it es)
-    where
-      step : (xs ys : List Entry) → filter (at t) xs ≡ filter (at t) ys → (h : Bool) → filter (at t) (cond h (e ∷ xs) xs) ≡ filter (at t) (cond h (e ∷ ys) ys)
-      step xs ys rest true = ap (λ (r : List Entry). cond (covers e.span t) (e ∷ r) r) rest
-      step xs ys rest false = rest
-
-      skip : (xs ys : List Entry) → filter (at t) xs ≡ filter (at t) ys → covers e.span t ≡ false → (h : Bool) → filter (at t) xs ≡ filter (at t) (cond h (e ∷ ys) ys)
-      skip xs ys rest unseen true = rest ∙ sym (ap (λ b. cond b (e ∷ filter (at t) ys) (filter (at t) ys)) unseen)
-      skip xs ys rest unseen false = rest
-
-      unseen : meets e.span window ≡ false → (c : Bool) → covers e.span t ≡ c → c ≡ false
-      unseen apart false u = refl
-      unseen apart true u = absurd (both_ways (meets e.span window) apart (meets_it e u))
-
-      by : (m : Bool) → meets e.span window ≡ m
-          → filter (at t) (written_in ws (meeting es window)) ≡ filter (at t) (written_in ws es)
-          → filter (at t) (written_in ws (cond m (e ∷ meeting es window) (meeting es window)))
-          ≡ filter (at t) (cond (has_number ws e.rank.written) (e ∷ written_in ws es) (written_in ws es))
-      by true s rest = step (written_in ws (meeting es window)) (written_in ws es) rest (has_number ws e.rank.written)
-      by false s rest = skip (written_in ws (meeting es window)) (written_in ws es) rest (unseen s (covers e.span t) refl) (has_number ws e.rank.written)
-
-covers_meets : (a b : ℤ) (e f : End) (t : ℤ) → (int_le a t && is_before t e) ≡ true → (int_le b t && is_before t f) ≡ true → (is_before a e && is_before b f && is_before a f && is_before b e) ≡ true
-covers_meets a b (At u) (At v) t h k = grind (arith, ints)
-covers_meets a b (At u) Endless t h k = grind (arith, ints)
-covers_meets a b Endless (At v) t h k = grind (arith, ints)
-covers_meets a b Endless Endless t h k = refl
-
--- what is built of the entries that meet the window is built of all
-pub built_shows : (window : Span) (ws : List ℕ) (es given : List Entry) → given ≡ written_in ws (meeting es window) → (t : ℤ)
-    → (if covers window t then winner_at given t else None) ≡ (if covers window t then winner_at (written_in ws es) t else None)
-built_shows window ws es given same t = by (covers window t) refl
+pub covers_append : (xs ys : List Span) (t : ℤ) → any_covers (xs ++ ys) t ≡ (any_covers xs t || any_covers ys t)
+covers_append [] ys t = refl
+covers_append (x ∷ xs) ys t = either (covers x t) (covers_append xs ys t)
   where
-    by : (b : Bool) → covers window t ≡ b → (if b then winner_at given t else None) ≡ (if b then winner_at (written_in ws es) t else None)
-    by true h =
-        ap (λ (xs : List Entry). winner_at xs t) same
-        ∙ ap (λ (xs : List Entry). option_map winner_of (first_of xs))
-        (seen_in_window window t ws (λ e k. covers_meets e.span.start window.start e.span.end window.end t k h) es)
-    by false h = refl
+    either : (c : Bool) → any_covers (xs ++ ys) t ≡ (any_covers xs t || any_covers ys t) → (c || any_covers (xs ++ ys) t) ≡ ((c || any_covers xs t) || any_covers ys t)
+    either true h = refl
+    either false h = h
 
--- ---- window by window
+entries_append : (xs ys : List Entry) (t : ℤ) → any_covers_at (xs ++ ys) t ≡ (any_covers_at xs t || any_covers_at ys t)
+entries_append [] ys t = refl
+entries_append (x ∷ xs) ys t = either (covers x.span t) (entries_append xs ys t)
+  where
+    either : (c : Bool) → any_covers_at (xs ++ ys) t ≡ (any_covers_at xs t || any_covers_at ys t) → (c || any_covers_at (xs ++ ys) t) ≡ ((c || any_covers_at xs t) || any_covers_at ys t)
+    either true h = refl
+    either false h = h
 
-module _ (w inner new total : ℤ → Option Winner) (rest more : List Entry) (e : Entry) where
-  -- what is built goes in, and nothing else changes
-  pub window_taken : rest ≡ e ∷ more → (shown : ℤ → Option Winner) → ((t : ℤ) → shown t ≡ (if covers e.span t then w t else None))
-      → ((t : ℤ) → new t ≡ (if covers e.span t then shown t else inner t))
-      → ((t : ℤ) → (if any_covers_at rest t then w t else inner t) ≡ total t)
-      → (t : ℤ) → (if any_covers_at more t then w t else new t) ≡ total t
-  window_taken is shown built spliced whole t =
-      by (any_covers_at more t) (covers e.span t) (built t) (spliced t)
-      ∙ ap (λ (es : List Entry). if any_covers_at es t then w t else inner t) (sym is)
-      ∙ whole t
+pub compared_append : (es : List Entry) (xs ys : List Span) → most_compared_all es (xs ++ ys) ≡ most_compared_all es xs + most_compared_all es ys
+compared_append es [] ys = omega arith
+compared_append es (x ∷ xs) ys = ap (λ n. most_compared es x + n) (compared_append es xs ys) ∙ (omega arith)
+
+inside_append : (ws : List ℕ) (es : List Entry) (xs ys : List Entry) → most_inside ws es (xs ++ ys) ≡ most_inside ws es xs + most_inside ws es ys
+inside_append ws es [] ys = omega arith
+inside_append ws es (x ∷ xs) ys = ap (λ n. most_compared (written_in ws es) x.span + n) (inside_append ws es xs ys) ∙ (omega arith)
+
+last_append : (xs ys : List Span) → all_last (xs ++ ys) ≡ (all_last xs && all_last ys)
+last_append [] ys = refl
+last_append (x ∷ xs) ys = either (is_before x.start x.end) (last_append xs ys)
+  where
+    either : (c : Bool) → all_last (xs ++ ys) ≡ (all_last xs && all_last ys) → (c && all_last (xs ++ ys)) ≡ ((c && all_last xs) && all_last ys)
+    either true h = h
+    either false h = refl
+
+-- ---- the first half for all
+
+pub same_halves : (front back all : List Entry) (t : ℤ) → all ≡ front ++ back → any_covers_at front t ≡ any_covers_at back t → any_covers_at front t ≡ any_covers_at all t
+same_halves front back all t is same = both (any_covers_at front t) (any_covers_at back t) same ∙ sym (ap (λ (es : List Entry). any_covers_at es t) is ∙ entries_append front back t)
+  where
+    both : (a b : Bool) → a ≡ b → a ≡ (a || b)
+    both true b h = refl
+    both false b h = h
+
+pub half_inside : (front back all : List Entry) (ws : List ℕ) (es : List Entry) → all ≡ front ++ back → most_inside ws es front ≤ most_inside ws es all
+half_inside front back all ws es is =
+    let split : most_inside ws es all ≡ most_inside ws es front + most_inside ws es back = ap (λ (xs : List Entry). most_inside ws es xs) is ∙ inside_append ws es front back in
+    omega (arith, split)
+
+pub halves : (front back all : List Entry) (n : ℕ) → front ≡ take n all → back ≡ drop n all → all ≡ front ++ back
+halves front back all n f b = rw (f, b) (sym (take-append-drop n all))
+
+-- one window with the span of another
+pub same_window : (e o : Entry) (more others : List Entry) (left right : List Entry) → left ≡ e ∷ more → right ≡ o ∷ others → e.span ≡ o.span
+    → ((t : ℤ) → any_covers_at more t ≡ any_covers_at others t) → (t : ℤ) → any_covers_at left t ≡ any_covers_at right t
+same_window e o more others left right l r s rest t = rw (l, r) (rw (s, rest t) refl)
+
+-- ---- windows that last
+
+-- what was found of the windows before those that are left
+pub record AreLasting (windows left : List Entry) (spans : List Span) : Type 0 where
+  pub covers : (t : ℤ) → (any_covers spans t || any_covers_at left t) ≡ any_covers_at windows t
+  pub last : all_last spans ≡ true
+  pub cost : (ws : List ℕ) (es : List Entry) → most_compared_all (written_in ws es) spans + most_inside ws es left ≤ most_inside ws es windows
+
+pub none_lasting : (windows : List Entry) (spans : List Span) → spans ≡ [] → AreLasting windows windows spans
+none_lasting windows spans is = rw is (record { covers = λ t. refl; last = refl; cost = λ ws es. omega arith })
+
+unseen : (a : ℤ) (e : End) (t : ℤ) → is_before a e ≡ false → (int_le a t && is_before t e) ≡ false
+unseen a (At u) t h = grind (arith, ints)
+unseen a Endless t h = absurd (false≢true (sym h))
+
+module _ (windows left more : List Entry) (e : Entry) (spans new : List Span) (is : left ≡ e ∷ more) (so_far : AreLasting windows left spans) where
+  pub lasting_taken : is_before e.span.start e.span.end ≡ true → new ≡ spans ++ e.span ∷ [] → AreLasting windows more new
+  lasting_taken n made = record {
+    covers = λ t. ap (λ (xs : List Span). any_covers xs t || any_covers_at more t) made
+        ∙ (ap (λ b. b || any_covers_at more t) (covers_append spans (e.span ∷ []) t)
+        ∙ (or_rest (any_covers spans t) (covers e.span t) (any_covers_at more t)
+        ∙ (ap (λ (es : List Entry). any_covers spans t || any_covers_at es t) (sym is) ∙ so_far.covers t)));
+    last = ap all_last made ∙ (last_append spans (e.span ∷ []) ∙ (rw (so_far.last, n) refl));
+    cost = λ ws es.
+        let new_cost : most_compared_all (written_in ws es) new ≡ most_compared_all (written_in ws es) spans + most_compared_all (written_in ws es) (e.span ∷ []) = ap (λ (xs : List Span). most_compared_all (written_in ws es) xs) made ∙ compared_append (written_in ws es) spans (e.span ∷ []) in
+        let split : most_inside ws es left ≡ most_compared (written_in ws es) e.span + most_inside ws es more = ap (λ (xs : List Entry). most_inside ws es xs) is in
+        omega (arith, new_cost, split, so_far.cost ws es);
+  }
     where
-      by : (a b : Bool) → shown t ≡ (if b then w t else None) → new t ≡ (if b then shown t else inner t) → (if a then w t else new t) ≡ (if b || a then w t else inner t)
-      by true true g h = refl
-      by true false g h = refl
-      by false true g h = h ∙ g
-      by false false g h = h
+      or_rest : (a b c : Bool) → ((a || (b || false)) || c) ≡ (a || (b || c))
+      or_rest true b c = refl
+      or_rest false true c = refl
+      or_rest false false c = refl
+
+  pub lasting_passed : is_before e.span.start e.span.end ≡ false → AreLasting windows more spans
+  lasting_passed n = record {
+    covers = λ t. ap (λ b. any_covers spans t || (b || any_covers_at more t)) (sym (unseen e.span.start e.span.end t n))
+        ∙ (ap (λ (es : List Entry). any_covers spans t || any_covers_at es t) (sym is) ∙ so_far.covers t);
+    last = so_far.last;
+    cost = λ ws es.
+        let split : most_inside ws es left ≡ most_compared (written_in ws es) e.span + most_inside ws es more = ap (λ (xs : List Entry). most_inside ws es xs) is in
+        omega (arith, split, so_far.cost ws es);
+  }
+
+pub lasting_covers : (windows left : List Entry) (spans : List Span) → left ≡ [] → AreLasting windows left spans → (t : ℤ) → any_covers spans t ≡ any_covers_at windows t
+lasting_covers windows left spans none found t = or_none (any_covers spans t) ∙ (ap (λ (es : List Entry). any_covers spans t || any_covers_at es t) (sym none) ∙ found.covers t)
+  where
+    or_none : (a : Bool) → a ≡ (a || false)
+    or_none true = refl
+    or_none false = refl
+
+pub lasting_cost : (windows left : List Entry) (spans : List Span) → AreLasting windows left spans → (ws : List ℕ) (es : List Entry) → most_compared_all (written_in ws es) spans ≤ most_inside ws es windows
+lasting_cost windows left spans found ws es = omega (arith, found.cost ws es)
+
+-- ---- spans that touch
+
+-- the wide spans, the one that may grow, and those that are left cover what all cover
+pub record AreTogether (spans left : List Span) (current : Span) (wide : List Span) : Type 0 where
+  pub covers : (t : ℤ) → (any_covers wide t || (covers current t || any_covers left t)) ≡ any_covers spans t
+  pub wide_last : all_last wide ≡ true
+  pub current_lasts : is_before current.start current.end ≡ true
+  pub left_last : all_last left ≡ true
+
+pub first_current : (spans left : List Span) (first : Span) (wide : List Span) → spans ≡ first ∷ left → all_last spans ≡ true → wide ≡ [] → AreTogether spans left first wide
+first_current spans left first wide is lasting none =
+    let parts = and_parts (is_before first.start first.end) (all_last left) (rw is at lasting) in
+    rw (none, is) (record { covers = λ t. refl; wide_last = refl; current_lasts = parts.0; left_last = parts.1 })
+
+touching : (a u : ℤ) (f : End) (t : ℤ) → int_lt a u ≡ true → is_before u f ≡ true → (int_le a t && is_before t f) ≡ ((int_le a t && int_lt t u) || (int_le u t && is_before t f))
+touching a u (At v) t h k = grind (arith, ints)
+touching a u Endless t h k = grind (arith, ints)
+
+longer : (a u : ℤ) (f : End) → int_lt a u ≡ true → is_before u f ≡ true → is_before a f ≡ true
+longer a u (At v) h k = grind (arith, ints)
+longer a u Endless h k = refl
+
+module _ (spans left more : List Span) (span current : Span) (wide : List Span) (is : left ≡ span ∷ more) (so_far : AreTogether spans left current wide) where
+  abbrev parts : (is_before span.start span.end ≡ true) × (all_last more ≡ true)
+  parts = and_parts (is_before span.start span.end) (all_last more) (rw is at so_far.left_last)
+
+  covered : (t : ℤ) → (any_covers wide t || (covers current t || (covers span t || any_covers more t))) ≡ any_covers spans t
+  covered t = ap (λ (ss : List Span). any_covers wide t || (covers current t || any_covers ss t)) (sym is) ∙ so_far.covers t
+
+  pub current_grown : current.end ≡ At span.start → AreTogether spans more (record current { end = span.end }) wide
+  current_grown touch =
+      let starts : int_lt current.start span.start ≡ true = rw touch at so_far.current_lasts in record {
+        covers = λ t.
+            ap (λ b. any_covers wide t || (b || any_covers more t)) (touching current.start span.start span.end t starts parts.0 ∙ sym (ap (λ (x : End). (int_le current.start t && is_before t x) || covers span t) touch))
+            ∙ (or_moved (any_covers wide t) (covers current t) (covers span t) (any_covers more t) ∙ covered t);
+        wide_last = so_far.wide_last;
+        current_lasts = longer current.start span.start span.end starts parts.0;
+        left_last = parts.1;
+      }
+    where
+      or_moved : (w o s m : Bool) → (w || ((o || s) || m)) ≡ (w || (o || (s || m)))
+      or_moved true o s m = refl
+      or_moved false true s m = refl
+      or_moved false false s m = refl
+
+  pub current_closed : (new : List Span) → new ≡ wide ++ current ∷ [] → AreTogether spans more span new
+  current_closed new made = record {
+    covers = λ t.
+        ap (λ (xs : List Span). any_covers xs t || (covers span t || any_covers more t)) made
+        ∙ (ap (λ b. b || (covers span t || any_covers more t)) (covers_append wide (current ∷ []) t)
+        ∙ (or_rest (any_covers wide t) (covers current t) (covers span t || any_covers more t) ∙ covered t));
+    wide_last = ap all_last made ∙ (last_append wide (current ∷ []) ∙ (rw (so_far.wide_last, so_far.current_lasts) refl));
+    current_lasts = parts.0;
+    left_last = parts.1;
+  }
+    where
+      or_rest : (a b c : Bool) → ((a || (b || false)) || c) ≡ (a || (b || c))
+      or_rest true b c = refl
+      or_rest false true c = refl
+      or_rest false false c = refl
+
+module _ (spans left : List Span) (current : Span) (wide new : List Span) (none : left ≡ []) (so_far : AreTogether spans left current wide) (made : new ≡ wide ++ current ∷ []) where
+  pub together_covers : (t : ℤ) → any_covers new t ≡ any_covers spans t
+  together_covers t =
+      ap (λ (xs : List Span). any_covers xs t) made ∙ (covers_append wide (current ∷ []) t
+      ∙ (ap (λ (ss : List Span). any_covers wide t || (covers current t || any_covers ss t)) (sym none) ∙ so_far.covers t))
+
+  pub together_last : all_last new ≡ true
+  together_last = ap all_last made ∙ (last_append wide (current ∷ []) ∙ (rw (so_far.wide_last, so_far.current_lasts) refl))
+
+-- ---- run by run
+
+pub record IsParted (run more all : List Span) : Type 0 where
+  pub whole : all ≡ run ++ more
+  pub last : all_last more ≡ true
+
+pub parted : (run more all : List Span) (n : ℕ) → run ≡ take n all → more ≡ drop n all → all_last all ≡ true → IsParted run more all
+parted run more all n r m lasting =
+    let whole : all ≡ run ++ more = rw (r, m) (sym (take-append-drop n all)) in
+    record { whole = whole; last = (and_parts (all_last run) (all_last more) (sym (last_append run more) ∙ (ap all_last (sym whole) ∙ lasting))).1 }
+
+pub run_apart : (run all : List Span) (n : ℕ) → run ≡ take n all → are_apart (take n all) ≡ true → are_apart run ≡ true
+run_apart run all n r h = ap are_apart r ∙ h
+
+pub parted_cost : (es : List Entry) (run more all : List Span) → IsParted run more all → most_compared_all es all ≡ most_compared_all es run + most_compared_all es more
+parted_cost es run more all p = ap (λ (xs : List Span). most_compared_all es xs) p.whole ∙ compared_append es run more
+
+module _ (w inner new total : ℤ → Option Winner) (run more all : List Span) where
+  -- what a run of spans shows goes in, and nothing else changes
+  pub run_taken : IsParted run more all → ((t : ℤ) → new t ≡ (if any_covers run t then w t else inner t))
+      → ((t : ℤ) → (if any_covers all t then w t else inner t) ≡ total t)
+      → (t : ℤ) → (if any_covers more t then w t else new t) ≡ total t
+  run_taken p made whole t =
+      by (any_covers more t) (any_covers run t) (made t)
+      ∙ (ap (λ b. if b then w t else inner t) (sym (ap (λ (xs : List Span). any_covers xs t) p.whole ∙ covers_append run more t))
+      ∙ whole t)
+    where
+      by : (a b : Bool) → new t ≡ (if b then w t else inner t) → (if a then w t else new t) ≡ (if b || a then w t else inner t)
+      by true true h = refl
+      by true false h = refl
+      by false true h = h
+      by false false h = h

@@ -6,6 +6,11 @@ use Rattle.adr_stretch.specs.declared.grouped.TypeEntries.{TypeEntries}
 use Rattle.adr_stretch.specs.Right.{written_in}
 use Rattle.adr_lines.specs.declared.indexes.Indexes.{Indexes}
 use Rattle.adr_lines.specs.Indexes.{under}
+use Rattle.adr_group.specs.declared.line.Given.{Given}
+
+-- the entries under the type that are of the writes
+abbrev pub given_entries : Given → List Entry
+given_entries given = written_in given.writes.now (under given.indexes.now given.payload_type.now)
 
 -- to build what the writes show inside each of the windows, of these entries
 abbrev pub most_inside : List ℕ → List Entry → List Entry → ℕ

@@ -8,6 +8,7 @@ mod line;
 mod repair;
 mod timelines;
 mod type_name;
+mod windows;
 mod writes;
 
 pub use group::Group;

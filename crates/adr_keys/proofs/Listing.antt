@@ -8,6 +8,7 @@ use Rattle.std.specs.List.{range_with_len}
 use Rattle.adr_keys.specs.Blocks.{is_set}
 use Rattle.adr_keys.specs.Places.{bit, bits_of, has}
 use Rattle.adr_keys.specs.declared.blocks.Block.{Block}
+use Rattle.adr_keys.proofs.Bits.{bit-ones}
 use Rattle.adr_keys.proofs.Words.{nothing, has-past, has-read}
 use Rattle.adr_keys.proofs.Covered.{covers-to, covers-below, covers-above}
 
@@ -33,6 +34,12 @@ filter-none f a (suc n) h =
     ap (λ b. cond b (a ∷ filter f (range_with_len (a + 1) n)) (filter f (range_with_len (a + 1) n))) (h a (omega arith) (omega arith))
     ∙ filter-none f (a + 1) n (λ p k l. h p (omega arith) (omega arith))
 
+pub filter-all : (f : ℕ → Bool) (a n : ℕ) → ((p : ℕ) → a ≤ p → p < a + n → f p ≡ true) → filter f (range_with_len a n) ≡ range_with_len a n
+filter-all f a zero h = refl
+filter-all f a (suc n) h =
+    ap (λ b. cond b (a ∷ filter f (range_with_len (a + 1) n)) (filter f (range_with_len (a + 1) n))) (h a (omega arith) (omega arith))
+    ∙ ap (λ xs. a ∷ xs) (filter-all f (a + 1) n (λ p k l. h p (omega arith) (omega arith)))
+
 -- places counted from a base on
 pub filter-moved : (f g : ℕ → Bool) (base a n : ℕ) → ((i : ℕ) → a ≤ i → i < a + n → f (base + i) ≡ g i) → filter f (range_with_len (base + a) n) ≡ map (λ i. base + i) (filter g (range_with_len a n))
 filter-moved f g base a zero h = refl
@@ -55,6 +62,10 @@ bits-read word = refl
 
 pub bits-zero : bits_of 0 ≡ []
 bits-zero = bits-read 0 ∙ filter-none (bit 0) 0 64 (λ p k l. nothing p)
+
+-- a word of ones has all its bits
+pub bits-whole : bits_of 18446744073709551615 ≡ range_with_len 0 64
+bits-whole = bits-read 18446744073709551615 ∙ filter-all (bit 18446744073709551615) 0 64 (λ p k l. bit-ones p (omega arith))
 
 pub bits-few : (word : ℕ) → length (bits_of word) ≤ 64
 bits-few word = omega (arith, ap length (bits-read word), length-filter (bit word) (range_with_len 0 64), count_by-le-length (bit word) (range_with_len 0 64), length-range_with_len 0 64)

@@ -153,6 +153,9 @@ fn push_places(list: &mut Vec<usize>, base: usize, word: u64) -> Result<(), Refu
     ensures ok { OnOk result (list.new.items ≡ list.old.items ++ map (λ i. base + i) (bits_of word)) }
     ensures refusal { OnlyNoMemory result }
 {
+    if word == u64::MAX {
+        return push_whole(list, base);
+    }
     let mut rest = word;
     for _step in 0..64_usize {
         if rest == 0 {
@@ -160,6 +163,16 @@ fn push_places(list: &mut Vec<usize>, base: usize, word: u64) -> Result<(), Refu
         }
         rest = push_lowest(list, base, rest)?;
     }
+    Ok(())
+}
+
+/// Adds the places of all the bits of a word, in order.
+fn push_whole(list: &mut Vec<usize>, base: usize) -> Result<(), Refusal>
+    requires { base + 63 < 2 ^ 64 }
+    ensures ok { OnOk result (list.new.items ≡ list.old.items ++ map (λ i. base + i) (range_with_len 0 64)) }
+    ensures refusal { OnlyNoMemory result }
+{
+    list.extend((0..64_usize).map(|bit| base + bit))?;
     Ok(())
 }
 

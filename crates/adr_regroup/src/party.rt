@@ -149,9 +149,12 @@ pub(crate) fn with_writes(
     ensures refusal { OnlyNoMemory result }
 {
     schedule.schedule_laws();
+    if let Some(after) = schedule.shared(alloc, place, like, writes)? {
+        return Ok(after);
+    }
     let Some(group) = schedule.group(place) else {
         unreachable!();
     };
     let windows = difference(alloc, tie, book, group.writes(), writes)?;
-    schedule.rewritten(alloc, indexes, place, like, writes, &windows, meter)
+    schedule.rewritten(alloc, indexes, place, writes, &windows, meter)
 }

@@ -20,6 +20,7 @@ use adr_rule::Meter;
 use adr_schedule::Schedule;
 use adr_value::Refusal;
 use std::alloc::Global;
+use std::ops::Range;
 
 /// The writes of the events that apply to the resource at the place of the new book, by the keys of the old one.
 fn writes_at(
@@ -55,7 +56,7 @@ fn writes_ascend(schedule: &Schedule, place: usize)
     }
 }
 
-/// How many places before it are looked at for a group that a place can share.
+/// How many places on each side are looked at for a group that a place can share.
 const NEAR: usize = 64;
 
 /// Whether the group of the place has these writes.
@@ -66,8 +67,18 @@ fn has_writes(schedule: &Schedule, place: usize, writes: &Writes) -> bool {
     }
 }
 
-/// A place whose group has these writes, if that one does or one a little before the place. It may be any: a group is
-/// shared only where its writes are the same.
+/// The first of the places whose group has these writes.
+fn first_with(schedule: &Schedule, places: Range<usize>, writes: &Writes) -> Option<usize> {
+    for near in places {
+        if has_writes(schedule, near, writes) {
+            return Some(near);
+        }
+    }
+    None
+}
+
+/// A place whose group has these writes, if that one does or one a little before the place or behind it. It may be any: a
+/// group is shared only where its writes are the same.
 fn place_like(
     schedule: &Schedule,
     like: Option<usize>,
@@ -79,12 +90,9 @@ fn place_like(
             return like;
         }
     }
-    for near in place.saturating_sub(NEAR)..place {
-        if has_writes(schedule, near, writes) {
-            return Some(near);
-        }
-    }
-    None
+    let before = place.saturating_sub(NEAR)..place;
+    let behind = place.saturating_add(1)..place.saturating_add(NEAR);
+    first_with(schedule, before, writes).or_else(|| first_with(schedule, behind, writes))
 }
 
 /// The schedule where the place has the writes of the events that apply to its resource, which leaves the others to be

@@ -159,17 +159,49 @@ impl Schedule {
         }
     }
 
-    /// Gives the place these writes. Where the group of the place `like` has them it is shared; a place whose own group
-    /// has them keeps it; else a group is made of the old one by repair inside the windows, which must hold the entries
-    /// of each event on which the writes differ. `NoMemory` where there is no room.
+    /// The schedule where the place has these writes, if nothing is to be built for them: it shares the group of the place
+    /// `like` where that one has them, and keeps its own where that has. `NoMemory` where there is no room.
     ///
-    /// Cost: a copy of the table of seats; where a group is made, that of `Group::repaired`.
+    /// Cost: a copy of the table of seats.
+    pub fn shared(
+        &self,
+        alloc: Global,
+        place: usize,
+        like: Option<usize>,
+        writes: &Writes,
+    ) -> Result<Option<Schedule>, Refusal>
+        requires { place < length self.now.seats }
+        ensures writes { IfOk result (λ after. IfSome after (IsRewritten place writes.now self.now)) }
+        ensures right { IfOk result (λ after. IfSome after (StaysRight self.now)) }
+        ensures refusal { OnlyNoMemory result }
+    {
+        let Some(slot) = self.seats.slot(place) else {
+            unreachable!();
+        };
+        let Some(group) = self.groups.get(&slot) else {
+            unreachable!();
+        };
+        if let Some(next) = self.slot_with(like, writes) {
+            let after = self.beside(alloc, place, slot, next)?;
+            return Ok(Some(after));
+        }
+        if group.writes().same(writes) {
+            let after = self.copy()?;
+            return Ok(Some(after));
+        }
+        Ok(None)
+    }
+
+    /// Gives the place these writes: a group is made of the old one by repair inside the windows, which must hold the
+    /// entries of each event on which the writes differ. [`Schedule::shared`] may spare that. `NoMemory` where there is no
+    /// room.
+    ///
+    /// Cost: a copy of the table of seats, and that of `Group::repaired`.
     pub fn rewritten(
         &self,
         alloc: Global,
         indexes: &Indexes,
         place: usize,
-        like: Option<usize>,
         writes: &Writes,
         windows: &[TypeEntries],
         meter: &mut Meter,
@@ -188,12 +220,6 @@ impl Schedule {
         let Some(group) = self.groups.get(&slot) else {
             unreachable!();
         };
-        if let Some(next) = self.slot_with(like, writes) {
-            return self.beside(alloc, place, slot, next);
-        }
-        if group.writes().same(writes) {
-            return self.copy();
-        }
         let made = remade(alloc, indexes, group, writes, windows, meter)?;
         self.apart(alloc, place, slot, made)
     }

@@ -1,3 +1,4 @@
+pub mod Built
 pub mod Canonical
 pub mod Chunks
 pub mod Compared
@@ -12,4 +13,5 @@ pub mod Segments
 pub mod Shown
 pub mod Stepped
 pub mod Spliced
+pub mod Taken
 pub mod Words

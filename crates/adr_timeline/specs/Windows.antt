@@ -1,6 +1,6 @@
 -- Windows in order.
 use Rattle.std.specs.Prelude.{ℤ, Bool, true, not, ◌&&◌, List, [], ◌∷◌}
-use Rattle.std.specs.List.{list_any}
+use Rattle.std.specs.List.{list_any, list_all}
 use Rattle.adr_time.specs.Spans.{covers, is_before}
 use Rattle.adr_time.specs.declared.span.Span.{Span}
 
@@ -17,3 +17,7 @@ is_followed_by w (v ∷ vs) = not (is_before v.start w.end)
 abbrev pub are_apart : List Span → Bool
 are_apart [] = true
 are_apart (w ∷ ws) = is_before w.start w.end && is_followed_by w ws && are_apart ws
+
+-- each of the windows lasts some time
+abbrev pub all_last : List Span → Bool
+all_last windows = list_all (λ w. is_before w.start w.end) windows

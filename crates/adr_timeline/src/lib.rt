@@ -2,6 +2,7 @@
 //! Timelines: which interval governs at each instant, as a list of segments that is canonical at all times.
 
 mod bound;
+mod build;
 mod chunk;
 mod line;
 mod overlay;
@@ -13,7 +14,8 @@ mod timeline;
 mod windows;
 
 pub use adr_model::{Entry, Segment, Winner};
+pub use build::Source;
 pub use chunk::Chunk;
 pub use overlay::Ranks;
 pub use timeline::{Timeline, timeline_laws};
-pub use windows::are_apart;
+pub use windows::{are_apart, first_run};

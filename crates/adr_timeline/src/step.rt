@@ -241,10 +241,9 @@ fn first_from(steps: &[Step]) -> End
     }
 }
 
-/// Puts the segments of the winners inside the window at the end of an empty line.
+/// Puts the segments of the winners inside the window at the end of a line.
 pub(crate) fn join_steps(line: &mut Line, steps: &[Step], window: Span) -> Result<(), AllocError>
-    requires { line.old ≡ [] }
-    ensures { OnOk result (line.new ≡ joined_all [] (part (Some window.start) window.end (pieces steps.now))) }
+    ensures { OnOk result (line.new ≡ joined_all line.old (part (Some window.start) window.end (pieces steps.now))) }
 {
     for (place, step) in steps.iter().enumerate() {
         let until = first_from(&steps[place + 1..]);

@@ -9,12 +9,13 @@ ghost use Rattle.adr_model.specs.declared.entry.Entry.{Entry};
 ghost use Rattle.adr_model.specs.Entries.{meeting};
 ghost use Rattle.adr_model.specs.Governor.{winner_at};
 ghost use Rattle.adr_model.specs.Timeline.{shows, CanonicalIsUnique, IsCanonical};
-ghost use Rattle.adr_timeline.specs.Build.{most_compared};
+ghost use Rattle.adr_timeline.specs.Build.{most_compared, most_compared_all};
 ghost use Rattle.adr_timeline.specs.Chunks.{listed};
 ghost use Rattle.adr_timeline.specs.Overlay.{most_laid, most_merged, segments_in};
 ghost use Rattle.adr_timeline.specs.Steps.{lesser, rank_at, winner_of_rank};
 ghost use Rattle.adr_timeline.specs.Windows.{any_covers, are_apart};
 
+use crate::build::{Source, join_windows};
 use crate::chunk::Chunk;
 use crate::line::Line;
 use crate::overlay::{Ranks, hull_of, laid_steps};
@@ -139,6 +140,28 @@ impl Timeline {
         }
         let found = meeting(alloc, entries, &window)?;
         Timeline::of(alloc, &found, window, meter)
+    }
+
+    /// The timeline of the least of the source's entries at each instant inside the windows, and of nothing outside:
+    /// what an edit shows in its windows, in one pass. [`are_apart`](crate::are_apart) tests windows, and
+    /// [`first_run`](crate::first_run) finds some that are. `NoMemory` where there is no room. Cost: for each window that
+    /// of its look-up and of [`Timeline::build`]; what is built is not copied.
+    pub fn build_all<S: Source>(
+        alloc: Global,
+        source: &S,
+        windows: &[Span],
+        meter: &mut Meter,
+    ) -> Result<Timeline, Refusal>
+        requires apart { IsTrue (are_apart windows.now) }
+        requires room { meter.old + most_compared_all (S.entries source.now) windows.now < 2 ^ 128 }
+        ensures canonical { IfOk result (λ timeline. IsCanonical timeline) }
+        ensures shows { IfOk result (λ timeline. (t : ℤ) → shows timeline t ≡ (if any_covers windows.now t then winner_at (S.entries source.now) t else None)) }
+        ensures compared { meter.new ≤ meter.old + most_compared_all (S.entries source.now) windows.now }
+        ensures refused { OnlyNoMemory result }
+    {
+        let mut line = Line::new(alloc, MOST_IN_CHUNK);
+        join_windows(&mut line, alloc, source, windows, meter)?;
+        timeline_of(MOST_IN_CHUNK, line)
     }
 
     /// The timeline of the least of the entries at each instant inside the window, whether they meet it or not.

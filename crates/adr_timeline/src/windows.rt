@@ -1,6 +1,6 @@
 //! Windows in order.
-ghost use Rattle.std.specs.Prelude.{◌≡◌};
-ghost use Rattle.adr_timeline.specs.Windows.{are_apart as is_each_apart, is_followed_by as is_followed};
+ghost use Rattle.std.specs.Prelude.{◌≡◌, ◌<◌, ◌≤◌, IsTrue, length, take};
+ghost use Rattle.adr_timeline.specs.Windows.{all_last, are_apart as is_each_apart, is_followed_by as is_followed};
 
 use adr_time::Span;
 
@@ -26,4 +26,25 @@ pub fn are_apart(windows: &[Span]) -> bool
         windows = later;
     }
     true
+}
+
+/// How many of the windows, from the first on, last and stand in order, each ending before the next one starts.
+pub fn first_run(windows: &[Span]) -> usize
+    ensures within { result ≤ length windows.now }
+    ensures apart { IsTrue (is_each_apart (take result windows.now)) }
+    ensures some { IsTrue (all_last windows.now) → 0 < length windows.now → 0 < result }
+{
+    let mut count = 0;
+    let mut rest = windows;
+    while let Some((window, later)) = rest.split_first() {
+        if !window.start.is_before(window.end) {
+            return count;
+        }
+        count += 1;
+        if !is_followed_by(window, later) {
+            return count;
+        }
+        rest = later;
+    }
+    count
 }

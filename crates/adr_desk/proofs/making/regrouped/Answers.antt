@@ -1,11 +1,15 @@
-use Rattle.std.proofs.Common.{List, ℕ, ◌*◌, ◌<◌, ◌^◌, length, sum_by, ap, subst, ◌∙◌, arith}
+use Rattle.std.proofs.Common.{◌≡◌, List, None, ℕ, ◌*◌, ◌<◌, ◌^◌, length, refl, sum_by, ap, sym, subst, ◌∙◌, arith}
+use Rattle.std.proofs.lemmas.Slice.Eq.{slice_eq-Decides}
+use Rattle.std.proofs.lemmas.Bool.Decides.{Decides-eqb}
 use Rattle.adr_group.specs.Repair.{most_possible}
+use Rattle.adr_schedule.specs.declared.change.Change.{Change}
 use Rattle.adr_schedule.specs.Moves.{is_among}
 use Rattle.adr_schedule.specs.Seating.{IsShifted}
 use Rattle.adr_schedule.specs.Shift.{entries_in, most_at, number_in, sides_of}
 use Rattle.adr_desk.specs.Edited.{come_of, gone_of}
 use Rattle.adr_desk.proofs.Costs.{shifts_cost}
 use Rattle.adr_desk.proofs.Made.{room_for_both, room_for_one, seated_after}
+use Rattle.adr_desk.proofs.Shifted.{same_places}
 use Rattle.adr_desk.proofs.Sides.{groups_of_side}
 use Rattle.adr_desk.proofs.making.regrouped.Goals as goal
 
@@ -23,25 +27,57 @@ pub shifted-requires-2-clause-room : goal.shifted-requires-2-clause-room
 shifted-requires-2-clause-room g c =
     let book = c.args.book.now.objects in
     let edit = c.args.edit.now in
+    let alone : Change = record { gone = c.in_ok-gone.gone; come = None } in
     let room = c.requires.room c.args.indexes.now (entries_in c.args.change.now.gone) (entries_in c.args.change.now.come) c.requires.indexed
     (groups_of_side c.args.tie (gone_of book edit) c.args.change.now.gone c.requires.gone) (groups_of_side c.args.tie (come_of book edit) c.args.change.now.come c.requires.come) in
     let few : length c.as_slice.result.now * most_possible (sides_of c.args.change.now) c.args.indexes.now < 2 ^ 127 =
     rw c.as_slice.ensures.value (room_for_both (length c.in_ok-joining.joining.items) (length book.resources) (most_possible (sides_of c.args.change.now) c.args.indexes.now) c.in_ok-joining.ensures.count room) in
-    let again = c.requires.room c.args.indexes.now (entries_in c.args.alone.now.gone) (entries_in c.args.change.now.come) c.requires.indexed
-    (groups_of_side c.args.tie (gone_of book edit) c.args.alone.now.gone c.requires.again) (groups_of_side c.args.tie (come_of book edit) c.args.change.now.come c.requires.come) in
-    let less : length c.as_slice-2.result.now * most_possible (sides_of c.args.alone.now) c.args.indexes.now < 2 ^ 127 =
-    rw c.as_slice-2.ensures.value (room_for_one c.args.indexes.now c.repairs_compare_little.ensures.both c.args.alone.now (entries_in c.args.change.now.come) (length c.in_ok-leaving.leaving.items) (length book.resources) c.requires.lone c.in_ok-leaving.ensures.count again) in
+    let again = c.requires.room c.args.indexes.now (entries_in c.in_ok-gone.gone) (entries_in c.args.change.now.come) c.requires.indexed
+    (groups_of_side c.args.tie (gone_of book edit) c.in_ok-gone.gone c.in_ok-gone.ensures.side) (groups_of_side c.args.tie (come_of book edit) c.args.change.now.come c.requires.come) in
+    let less : length c.as_slice-4.result.now * most_possible (sides_of alone) c.args.indexes.now < 2 ^ 127 =
+    rw c.as_slice-4.ensures.value (room_for_one c.args.indexes.now c.repairs_compare_little.ensures.both alone (entries_in c.args.change.now.come) (length c.in_ok-leaving.leaving.items) (length book.resources) refl c.in_ok-leaving.ensures.count again) in
     omega (arith, few, less, c.requires.begun, c.shifted.ensures.compared)
+
+pub returns-then-eq-clause-seated : goal.returns-then-eq-clause-seated
+returns-then-eq-clause-seated g c =
+    let book = c.args.book.now.objects in
+    let edit = c.args.edit.now in
+    let joining = c.as_slice.result.now in
+    let stay : Change = record { gone = c.args.change.now.gone; come = None } in
+    let same : c.in_ok-leaving.leaving.items ≡ joining = sym c.as_slice-2.ensures.value ∙ ((slice_eq-Decides Decides-eqb c.as_slice-2.result.now c.as_slice-3.result.now c.eq.result c.eq.ensures).0 c.if-eq.true ∙ (c.as_slice-3.ensures.value ∙ sym c.as_slice.ensures.value)) in
+    seated_after c.right_moves.ensures c.args.tie book (gone_of book edit) (come_of book edit) c.args.indexes.now c.args.change.now stay
+    c.requires.gone c.requires.come c.requires.gone refl c.requires.indexed
+    c.args.schedule.now c.in_ok-mid.mid c.in_ok-mid.mid joining joining
+    (λ p r v at e. ap (λ ps. is_among ps p) c.as_slice.ensures.value ∙ c.in_ok-joining.ensures.apply p r v at e)
+    (λ p r u at e. ap (λ ps. is_among ps p) (sym same) ∙ c.in_ok-leaving.ensures.apply p r u at e)
+    c.in_ok-mid.ensures.shifted c.in_ok-mid.ensures.right
+    (same_places (number_in c.args.change.now.gone) (number_in c.args.change.now.come) joining c.args.schedule.now c.in_ok-mid.mid c.requires.two c.in_ok-mid.ensures.shifted)
+    (λ tie events indexed sides right. right)
+
+pub returns-then-eq-clause-least : goal.returns-then-eq-clause-least
+returns-then-eq-clause-least g c new whole x one seated =
+    let book = c.args.book.now.objects in
+    let edit = c.args.edit.now in
+    let joining = c.in_ok-joining.joining.items in
+    let leaving = c.in_ok-leaving.leaving.items in
+    let stay : Change = record { gone = c.args.change.now.gone; come = None } in
+    let cost = shifts_cost c.args.tie book new (gone_of book edit) (come_of book edit) x c.requires.whole whole one.0 one.1 one.2 c.args.indexes.now c.requires.indexed c.args.change.now stay
+    c.requires.gone c.requires.come c.requires.gone refl c.args.schedule.now c.in_ok-mid.mid seated joining leaving c.in_ok-joining.ensures.apply
+    (subst (λ (ps : List ℕ). IsShifted (number_in c.args.change.now.gone) (number_in c.args.change.now.come) ps c.args.schedule.now c.in_ok-mid.mid) c.as_slice.ensures.value c.in_ok-mid.ensures.shifted)
+    c.in_ok-joining.ensures.once c.in_ok-leaving.ensures.once in
+    let first = ap (sum_by (most_at c.args.change.now c.args.indexes.now c.args.schedule.now)) c.as_slice.ensures.value in
+    omega (arith, cost, first, c.requires.begun, c.in_ok-mid.ensures.least)
 
 pub returns-clause-seated : goal.returns-clause-seated
 returns-clause-seated g c =
     let book = c.args.book.now.objects in
     let edit = c.args.edit.now in
-    seated_after c.right_moves.ensures c.args.tie book (gone_of book edit) (come_of book edit) c.args.indexes.now c.args.change.now c.args.alone.now
-    c.requires.gone c.requires.come c.requires.again c.requires.lone c.requires.indexed
-    c.args.schedule.now c.in_ok-mid.mid c.in_ok-after.after c.as_slice.result.now c.as_slice-2.result.now
+    let alone : Change = record { gone = c.in_ok-gone.gone; come = None } in
+    seated_after c.right_moves.ensures c.args.tie book (gone_of book edit) (come_of book edit) c.args.indexes.now c.args.change.now alone
+    c.requires.gone c.requires.come c.in_ok-gone.ensures.side refl c.requires.indexed
+    c.args.schedule.now c.in_ok-mid.mid c.in_ok-after.after c.as_slice.result.now c.as_slice-4.result.now
     (λ p r v at e. ap (λ ps. is_among ps p) c.as_slice.ensures.value ∙ c.in_ok-joining.ensures.apply p r v at e)
-    (λ p r u at e. ap (λ ps. is_among ps p) c.as_slice-2.ensures.value ∙ c.in_ok-leaving.ensures.apply p r u at e)
+    (λ p r u at e. ap (λ ps. is_among ps p) c.as_slice-4.ensures.value ∙ c.in_ok-leaving.ensures.apply p r u at e)
     c.in_ok-mid.ensures.shifted c.in_ok-mid.ensures.right c.in_ok-after.ensures.shifted c.in_ok-after.ensures.right
 
 pub returns-clause-least : goal.returns-clause-least
@@ -50,10 +86,11 @@ returns-clause-least g c new whole x one seated =
     let edit = c.args.edit.now in
     let joining = c.in_ok-joining.joining.items in
     let leaving = c.in_ok-leaving.leaving.items in
-    let cost = shifts_cost c.args.tie book new (gone_of book edit) (come_of book edit) x c.requires.whole whole one.0 one.1 one.2 c.args.indexes.now c.requires.indexed c.args.change.now c.args.alone.now
-    c.requires.gone c.requires.come c.requires.again c.requires.lone c.args.schedule.now c.in_ok-mid.mid seated joining leaving c.in_ok-joining.ensures.apply
+    let alone : Change = record { gone = c.in_ok-gone.gone; come = None } in
+    let cost = shifts_cost c.args.tie book new (gone_of book edit) (come_of book edit) x c.requires.whole whole one.0 one.1 one.2 c.args.indexes.now c.requires.indexed c.args.change.now alone
+    c.requires.gone c.requires.come c.in_ok-gone.ensures.side refl c.args.schedule.now c.in_ok-mid.mid seated joining leaving c.in_ok-joining.ensures.apply
     (subst (λ (ps : List ℕ). IsShifted (number_in c.args.change.now.gone) (number_in c.args.change.now.come) ps c.args.schedule.now c.in_ok-mid.mid) c.as_slice.ensures.value c.in_ok-mid.ensures.shifted)
     c.in_ok-joining.ensures.once c.in_ok-leaving.ensures.once in
     let first = ap (sum_by (most_at c.args.change.now c.args.indexes.now c.args.schedule.now)) c.as_slice.ensures.value in
-    let second = ap (sum_by (most_at c.args.alone.now c.args.indexes.now c.in_ok-mid.mid)) c.as_slice-2.ensures.value in
+    let second = ap (sum_by (most_at alone c.args.indexes.now c.in_ok-mid.mid)) c.as_slice-4.ensures.value in
     omega (arith, cost, first, second, c.requires.begun, c.in_ok-mid.ensures.least, c.in_ok-after.ensures.least)

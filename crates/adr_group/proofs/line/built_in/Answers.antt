@@ -1,27 +1,29 @@
-use Rattle.std.proofs.Common.{◌≡◌, ◌∙◌, sym}
-use Rattle.adr_timeline.specs.Build.{most_compared}
-use Rattle.adr_stretch.specs.Right.{written_in}
-use Rattle.adr_lines.specs.Indexes.{under}
-use Rattle.adr_group.proofs.Seen.{built_shows, most_given}
+use Rattle.std.proofs.Common.{ℤ, Option, None, if◌then◌else◌, arith}
+use Rattle.adr_model.specs.declared.timeline.Winner.{Winner}
+use Rattle.adr_model.specs.Governor.{winner_at}
+use Rattle.adr_model.specs.Timeline.{shows}
+use Rattle.adr_timeline.specs.Windows.{any_covers}
+use Rattle.adr_group.specs.Repair.{given_entries}
+use Rattle.adr_group.proofs.Seen.{parted, parted_cost, run_taken}
 use Rattle.adr_group.proofs.line.built_in.Goals as goal
 
-pub build-requires : goal.build-requires
-build-requires c =
-    let same : most_compared c.as_slice.result.now c.args.window.now ≡ most_compared (written_in c.args.writes.now (under c.args.indexes.now c.args.payload_type.now)) c.args.window.now =
-    most_given c.args.window.now c.args.writes.now (under c.args.indexes.now c.args.payload_type.now) c.as_slice.result.now (c.as_slice.ensures.value ∙ c.in_ok-entries.ensures.ok) in
-    rw same c.requires.room
+pub with_built-requires-clause-room : goal.with_built-requires-clause-room
+with_built-requires-clause-room c =
+    omega (arith, parted_cost (given_entries c.args.given.now) c.split_at.result.0.now c.split_at.result.1.now c.rest.rest.now (parted c.split_at.result.0.now c.split_at.result.1.now c.rest.rest.now _ c.split_at.ensures.front c.split_at.ensures.back c.rest.invariant.last), c.rest.invariant.compared, c.requires.room)
 
-pub returns-clause-shows : goal.returns-clause-shows
-returns-clause-shows c t =
-    c.in_ok-timeline.ensures.shows t
-    ∙ built_shows c.args.window.now c.args.writes.now (under c.args.indexes.now c.args.payload_type.now) c.as_slice.result.now (c.as_slice.ensures.value ∙ c.in_ok-entries.ensures.ok) t
+pub returns-in_err-inner-clause-compared : goal.returns-in_err-inner-clause-compared
+returns-in_err-inner-clause-compared c =
+    omega (arith, parted_cost (given_entries c.args.given.now) c.split_at.result.0.now c.split_at.result.1.now c.rest.rest.now (parted c.split_at.result.0.now c.split_at.result.1.now c.rest.rest.now _ c.split_at.ensures.front c.split_at.ensures.back c.rest.invariant.last), c.rest.invariant.compared, c.with_built.ensures.compared)
 
-pub returns-in_err-timeline-clause-compared : goal.returns-in_err-timeline-clause-compared
-returns-in_err-timeline-clause-compared c =
-    rw (sym (most_given c.args.window.now c.args.writes.now (under c.args.indexes.now c.args.payload_type.now) c.as_slice.result.now (c.as_slice.ensures.value ∙ c.in_ok-entries.ensures.ok)))
-    c.in_err-timeline.ensures.compared
-
-pub returns-clause-compared : goal.returns-clause-compared
-returns-clause-compared c =
-    rw (sym (most_given c.args.window.now c.args.writes.now (under c.args.indexes.now c.args.payload_type.now) c.as_slice.result.now (c.as_slice.ensures.value ∙ c.in_ok-entries.ensures.ok)))
-    c.in_ok-timeline.ensures.compared
+pub rest-preserved : goal.rest-preserved
+rest-preserved c =
+    let run = c.split_at.result.0.now in
+    let more = c.split_at.result.1.now in
+    let rest = c.rest.rest.now in
+    let p = parted run more rest _ c.split_at.ensures.front c.split_at.ensures.back c.rest.invariant.last in
+    let w : ℤ → Option Winner = λ t. winner_at (given_entries c.args.given.now) t in
+    record {
+      last = p.last;
+      shown = run_taken w (λ t. shows c.rest.inner t) (λ t. shows c.in_ok-inner.inner t) (λ t. if any_covers c.args.spans.now t then w t else None) run more rest p c.in_ok-inner.ensures.shows c.rest.invariant.shown;
+      compared = omega (arith, parted_cost (given_entries c.args.given.now) run more rest p, c.rest.invariant.compared, c.with_built.ensures.compared);
+    }

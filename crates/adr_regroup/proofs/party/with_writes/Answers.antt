@@ -10,39 +10,39 @@ use Rattle.adr_regroup.proofs.party.with_writes.Goals as goal
 pub unreachable-requires : goal.unreachable-requires
 unreachable-requires c =
     let g = c.schedule_laws.ensures c.args.place c.requires.within in
-    none_is_some g.0 (c.in_default.ensures.value ∙ g.1)
+    none_is_some g.0 (c.in_default-group.ensures.value ∙ g.1)
 
 fits : (a p q l limit : ℕ) → q ≡ p → p ≤ l → a + l < limit → a + q < limit
 fits a p q l limit e f g = omega (arith, e, f, g)
 
 pub rewritten-requires-clause-room : goal.rewritten-requires-clause-room
 rewritten-requires-clause-room c =
-    let group : Lines = c.in-Some.group.now in
+    let group : Lines = c.in-Some-group.group.now in
     let indexes = c.args.indexes.now in
     let windows = c.in_ok-windows.windows.items in
     let most = c.requires.room.0 in
     let new = length c.args.writes.now in
     let few = subst (λ ns. most_possible windows indexes ≤ (length ns + new) * most) c.writes.ensures (c.in_ok-windows.ensures.most indexes most c.requires.room.1) in
     fits c.args.meter.now (most_possible windows indexes) (most_possible c.deref.result.now indexes) ((length group.writes + new) * most) (2 ^ 128)
-    (ap (λ gs. most_possible gs indexes) c.deref.ensures.value) few (c.requires.room.2 group (sym c.in-Some.ensures.value))
+    (ap (λ gs. most_possible gs indexes) c.deref.ensures.value) few (c.requires.room.2 group (sym c.in-Some-group.ensures.value))
 
 pub returns-clause-right : goal.returns-clause-right
 returns-clause-right c =
     let events = c.args.book.now.objects.events in
-    let group : Lines = c.in-Some.group.now in
+    let group : Lines = c.in-Some-group.group.now in
     let new = c.args.writes.now in
     let within = subst (λ ns. AreWindowsOf events ns new (entries_under c.in_ok-windows.windows.items)) c.writes.ensures c.in_ok-windows.ensures.windows in
     let inside = subst (λ gs. AreWindowsOf events group.writes new (entries_under gs)) (sym c.deref.ensures.value) within in
     IfOk-weaker c.rewritten.result _ _
     (λ after right indexed before. right c.args.tie events indexed
-    (λ g at. subst (λ (x : Lines). AreWindowsOf events x.writes new (entries_under c.deref.result.now)) (some_same group g (c.in-Some.ensures.value ∙ at)) inside) before)
+    (λ g at. subst (λ (x : Lines). AreWindowsOf events x.writes new (entries_under c.deref.result.now)) (some_same group g (c.in-Some-group.ensures.value ∙ at)) inside) before)
     c.rewritten.ensures.right
 
 pub returns-clause-least : goal.returns-clause-least
 returns-clause-least c g cost at bound =
     let events = c.args.book.now.objects.events in
     let new = c.args.writes.now in
-    let same : c.writes.result.now ≡ g.writes = c.writes.ensures ∙ ap (λ (x : Lines). x.writes) (some_same c.in-Some.group.now g (c.in-Some.ensures.value ∙ at)) in
+    let same : c.writes.result.now ≡ g.writes = c.writes.ensures ∙ ap (λ (x : Lines). x.writes) (some_same c.in-Some-group.group.now g (c.in-Some-group.ensures.value ∙ at)) in
     let least = c.in_ok-windows.ensures.least c.args.indexes.now new cost bound in
     let first = ap (λ ns. cost_but cost events ns new) same in
     let second = ap (λ ns. cost_but cost events new ns) same in

@@ -1,0 +1,115 @@
+//! The spans of windows.
+ghost use Rattle.std.specs.Prelude.{◌≡◌, ◌≤◌, ◌||◌, ℕ, ℤ, List, true, IfOk, IsTrue, OnOk};
+ghost use Rattle.adr_value.specs.Answer.{OnlyNoMemory};
+ghost use Rattle.adr_time.specs.Spans.{covers, is_before};
+ghost use Rattle.adr_time.specs.declared.span.End.TheVariants.{At as EndsAt};
+ghost use Rattle.adr_model.specs.declared.entry.Entry.{Entry as AnyEntry};
+ghost use Rattle.adr_timeline.specs.Build.{most_compared_all};
+ghost use Rattle.adr_timeline.specs.Windows.{all_last, any_covers};
+ghost use Rattle.adr_stretch.specs.Grouped.{any_covers_at};
+ghost use Rattle.adr_stretch.specs.Right.{written_in};
+ghost use Rattle.adr_group.specs.Repair.{most_inside};
+
+use adr_model::Entry;
+use adr_time::{End, Moment, Span};
+use adr_value::Refusal;
+use std::alloc::Global;
+
+/// Whether the windows have the same spans as the others, each at the same place.
+fn have_same_spans(windows: &[Entry], others: &[Entry]) -> bool
+    ensures { result ≡ true → (t : ℤ) → any_covers_at windows.now t ≡ any_covers_at others.now t }
+{
+    let mut left = windows;
+    let mut right = others;
+    'rest: while let Some((window, more)) = left.split_first() {
+        let Some((other, others_more)) = right.split_first() else {
+            return false;
+        };
+        if window.span != other.span {
+            return false;
+        }
+        left = more;
+        right = others_more;
+    }
+    right.is_empty()
+}
+
+/// The windows, or the first half of them where the second has the same spans: those of an event that stays where it
+/// was come twice.
+fn once(windows: &[Entry]) -> &[Entry]
+    ensures covers { (t : ℤ) → any_covers_at result.now t ≡ any_covers_at windows.now t }
+    ensures cost { (writes : List ℕ) (entries : List AnyEntry) → most_inside writes entries result.now ≤ most_inside writes entries windows.now }
+{
+    let (front, back) = windows.split_at(windows.len() / 2);
+    if have_same_spans(front, back) {
+        front
+    } else {
+        windows
+    }
+}
+
+/// The spans of the windows that last some time.
+fn lasting_spans(alloc: Global, windows: &[Entry]) -> Result<Vec<Span>, Refusal>
+    ensures covers { IfOk result (λ spans. (t : ℤ) → any_covers spans.items t ≡ any_covers_at windows.now t) }
+    ensures last { IfOk result (λ spans. IsTrue (all_last spans.items)) }
+    ensures cost { IfOk result (λ spans. (writes : List ℕ) (entries : List AnyEntry) → most_compared_all (written_in writes entries) spans.items ≤ most_inside writes entries windows.now) }
+    ensures memory { OnlyNoMemory result }
+{
+    let mut spans = Vec::with_capacity(alloc, windows.len())?;
+    let mut rest = windows;
+    'rest: while let Some((window, more)) = rest.split_first() {
+        if window.span.start.is_before(window.span.end) {
+            spans.push(window.span)?;
+        }
+        rest = more;
+    }
+    Ok(spans)
+}
+
+/// The spans of the windows that last some time, each once where all windows come twice. `NoMemory` where there is no
+/// room for them.
+pub(crate) fn spans_of(alloc: Global, windows: &[Entry]) -> Result<Vec<Span>, Refusal>
+    ensures covers { IfOk result (λ spans. (t : ℤ) → any_covers spans.items t ≡ any_covers_at windows.now t) }
+    ensures last { IfOk result (λ spans. IsTrue (all_last spans.items)) }
+    ensures cost { IfOk result (λ spans. (writes : List ℕ) (entries : List AnyEntry) → most_compared_all (written_in writes entries) spans.items ≤ most_inside writes entries windows.now) }
+    ensures memory { OnlyNoMemory result }
+{
+    let spans = lasting_spans(alloc, once(windows))?;
+    Ok(spans)
+}
+
+/// Whether the end is that moment.
+fn is_at(end: End, moment: Moment) -> bool
+    ensures { result ≡ true → end ≡ EndsAt moment }
+{
+    match end {
+        End::At(end) => end == moment,
+        End::Endless => false,
+    }
+}
+
+/// Spans that cover what the spans cover, one for those that touch. `NoMemory` where there is no room for them.
+pub(crate) fn put_together(alloc: Global, spans: &[Span]) -> Result<Vec<Span>, Refusal>
+    requires last { IsTrue (all_last spans.now) }
+    ensures covers { IfOk result (λ wide. (t : ℤ) → any_covers wide.items t ≡ any_covers spans.now t) }
+    ensures last { IfOk result (λ wide. IsTrue (all_last wide.items)) }
+    ensures memory { OnlyNoMemory result }
+{
+    let mut wide = Vec::new(alloc);
+    let Some((first, others)) = spans.split_first() else {
+        return Ok(wide);
+    };
+    let mut current = *first;
+    let mut rest = others;
+    'rest: while let Some((span, more)) = rest.split_first() {
+        rest = more;
+        if is_at(current.end, span.start) {
+            current.end = span.end;
+        } else {
+            wide.push(current)?;
+            current = *span;
+        }
+    }
+    wide.push(current)?;
+    Ok(wide)
+}

@@ -1,0 +1,13 @@
+use Rattle.std.proofs.Common.{◌≡◌, ◌+◌, ℕ, true, length, take}
+use Rattle.adr_timeline.specs.Windows.{are_apart}
+use Rattle.adr_timeline.proofs.windows.first_run.Given as goal
+
+-- windows that are left and apart are so with those that were counted
+abbrev pub invariant-loop-window : goal.invariant-loop-window
+invariant-loop-window l =
+    (l.count + length l.rest ≡ length l.fn.windows)
+    × ((m : ℕ) → are_apart (take m l.rest) ≡ true → are_apart (take (l.count + m) l.fn.windows) ≡ true)
+    × (l.count ≡ 0 → l.rest ≡ l.fn.windows)
+
+abbrev pub decreases-loop-window : goal.decreases-loop-window
+decreases-loop-window l = length l.rest

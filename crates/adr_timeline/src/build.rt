@@ -1,0 +1,74 @@
+//! What wins inside windows, window by window at the end of one line.
+ghost use Rattle.std.specs.Prelude.{◌≡◌, ◌+◌, ◌<◌, ◌≤◌, ◌^◌, ℤ, [], None, IsTrue, OnOk, if◌then◌else◌};
+ghost use Rattle.adr_value.specs.Answer.{OnlyNoMemory};
+ghost use Rattle.adr_model.specs.Entries.{meeting};
+ghost use Rattle.adr_model.specs.Governor.{winner_at};
+ghost use Rattle.adr_model.specs.Timeline.{shows, IsCanonical};
+ghost use Rattle.adr_timeline.specs.Build.{most_compared, most_compared_all, Takes};
+ghost use Rattle.adr_timeline.specs.Windows.{any_covers, are_apart};
+
+use crate::line::Line;
+use crate::step::{join_steps, ranked};
+use adr_model::Entry;
+use adr_rule::Meter;
+use adr_time::Span;
+use adr_value::Refusal;
+use std::alloc::Global;
+
+/// Where the entries are found that compete, window by window.
+pub trait Source {
+    ghost use Rattle.std.specs.Prelude.{◌≡◌, IfOk, List};
+    ghost use Rattle.adr_value.specs.Answer.{OnlyNoMemory};
+    ghost use Rattle.adr_model.specs.declared.entry.Entry.{Entry};
+    ghost use Rattle.adr_model.specs.Entries.{meeting};
+
+    ghost entries: { Self → List Entry };
+
+    /// The entries that meet the window. `NoMemory` where there is no room for them.
+    fn meeting(&self, alloc: Global, window: Span) -> Result<Vec<Entry>, Refusal>
+        ensures met { IfOk result (λ found. found.items ≡ meeting (entries self.now) window) }
+        ensures refused { OnlyNoMemory result };
+}
+
+/// Puts the segments of the winners inside the window at the end of a line.
+fn join_window<S: Source>(
+    line: &mut Line,
+    alloc: Global,
+    source: &S,
+    window: &Span,
+    meter: &mut Meter,
+) -> Result<(), Refusal>
+    requires room { meter.old + most_compared (S.entries source.now) window.now < 2 ^ 128 }
+    ensures taken { OnOk result (Takes (meeting (S.entries source.now) window.now) window.now line.old line.new) }
+    ensures compared { meter.new ≤ meter.old + most_compared (S.entries source.now) window.now }
+    ensures refused { OnlyNoMemory result }
+{
+    let found = source.meeting(alloc, *window)?;
+    let steps = ranked(alloc, &found, meter)?;
+    join_steps(line, &steps, *window)?;
+    Ok(())
+}
+
+/// Puts the segments of the winners inside the windows at the end of an empty line.
+pub(crate) fn join_windows<S: Source>(
+    line: &mut Line,
+    alloc: Global,
+    source: &S,
+    windows: &[Span],
+    meter: &mut Meter,
+) -> Result<(), Refusal>
+    requires empty { line.old ≡ [] }
+    requires apart { IsTrue (are_apart windows.now) }
+    requires room { meter.old + most_compared_all (S.entries source.now) windows.now < 2 ^ 128 }
+    ensures canonical { OnOk result (IsCanonical line.new) }
+    ensures shows { OnOk result ((t : ℤ) → shows line.new t ≡ (if any_covers windows.now t then winner_at (S.entries source.now) t else None)) }
+    ensures compared { meter.new ≤ meter.old + most_compared_all (S.entries source.now) windows.now }
+    ensures refused { OnlyNoMemory result }
+{
+    let mut rest = windows;
+    while let Some((window, later)) = rest.split_first() {
+        join_window(line, alloc, source, window, meter)?;
+        rest = later;
+    }
+    Ok(())
+}
