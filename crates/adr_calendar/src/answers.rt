@@ -11,6 +11,7 @@ ghost use Rattle.adr_model.specs.Queries.{beginnings, in_lines, list, list_text,
 
 use crate::calendar::Calendar;
 use crate::lines::{Shown, cut, put_segment, put_state, put_type, put_version};
+use crate::moments::LastMoment;
 use crate::printing::put;
 use crate::shown::shown_of;
 use adr_book::Book;
@@ -89,6 +90,7 @@ pub fn at<C: Calendar>(
 /// Appends the line of the segment.
 fn put_line(
     out: &mut Vec<u8>,
+    last: &mut LastMoment,
     book: &Book,
     payload_type: &PayloadType,
     to: Moment,
@@ -100,11 +102,12 @@ fn put_line(
     let Some(shown) = shown_of(book, payload_type, segment.winner) else {
         return Ok(());
     };
-    put_segment(out, segment.start, cut(to, segment.end), shown)
+    put_segment(out, last, segment.start, cut(to, segment.end), shown)
 }
 
 /// Appends the lines of the segments.
 fn put_lines(
+    alloc: Global,
     out: &mut Vec<u8>,
     book: &Book,
     payload_type: &PayloadType,
@@ -114,14 +117,16 @@ fn put_lines(
     ensures ok { OnOk result (out.new.items ≡ out.old.items ++ flat_map (line_of_segment book.now.objects payload_type.now to) segments.now) }
     ensures memory { OnlyNoMemory result }
 {
+    let mut last = LastMoment::none(alloc);
     for segment in segments {
-        put_line(out, book, payload_type, to, segment)?;
+        put_line(out, &mut last, book, payload_type, to, segment)?;
     }
     Ok(())
 }
 
 /// Appends the lines of the window's segments.
 fn put_segments<C: Calendar>(
+    alloc: Global,
     out: &mut Vec<u8>,
     calendar: &C,
     id: &Id,
@@ -134,7 +139,14 @@ fn put_segments<C: Calendar>(
 {
     timeline_laws();
     let segments = calendar.segments(id, payload_type, from, to)?;
-    put_lines(out, calendar.book(), payload_type, to, segments.as_slice())
+    put_lines(
+        alloc,
+        out,
+        calendar.book(),
+        payload_type,
+        to,
+        segments.as_slice(),
+    )
 }
 
 /// The bytes of the answer to `list`.
@@ -152,7 +164,7 @@ fn text_of_list<C: Calendar>(
     let mut out = Vec::new(alloc);
     put_version(&mut out, calendar.book().version())?;
     put(&mut out, b"\n")?;
-    put_segments(&mut out, calendar, id, payload_type, from, to)?;
+    put_segments(alloc, &mut out, calendar, id, payload_type, from, to)?;
     put(&mut out, b".\n")?;
     Ok(out)
 }

@@ -5,6 +5,7 @@ mod answers;
 mod calendar;
 mod laws;
 mod lines;
+mod moments;
 mod printing;
 mod shown;
 

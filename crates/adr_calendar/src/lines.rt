@@ -8,9 +8,10 @@ ghost use Rattle.adr_model.specs.Answer.{state_text};
 ghost use Rattle.adr_model.specs.Queries.{end_within, is_bare_byte, segment_text, type_text};
 ghost use Rattle.adr_calendar.specs.Shown.{shown_text, shown_view};
 
+use crate::moments::LastMoment;
 use crate::printing::{put, put_end, put_id, put_natural, put_quoted, put_values};
 use adr_object::Id;
-use adr_time::{End, Moment, print_moment};
+use adr_time::{End, Moment};
 use adr_value::{Datum, Refusal};
 
 /// What governs shows: the event's id, the interval's id, and the values of its first payload of the type.
@@ -50,13 +51,18 @@ pub fn put_state(out: &mut Vec<u8>, shown: Option<Shown<'_>>, end: End) -> Resul
 }
 
 /// Appends two moments, a space between them.
-fn put_moments(out: &mut Vec<u8>, start: Moment, end: Moment) -> Result<(), Refusal>
+fn put_moments(
+    out: &mut Vec<u8>,
+    last: &mut LastMoment,
+    start: Moment,
+    end: Moment,
+) -> Result<(), Refusal>
     ensures ok { OnOk result (out.new.items ≡ out.old.items ++ (moment_text start ++ codes " " ++ moment_text end)) }
     ensures memory { OnlyNoMemory result }
 {
-    print_moment(start, out)?;
+    last.put(out, start)?;
     put(out, b" ")?;
-    print_moment(end, out)
+    last.put(out, end)
 }
 
 /// Appends what is shown behind a space: ` event e1 interval 0 values 10`.
@@ -90,8 +96,9 @@ pub fn cut(to: Moment, end: End) -> Moment
 
 /// Appends the line of a segment, its line feed too:
 /// `2024-01-01T00:00:00Z 2024-01-01T01:00:00Z event e1 interval 0 values 10`.
-pub fn put_segment(
+pub(crate) fn put_segment(
     out: &mut Vec<u8>,
+    last: &mut LastMoment,
     start: Moment,
     end: Moment,
     shown: Shown<'_>,
@@ -99,7 +106,7 @@ pub fn put_segment(
     ensures ok { OnOk result (out.new.items ≡ out.old.items ++ segment_text start end (shown_view shown.entry)) }
     ensures memory { OnlyNoMemory result }
 {
-    put_moments(out, start, end)?;
+    put_moments(out, last, start, end)?;
     put_shown(out, shown)?;
     put(out, b"\n")
 }
