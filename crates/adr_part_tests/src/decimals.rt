@@ -1,5 +1,5 @@
 //! Decimals, as they are spelled and as they are printed.
-use crate::rows::row;
+use crate::rows::{Asked, check};
 use adr_value::{Decimal, Refusal, decimal_laws};
 use std::alloc::Global;
 use std::test::Fail;
@@ -63,33 +63,22 @@ const LONG_SPELLINGS: &str = "0 0 = 0.*
 BadNumber = 7*
 BadNumber = *";
 
-/// What a text spells: a coefficient and a scale, or the name of its refusal.
-fn spelled(alloc: Global, text: &str) -> Result<String, Refusal> {
-    match Decimal::read(text) {
-        Ok(decimal) => {
-            let coefficient = decimal.coefficient();
-            let scale = decimal.scale();
-            Ok(format!(in alloc; "{coefficient} {scale}")?)
-        }
-        Err(refusal) => Ok(String::from_str(alloc, refusal.name())?),
-    }
-}
-
-fn spells(alloc: Global, text: &str, wanted: &str) -> Result<bool, Refusal> {
-    Ok(spelled(alloc, text)?.as_str() == wanted)
+/// Whether a text spells the coefficient and the scale that are wanted.
+pub(crate) fn spells(alloc: Global, text: &str, wanted: &str) -> Result<bool, Refusal> {
+    let decimal = Decimal::read(text)?;
+    let coefficient = decimal.coefficient();
+    let scale = decimal.scale();
+    let told = format!(in alloc; "{coefficient} {scale}")?;
+    Ok(told.as_str() == wanted)
 }
 
 #[test]
 fn spellings_are_read(rt: HostRuntime) -> Result<(), Fail> {
-    for line in SPELLINGS.lines() {
-        let (wanted, text) = row(line)?;
-        assert!(rt; spells(rt.alloc(), text, wanted)?, "{line}");
-    }
-    Ok(())
+    check(rt.alloc(), Asked::Decimal, SPELLINGS)
 }
 
 /// Whether the text with a million zeros in the place of `*` spells what is wanted.
-fn spells_long(alloc: Global, text: &str, wanted: &str) -> Result<bool, Refusal> {
+pub(crate) fn spells_long(alloc: Global, text: &str, wanted: &str) -> Result<bool, Refusal> {
     let zeros = "0".repeat(alloc, 1_000_000)?;
     let text = text.replace(alloc, '*', zeros.as_str())?;
     spells(alloc, text.as_str(), wanted)
@@ -97,11 +86,7 @@ fn spells_long(alloc: Global, text: &str, wanted: &str) -> Result<bool, Refusal>
 
 #[test]
 fn a_megabyte_of_zeros_is_exact(rt: HostRuntime) -> Result<(), Fail> {
-    for line in LONG_SPELLINGS.lines() {
-        let (wanted, text) = row(line)?;
-        assert!(rt; spells_long(rt.alloc(), text, wanted)?, "{line}");
-    }
-    Ok(())
+    check(rt.alloc(), Asked::DecimalOfZeros, LONG_SPELLINGS)
 }
 
 /// What is printed of a spelling.
@@ -113,17 +98,14 @@ const PRINTED: &str = "0.17 = 0.170
 0.000000000000000000000000000000000001 = 1e-36
 -0.999999999999999999999999999999999999 = -999999999999999999999999999999999999e-36";
 
-fn prints(alloc: Global, text: &str, wanted: &str) -> Result<bool, Refusal> {
+/// Whether what is printed of the number that a text spells is what is wanted.
+pub(crate) fn prints(alloc: Global, text: &str, wanted: &str) -> Result<bool, Refusal> {
     let shown = Decimal::read(text)?.to_string(alloc)?;
     Ok(shown.as_str() == wanted)
 }
 
 #[test]
 fn decimals_are_printed(rt: HostRuntime) -> Result<(), Fail> {
-    for line in PRINTED.lines() {
-        let (wanted, text) = row(line)?;
-        assert!(rt; prints(rt.alloc(), text, wanted)?, "{line}");
-    }
     decimal_laws();
-    Ok(())
+    check(rt.alloc(), Asked::PrintedDecimal, PRINTED)
 }

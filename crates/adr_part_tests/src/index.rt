@@ -26,14 +26,19 @@ fn three(alloc: Global) -> Result<Index, Refusal> {
     Ok(index)
 }
 
-/// The entries, each as `[PRIORITY WRITTEN PLACE START END]`.
+/// Writes the entry as `[PRIORITY WRITTEN PLACE START END]`.
+fn tell(text: &mut String, entry: &Entry) -> Result<(), Refusal> {
+    let rank = entry.rank;
+    write!(text, "[{} {} {} ", rank.priority, rank.written, rank.place)?;
+    tell_span(text, entry.span.start, entry.span.end)?;
+    Ok(text.push(']')?)
+}
+
+/// The entries, each as [`tell`] writes it.
 fn told(alloc: Global, entries: &[Entry]) -> Result<String, Refusal> {
     let mut text = String::new(alloc);
     for entry in entries {
-        let rank = entry.rank;
-        write!(text, "[{} {} {} ", rank.priority, rank.written, rank.place)?;
-        tell_span(&mut text, entry.span.start, entry.span.end)?;
-        text.push(']')?;
+        tell(&mut text, entry)?;
     }
     Ok(text)
 }
@@ -63,24 +68,23 @@ const ALL: &str = "[5 4 0 0 10][1 5 0 5 15][9 6 0 10 -]";
 
 /// Whether what covers a moment of the three is found.
 fn finds_what_covers(alloc: Global, index: &Index) -> Result<bool, Refusal> {
-    Ok(
-        covers(alloc, index, at(-1), "")?
-            && covers(alloc, index, at(0), FIRST)?
-            && covers(alloc, index, at(5), BOTH)?
-            && covers(alloc, index, at(10), LATER)?
-            && covers(alloc, index, at(15), LAST)?,
-    )
+    for (moment, wanted) in [(-1, ""), (0, FIRST), (5, BOTH), (10, LATER), (15, LAST)] {
+        if !covers(alloc, index, at(moment), wanted)? {
+            return Ok(false);
+        }
+    }
+    Ok(true)
 }
 
 /// Whether what meets a window of the three is found.
 fn finds_what_overlaps(alloc: Global, index: &Index) -> Result<bool, Refusal> {
-    Ok(
-        overlaps(alloc, index, span(9, 10), BOTH)?
-            && overlaps(alloc, index, endless(15), LAST)?
-            && overlaps(alloc, index, span(0, 20), ALL)?
-            && overlaps(alloc, index, span(-5, 0), "")?
-            && overlaps(alloc, index, span(7, 7), "")?,
-    )
+    let windows = [(9, 10, BOTH), (0, 20, ALL), (-5, 0, ""), (7, 7, "")];
+    for (start, end, wanted) in windows {
+        if !overlaps(alloc, index, span(start, end), wanted)? {
+            return Ok(false);
+        }
+    }
+    overlaps(alloc, index, endless(15), LAST)
 }
 
 fn finds_all(alloc: Global, index: &Index) -> Result<bool, Refusal> {
@@ -94,13 +98,17 @@ fn finds_all_in_copy(alloc: Global, index: &Index) -> Result<bool, Refusal> {
     finds_all
 }
 
+fn finds_three(alloc: Global) -> Result<bool, Refusal> {
+    let index = three(alloc)?;
+    let finds = finds_all(alloc, &index);
+    let finds_in_copy = finds_all_in_copy(alloc, &index);
+    drop(index);
+    Ok(finds? && finds_in_copy?)
+}
+
 #[test]
 fn entries_are_found(rt: HostRuntime) -> Result<(), Fail> {
-    let index = three(rt.alloc())?;
-    let finds = finds_all(rt.alloc(), &index);
-    let finds_in_copy = finds_all_in_copy(rt.alloc(), &index);
-    drop(index);
-    assert!(rt; finds? && finds_in_copy?);
+    assert!(rt; finds_three(rt.alloc())?);
     Ok(())
 }
 
@@ -121,12 +129,16 @@ fn is_lost_but_in_the_copy(alloc: Global, index: &mut Index) -> Result<bool, Ref
     Ok(is_lost? && finds_all?)
 }
 
+fn loses_one_of_three(alloc: Global) -> Result<bool, Refusal> {
+    let mut index = three(alloc)?;
+    let loses = is_lost_but_in_the_copy(alloc, &mut index);
+    drop(index);
+    loses
+}
+
 #[test]
 fn entries_are_removed_once(rt: HostRuntime) -> Result<(), Fail> {
-    let mut index = three(rt.alloc())?;
-    let is_lost = is_lost_but_in_the_copy(rt.alloc(), &mut index);
-    drop(index);
-    assert!(rt; is_lost?);
+    assert!(rt; loses_one_of_three(rt.alloc())?);
     Ok(())
 }
 
@@ -138,12 +150,16 @@ fn keeps_empty_ones(alloc: Global, index: &mut Index) -> Result<bool, Refusal> {
     Ok(are_kept && finds_all(alloc, index)? && index.remove(8, 0))
 }
 
+fn keeps_empty_ones_beside_three(alloc: Global) -> Result<bool, Refusal> {
+    let mut index = three(alloc)?;
+    let keeps = keeps_empty_ones(alloc, &mut index);
+    drop(index);
+    keeps
+}
+
 #[test]
 fn entries_without_instants_are_kept_and_never_found(rt: HostRuntime) -> Result<(), Fail> {
-    let mut index = three(rt.alloc())?;
-    let keeps = keeps_empty_ones(rt.alloc(), &mut index);
-    drop(index);
-    assert!(rt; keeps?);
+    assert!(rt; keeps_empty_ones_beside_three(rt.alloc())?);
     Ok(())
 }
 
@@ -193,6 +209,7 @@ fn looks_for_a_window(alloc: Global, index: &Index) -> Result<bool, Refusal>
     Ok(meter.count() <= 112 && are(alloc, &found, "[0 100 0 100 101]")?)
 }
 
+/// Whether an index has so many entries once they are put, and few of them are looked at.
 fn looks_among_many(alloc: Global, index: &mut Index) -> Result<bool, Refusal> {
     put_instants(index, 4096)?;
     if index.len() != 4096 {
@@ -239,6 +256,48 @@ fn edit(index: &mut Index, plain: &mut Vec<Entry>, seed: &mut u64) -> Result<(),
     put(index, new)
 }
 
+/// The entries of a plain list that cover the moment.
+fn told_covering(alloc: Global, plain: &[Entry], moment: Moment) -> Result<String, Refusal> {
+    let mut text = String::new(alloc);
+    for entry in plain {
+        if covers_moment(&entry.span, moment) {
+            tell(&mut text, entry)?;
+        }
+    }
+    Ok(text)
+}
+
+/// The entries of a plain list that meet the window.
+fn told_meeting(alloc: Global, plain: &[Entry], window: &Span) -> Result<String, Refusal> {
+    let mut text = String::new(alloc);
+    for entry in plain {
+        if meets(&entry.span, window) {
+            tell(&mut text, entry)?;
+        }
+    }
+    Ok(text)
+}
+
+fn covers_alike(
+    alloc: Global,
+    index: &Index,
+    plain: &[Entry],
+    moment: Moment,
+) -> Result<bool, Refusal> {
+    let wanted = told_covering(alloc, plain, moment)?;
+    covers(alloc, index, moment, wanted.as_str())
+}
+
+fn overlaps_alike(
+    alloc: Global,
+    index: &Index,
+    plain: &[Entry],
+    window: Span,
+) -> Result<bool, Refusal> {
+    let wanted = told_meeting(alloc, plain, &window)?;
+    overlaps(alloc, index, window, wanted.as_str())
+}
+
 /// Whether the index answers a moment and a window as the plain list does.
 fn answers_alike(
     alloc: Global,
@@ -247,28 +306,10 @@ fn answers_alike(
     seed: &mut u64,
 ) -> Result<bool, Refusal> {
     let start = i128::from(next(seed) % 500);
-    let moment = at(start);
     let window = span(start, start + i128::from(next(seed) % 9));
-    let covering: Vec<Entry> = plain
-        .iter()
-        .filter(|entry| covers_moment(&entry.span, moment))
-        .copied()
-        .collect(alloc)?;
-    let meeting: Vec<Entry> = plain
-        .iter()
-        .filter(|entry| meets(&entry.span, &window))
-        .copied()
-        .collect(alloc)?;
     Ok(
-        are(
-            alloc,
-            &index.covering(moment)?,
-            told(alloc, &covering)?.as_str(),
-        )? && are(
-            alloc,
-            &index.overlapping(window)?,
-            told(alloc, &meeting)?.as_str(),
-        )?,
+        covers_alike(alloc, index, plain, at(start))?
+            && overlaps_alike(alloc, index, plain, window)?,
     )
 }
 

@@ -1,6 +1,6 @@
 //! Moments, as they are read and as they are printed.
-use crate::rows::row;
-use adr_time::{Moment, print_moment, read_moment, read_start};
+use crate::rows::{Asked, check};
+use adr_time::{Moment, print_moment};
 use adr_value::Refusal;
 use std::alloc::Global;
 use std::test::Fail;
@@ -62,30 +62,19 @@ const STARTS: &str = "5 = 0000-00-00
 BadDateTime = 0000-00-00t00:00:00Z
 BadDateTime = tomorrow";
 
-/// Whether a text was read as is wanted: as a moment with these nanoseconds, or refused by this name.
-fn is_answer(answer: Result<Moment, Refusal>, wanted: &str) -> bool {
-    match answer {
-        Ok(moment) => wanted.parse::<i128>() == Ok(moment.nanoseconds()),
-        Err(refusal) => refusal.name() == wanted,
-    }
+/// Whether the moment has as many nanoseconds as is wanted.
+pub(crate) fn is_at(moment: Moment, wanted: &str) -> bool {
+    wanted.parse::<i128>() == Ok(moment.nanoseconds())
 }
 
 #[test]
 fn moments_are_read(rt: HostRuntime) -> Result<(), Fail> {
-    for line in MOMENTS.lines() {
-        let (wanted, text) = row(line)?;
-        assert!(rt; is_answer(read_moment(text), wanted), "{line}");
-    }
-    Ok(())
+    check(rt.alloc(), Asked::Moment, MOMENTS)
 }
 
 #[test]
 fn starts_are_read(rt: HostRuntime) -> Result<(), Fail> {
-    for line in STARTS.lines() {
-        let (wanted, text) = row(line)?;
-        assert!(rt; is_answer(read_start(text, at(5)), wanted), "{line}");
-    }
-    Ok(())
+    check(rt.alloc(), Asked::Start, STARTS)
 }
 
 /// What is printed of a moment of so many nanoseconds.
@@ -103,14 +92,15 @@ pub(crate) fn prints(alloc: Global, moment: Moment, wanted: &str) -> Result<bool
     Ok(out.as_slice() == wanted.as_bytes())
 }
 
+/// Whether what is printed of a moment of so many nanoseconds is what is wanted.
+pub(crate) fn is_printed(alloc: Global, text: &str, wanted: &str) -> Result<bool, Refusal> {
+    let nanoseconds = text.parse::<i128>().ok().ok_or(Refusal::BadLine)?;
+    prints(alloc, at(nanoseconds), wanted)
+}
+
 #[test]
 fn moments_are_printed(rt: HostRuntime) -> Result<(), Fail> {
-    for line in PRINTED.lines() {
-        let (wanted, nanoseconds) = row(line)?;
-        let moment = at(nanoseconds.parse::<i128>()?);
-        assert!(rt; prints(rt.alloc(), moment, wanted)?, "{line}");
-    }
-    Ok(())
+    check(rt.alloc(), Asked::PrintedMoment, PRINTED)
 }
 
 /// Whether a second moment is printed after the first.

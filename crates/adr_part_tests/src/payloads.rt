@@ -1,4 +1,5 @@
 //! Payload types and their table.
+use crate::rows::{Asked, check};
 use adr_value::{PayloadType, Refusal, Shape, payload_laws};
 use std::alloc::Global;
 use std::test::Fail;
@@ -47,7 +48,10 @@ fn is_row(alloc: Global, kind: &PayloadType, line: &str) -> Result<bool, Refusal
     Ok(row.as_str() == line)
 }
 
-fn is_coded(alloc: Global, code: u8, line: &str) -> Result<bool, Refusal> {
+/// Whether the row is that of the type with its code, and of the one with its name.
+pub(crate) fn is_coded(alloc: Global, line: &str) -> Result<bool, Refusal> {
+    let (code, _) = line.split_once(' ').ok_or(Refusal::BadLine)?;
+    let code = code.parse::<u8>().ok().ok_or(Refusal::BadLine)?;
     let kind = PayloadType::of_code(code).ok_or(Refusal::NotThere)?;
     let is_row = is_row(alloc, &kind, line);
     let is_named = is_named(alloc, kind.name(), line);
@@ -64,12 +68,9 @@ fn is_named(alloc: Global, name: &str, line: &str) -> Result<bool, Refusal> {
 
 #[test]
 fn the_table_has_34_types(rt: HostRuntime) -> Result<(), Fail> {
-    for (code, line) in (0..34u8).zip(TABLE.lines()) {
-        assert!(rt; is_coded(rt.alloc(), code, line)?, "{line}");
-    }
     assert_eq!(rt; TABLE.lines().count(), 34);
     payload_laws();
-    Ok(())
+    check(rt.alloc(), Asked::Type, TABLE)
 }
 
 fn is_private(alloc: Global, name: &str) -> Result<bool, Refusal> {
@@ -84,12 +85,19 @@ fn is_private_in_lower_case(alloc: Global, word: &str) -> Result<bool, Refusal> 
     is_private(alloc, small.as_str())
 }
 
+/// Whether each word of a row is a private type's name in lower case.
+pub(crate) fn are_private_in_lower_case(alloc: Global, line: &str) -> Result<bool, Refusal> {
+    for word in line.split(' ') {
+        if !is_private_in_lower_case(alloc, word)? {
+            return Ok(false);
+        }
+    }
+    Ok(true)
+}
+
 #[test]
 fn a_name_in_lower_case_is_private(rt: HostRuntime) -> Result<(), Fail> {
-    for word in TABLE.split_whitespace() {
-        assert!(rt; is_private_in_lower_case(rt.alloc(), word)?, "{word}");
-    }
-    Ok(())
+    check(rt.alloc(), Asked::PrivateTypes, TABLE)
 }
 
 #[test]
@@ -98,6 +106,9 @@ fn from_34_on_a_code_has_no_type(rt: HostRuntime) {
         assert!(rt; PayloadType::of_code(code).is_none(), "{code}");
     }
 }
+
+/// Letters of one byte and of more.
+const LETTERS: &str = "x\né\n🌀";
 
 /// Whether as many letters are a type's name, and no text without the form of one.
 fn names(alloc: Global, letter: &str, length: usize) -> Result<bool, Refusal> {
@@ -108,7 +119,8 @@ fn names(alloc: Global, letter: &str, length: usize) -> Result<bool, Refusal> {
     }
 }
 
-fn are_from_1_to_128(alloc: Global, letter: &str) -> Result<bool, Refusal> {
+/// Whether as many of the letter are a name as may be, and no more.
+pub(crate) fn are_from_1_to_128(alloc: Global, letter: &str) -> Result<bool, Refusal> {
     Ok(
         !names(alloc, letter, 0)?
             && names(alloc, letter, 1)?
@@ -119,10 +131,7 @@ fn are_from_1_to_128(alloc: Global, letter: &str) -> Result<bool, Refusal> {
 
 #[test]
 fn a_type_name_has_1_to_128_characters(rt: HostRuntime) -> Result<(), Fail> {
-    for letter in ["x", "é", "🌀"] {
-        assert!(rt; are_from_1_to_128(rt.alloc(), letter)?, "{letter}");
-    }
-    Ok(())
+    check(rt.alloc(), Asked::LetterOfTypes, LETTERS)
 }
 
 fn is_copied(kind: &PayloadType, name: &str) -> Result<bool, Refusal> {
@@ -135,7 +144,10 @@ fn is_copied(kind: &PayloadType, name: &str) -> Result<bool, Refusal> {
     }
 }
 
-fn is_copied_by_name(alloc: Global, name: &str) -> Result<bool, Refusal> {
+/// Names of types.
+const COPIED: &str = "GHG\nCTA2045_REBOOT\nprice";
+
+pub(crate) fn is_copied_by_name(alloc: Global, name: &str) -> Result<bool, Refusal> {
     let kind = PayloadType::type_of(alloc, name)?;
     let is_copied = is_copied(&kind, name);
     drop(kind);
@@ -144,8 +156,5 @@ fn is_copied_by_name(alloc: Global, name: &str) -> Result<bool, Refusal> {
 
 #[test]
 fn copies_of_types_have_their_names(rt: HostRuntime) -> Result<(), Fail> {
-    for name in ["GHG", "CTA2045_REBOOT", "price"] {
-        assert!(rt; is_copied_by_name(rt.alloc(), name)?, "{name}");
-    }
-    Ok(())
+    check(rt.alloc(), Asked::CopiedType, COPIED)
 }

@@ -1,36 +1,33 @@
 //! Bodies behind the shield.
+use crate::rows::{Asked, check};
 use adr_value::{Refusal, shield, shield_laws};
 use std::alloc::Global;
 use std::test::Fail;
 
-/// Bodies, and what they are behind the shield.
-const BODIES: &str = r#"[0.17] => ["\u00000.17"]
-{"a":"1"} => {"a":"1"}
-{"a\"1":-1} => {"a\"1":"\u0000-1"}
-["\\u0000"] => ["\\u0000"]
-+1 => +"\u00001"
-"abc => "abc
-"abc\ => "abc\
- => 
-7 => "\u00007"
-[12,"a",34,true ,"b", 5] => ["\u000012","a","\u000034",true ,"b", "\u00005"]
-[-1234567890123456789.1] => ["\u0000-1234567890123456789.1"]
-[123456789012345678.123456789012345678] => ["\u0000123456789012345678.123456789012345678"]
-[1,2e1] => ["\u00001","\u00002e1"]
-{"a":1 , "b":true} => {"a":"\u00001" , "b":true}"#;
+/// What bodies are behind the shield, and the bodies.
+const BODIES: &str = r#"["\u00000.17"] = [0.17]
+{"a":"1"} = {"a":"1"}
+{"a\"1":"\u0000-1"} = {"a\"1":-1}
+["\\u0000"] = ["\\u0000"]
++"\u00001" = +1
+"abc = "abc
+"abc\ = "abc\
+ = 
+"\u00007" = 7
+["\u000012","a","\u000034",true ,"b", "\u00005"] = [12,"a",34,true ,"b", 5]
+["\u0000-1234567890123456789.1"] = [-1234567890123456789.1]
+["\u0000123456789012345678.123456789012345678"] = [123456789012345678.123456789012345678]
+["\u00001","\u00002e1"] = [1,2e1]
+{"a":"\u00001" , "b":true} = {"a":1 , "b":true}"#;
 
-fn is_shielded(alloc: Global, line: &str) -> Result<bool, Refusal> {
-    let (body, wanted) = line.split_once(" => ").ok_or(Refusal::BadLine)?;
+pub(crate) fn is_shielded(alloc: Global, body: &str, wanted: &str) -> Result<bool, Refusal> {
     let shielded = shield(alloc, body.as_bytes())?;
     Ok(shielded.as_slice() == wanted.as_bytes())
 }
 
 #[test]
 fn bodies_are_shielded(rt: HostRuntime) -> Result<(), Fail> {
-    for line in BODIES.lines() {
-        assert!(rt; is_shielded(rt.alloc(), line)?, "{line}");
-    }
-    Ok(())
+    check(rt.alloc(), Asked::ShieldedBody, BODIES)
 }
 
 fn shielded_length(alloc: Global, body: &str) -> Result<usize, Refusal> {

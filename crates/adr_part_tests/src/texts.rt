@@ -1,4 +1,5 @@
 //! Texts, names, and lists of texts.
+use crate::rows::{Asked, check};
 use adr_value::{BoundedVec, Name, Refusal, Text, TryClone};
 use std::alloc::Global;
 use std::test::Fail;
@@ -8,7 +9,11 @@ fn fits(alloc: Global, letter: &str, length: usize) -> Result<bool, Refusal> {
     Ok(Name::fits(text.as_str()))
 }
 
-fn fit_from_1_to_128(alloc: Global, letter: &str) -> Result<bool, Refusal> {
+/// Letters of one byte and of more.
+const LETTERS: &str = "x\né\n🌀";
+
+/// Whether a name may have 1 to 128 of the letter.
+pub(crate) fn fit_from_1_to_128(alloc: Global, letter: &str) -> Result<bool, Refusal> {
     Ok(
         !fits(alloc, letter, 0)?
             && fits(alloc, letter, 1)?
@@ -19,10 +24,7 @@ fn fit_from_1_to_128(alloc: Global, letter: &str) -> Result<bool, Refusal> {
 
 #[test]
 fn a_name_has_1_to_128_characters(rt: HostRuntime) -> Result<(), Fail> {
-    for letter in ["x", "é", "🌀"] {
-        assert!(rt; fit_from_1_to_128(rt.alloc(), letter)?, "{letter}");
-    }
-    Ok(())
+    check(rt.alloc(), Asked::LetterOfNames, LETTERS)
 }
 
 fn is_copied(name: &Name, text: &str) -> Result<bool, Refusal> {
@@ -49,60 +51,55 @@ fn is_some_copied(text: &Option<Text>, wanted: &str) -> Result<bool, Refusal> {
     }
 }
 
+fn is_option_copied(alloc: Global, word: &str) -> Result<bool, Refusal> {
+    let text = Some(Text::new(alloc, word)?);
+    let is_copied = is_some_copied(&text, word);
+    drop(text);
+    is_copied
+}
+
 #[test]
 fn a_text_that_may_be_absent_is_copied(rt: HostRuntime) -> Result<(), Fail> {
-    let text = Some(Text::new(rt.alloc(), "storm")?);
-    assert!(rt; is_some_copied(&text, "storm")?);
+    assert!(rt; is_option_copied(rt.alloc(), "storm")?);
     Ok(())
 }
 
-/// Whether the list has these two texts, in this order.
-fn has(list: &BoundedVec<Text, 2>, first: &str, second: &str) -> bool {
-    match list.as_slice() {
-        [a, b] => a.as_str() == first && b.as_str() == second && !list.is_empty(),
-        _ => false,
+/// Whether the list has these texts, in this order, and no others.
+fn has(list: &BoundedVec<Text, 2>, wanted: &[&str]) -> bool {
+    for (text, wanted) in list.as_slice().iter().zip(wanted) {
+        if text.as_str() != *wanted {
+            return false;
+        }
     }
+    list.len() == wanted.len() && list.is_empty() == wanted.is_empty()
 }
 
-fn has_one(list: &BoundedVec<Text, 2>, only: &str) -> bool {
-    match list.as_slice() {
-        [a] => a.as_str() == only && list.len() == 1,
-        _ => false,
-    }
-}
-
-fn is_list_copied(list: &BoundedVec<Text, 2>) -> Result<bool, Refusal> {
+/// Whether a list and its copy have these texts.
+fn is_list_copied(list: &BoundedVec<Text, 2>, wanted: &[&str]) -> Result<bool, Refusal> {
     let copy = list.copy()?;
-    Ok(copy.len() == 2 && has(&copy, "a", "b"))
+    let is_copied = has(&copy, wanted);
+    drop(copy);
+    Ok(is_copied && has(list, wanted))
 }
 
-fn are_listed(alloc: Global) -> Result<bool, Refusal> {
-    let texts = vec![in alloc; Text::new(alloc, "a")?, Text::new(alloc, "b")?]?;
+fn are_listed(alloc: Global, words: &[&str]) -> Result<bool, Refusal> {
+    let mut texts = Vec::new(alloc);
+    for word in words {
+        texts.push(Text::new(alloc, word)?)?;
+    }
     if texts.len() > 2 {
         return Ok(false);
     }
     let list = BoundedVec::from_vec(texts);
-    let is_copied = is_list_copied(&list);
+    let is_copied = is_list_copied(&list, words);
     drop(list);
     is_copied
 }
 
-/// Whether a list of one has its element, and its copy too.
-fn is_one_listed(alloc: Global) -> Result<bool, Refusal> {
-    let texts = vec![in alloc; Text::new(alloc, "a")?]?;
-    if texts.len() > 2 {
-        return Ok(false);
-    }
-    let list: BoundedVec<Text, 2> = BoundedVec::from_vec(texts);
-    let copy = list.copy()?;
-    Ok(has_one(&list, "a") && has_one(&copy, "a"))
-}
-
 #[test]
 fn lists_are_copied_in_order(rt: HostRuntime) -> Result<(), Fail> {
-    let empty: BoundedVec<Text, 2> = BoundedVec::new(rt.alloc());
-    assert!(rt; empty.is_empty());
-    assert!(rt; is_one_listed(rt.alloc())?);
-    assert!(rt; are_listed(rt.alloc())?);
+    assert!(rt; are_listed(rt.alloc(), &[])?);
+    assert!(rt; are_listed(rt.alloc(), &["a"])?);
+    assert!(rt; are_listed(rt.alloc(), &["a", "b"])?);
     Ok(())
 }

@@ -71,23 +71,12 @@ fn has(alloc: Global, timeline: &Timeline, wanted: &str) -> Result<bool, Refusal
 /// What the three show.
 const SHOWN: &str = "[0 5 4 0][5 15 5 0][15 20 6 0]";
 
-fn has_in_copy(alloc: Global, timeline: &Timeline, wanted: &str) -> Result<bool, Refusal> {
-    let copy = timeline.copy()?;
-    let has = has(alloc, &copy, wanted);
-    drop(copy);
-    has
-}
-
-#[test]
-fn the_least_entry_is_shown(rt: HostRuntime) -> Result<(), Fail> {
-    let mut meter = Meter::new();
-    let timeline = three(rt.alloc(), &mut meter)?;
-    let is_shown = has(rt.alloc(), &timeline, SHOWN);
-    let is_shown_by_copy = has_in_copy(rt.alloc(), &timeline, SHOWN);
-    drop(timeline);
-    assert!(rt; meter.count() <= 21);
-    assert!(rt; is_shown? && is_shown_by_copy?);
-    Ok(())
+/// What is asked of the timeline of the three.
+#[derive(Clone, Copy)]
+enum Asked {
+    Segments,
+    Governors,
+    Clips,
 }
 
 /// Who governs at the moment, and until when, as `WRITTEN END`.
@@ -114,31 +103,13 @@ fn is_governed(
 
 /// Whether the timeline of the three tells who governs, and until when.
 fn is_told(alloc: Global, timeline: &Timeline) -> Result<bool, Refusal> {
-    Ok(
-        is_governed(alloc, timeline, at(-3), "0")?
-            && is_governed(alloc, timeline, at(0), "4 5")?
-            && is_governed(alloc, timeline, at(5), "5 15")?
-            && is_governed(alloc, timeline, at(15), "6 20")?
-            && is_governed(alloc, timeline, at(20), "")?,
-    )
-}
-
-/// Whether a timeline and its copy tell it.
-fn is_told_with_copy(alloc: Global, timeline: &Timeline) -> Result<bool, Refusal> {
-    let copy = timeline.copy()?;
-    let is_told_by_copy = is_told(alloc, &copy);
-    drop(copy);
-    Ok(is_told_by_copy? && is_told(alloc, timeline)?)
-}
-
-#[test]
-fn governors_and_changes_are_told(rt: HostRuntime) -> Result<(), Fail> {
-    let mut meter = Meter::new();
-    let timeline = three(rt.alloc(), &mut meter)?;
-    let is_told = is_told_with_copy(rt.alloc(), &timeline);
-    drop(timeline);
-    assert!(rt; is_told?);
-    Ok(())
+    let moments = [(-3, "0"), (0, "4 5"), (5, "5 15"), (15, "6 20"), (20, "")];
+    for (moment, wanted) in moments {
+        if !is_governed(alloc, timeline, at(moment), wanted)? {
+            return Ok(false);
+        }
+    }
+    Ok(true)
 }
 
 fn is_clipped(
@@ -166,21 +137,46 @@ fn clips(alloc: Global, timeline: &Timeline) -> Result<bool, Refusal> {
     )
 }
 
-/// Whether windows of a timeline and of its copy are clipped.
-fn clips_with_copy(alloc: Global, timeline: &Timeline) -> Result<bool, Refusal> {
+fn is_answered(alloc: Global, timeline: &Timeline, asked: Asked) -> Result<bool, Refusal> {
+    match asked {
+        Asked::Segments => has(alloc, timeline, SHOWN),
+        Asked::Governors => is_told(alloc, timeline),
+        Asked::Clips => clips(alloc, timeline),
+    }
+}
+
+fn is_answered_by_copy(alloc: Global, timeline: &Timeline, asked: Asked) -> Result<bool, Refusal> {
     let copy = timeline.copy()?;
-    let copy_clips = clips(alloc, &copy);
+    let is_answered = is_answered(alloc, &copy, asked);
     drop(copy);
-    Ok(copy_clips? && clips(alloc, timeline)?)
+    is_answered
+}
+
+/// Whether the timeline of the three, for which few are compared, answers, and its copy too.
+fn do_three_answer(alloc: Global, asked: Asked) -> Result<bool, Refusal> {
+    let mut meter = Meter::new();
+    let timeline = three(alloc, &mut meter)?;
+    let is_answered = is_answered(alloc, &timeline, asked);
+    let is_answered_by_copy = is_answered_by_copy(alloc, &timeline, asked);
+    drop(timeline);
+    Ok(meter.count() <= 21 && is_answered? && is_answered_by_copy?)
+}
+
+#[test]
+fn the_least_entry_is_shown(rt: HostRuntime) -> Result<(), Fail> {
+    assert!(rt; do_three_answer(rt.alloc(), Asked::Segments)?);
+    Ok(())
+}
+
+#[test]
+fn governors_and_changes_are_told(rt: HostRuntime) -> Result<(), Fail> {
+    assert!(rt; do_three_answer(rt.alloc(), Asked::Governors)?);
+    Ok(())
 }
 
 #[test]
 fn a_window_is_clipped(rt: HostRuntime) -> Result<(), Fail> {
-    let mut meter = Meter::new();
-    let timeline = three(rt.alloc(), &mut meter)?;
-    let clips = clips_with_copy(rt.alloc(), &timeline);
-    drop(timeline);
-    assert!(rt; clips?);
+    assert!(rt; do_three_answer(rt.alloc(), Asked::Clips)?);
     Ok(())
 }
 
@@ -198,22 +194,25 @@ fn is_spliced(
     has
 }
 
-/// Whether another entry parts the timeline.
-fn is_parted(alloc: Global, outer: &Timeline) -> Result<bool, Refusal> {
-    let inner = one(alloc, 4, 6, 5)?;
-    is_spliced(
-        alloc,
-        outer,
-        span(4, 6),
-        &inner,
-        "[0 4 4 0][4 6 5 0][6 10 4 0]",
-    )
-}
+/// Segments of a timeline into which a timeline of one entry is spliced, behind its start, its end and its number. The first
+/// entry parts the timeline, the second shows the same and makes no segment of its own, and the third follows with the same
+/// winner and makes the segment longer.
+const SPLICED: [(i128, i128, u64, &str); 3] = [
+    (4, 6, 5, "[0 4 4 0][4 6 5 0][6 10 4 0]"),
+    (4, 6, 4, "[0 10 4 0]"),
+    (10, 12, 4, "[0 12 4 0]"),
+];
 
-/// Whether a window that shows the same makes no segment of its own.
-fn stays_whole(alloc: Global, outer: &Timeline) -> Result<bool, Refusal> {
-    let inner = one(alloc, 4, 6, 4)?;
-    is_spliced(alloc, outer, span(4, 6), &inner, "[0 10 4 0]")
+fn is_spliced_with(
+    alloc: Global,
+    outer: &Timeline,
+    row: (i128, i128, u64, &str),
+) -> Result<bool, Refusal> {
+    let (start, end, written, wanted) = row;
+    let inner = one(alloc, start, end, written)?;
+    let is_spliced = is_spliced(alloc, outer, span(start, end), &inner, wanted);
+    drop(inner);
+    is_spliced
 }
 
 /// Whether a window that shows nothing opens the timeline.
@@ -222,27 +221,26 @@ fn is_opened(alloc: Global, outer: &Timeline) -> Result<bool, Refusal> {
     is_spliced(alloc, outer, span(4, 6), &inner, "[0 4 4 0][6 10 4 0]")
 }
 
-/// Whether what follows with the same winner makes the segment longer.
-fn goes_on(alloc: Global, outer: &Timeline) -> Result<bool, Refusal> {
-    let inner = one(alloc, 10, 12, 4)?;
-    is_spliced(alloc, outer, span(10, 12), &inner, "[0 12 4 0]")
+fn is_spliced_each_way(alloc: Global, outer: &Timeline) -> Result<bool, Refusal> {
+    for row in SPLICED {
+        if !is_spliced_with(alloc, outer, row)? {
+            return Ok(false);
+        }
+    }
+    is_opened(alloc, outer)
 }
 
-fn is_spliced_each_way(alloc: Global, outer: &Timeline) -> Result<bool, Refusal> {
-    Ok(
-        is_parted(alloc, outer)?
-            && stays_whole(alloc, outer)?
-            && is_opened(alloc, outer)?
-            && goes_on(alloc, outer)?,
-    )
+/// Whether windows of the timeline of one entry are spliced.
+fn are_spliced(alloc: Global) -> Result<bool, Refusal> {
+    let timeline = one(alloc, 0, 10, 4)?;
+    let is_spliced = is_spliced_each_way(alloc, &timeline);
+    drop(timeline);
+    is_spliced
 }
 
 #[test]
 fn windows_are_spliced(rt: HostRuntime) -> Result<(), Fail> {
-    let timeline = one(rt.alloc(), 0, 10, 4)?;
-    let is_spliced = is_spliced_each_way(rt.alloc(), &timeline);
-    drop(timeline);
-    assert!(rt; is_spliced?);
+    assert!(rt; are_spliced(rt.alloc())?);
     Ok(())
 }
 
@@ -267,15 +265,19 @@ fn is_whole_with_late(
     Ok(is_joined? && is_joined_before?)
 }
 
+fn are_three_whole_again(alloc: Global) -> Result<bool, Refusal> {
+    let mut meter = Meter::new();
+    let timeline = three(alloc, &mut meter)?;
+    let is_whole = is_whole_again(alloc, &timeline);
+    drop(timeline);
+    is_whole
+}
+
 /// Timelines that show the same at every instant are equal, by whatever way they came about.
 #[test]
 fn timelines_that_show_the_same_are_equal(rt: HostRuntime) -> Result<(), Fail> {
     timeline_laws();
-    let mut meter = Meter::new();
-    let timeline = three(rt.alloc(), &mut meter)?;
-    let is_whole = is_whole_again(rt.alloc(), &timeline);
-    drop(timeline);
-    assert!(rt; is_whole?);
+    assert!(rt; are_three_whole_again(rt.alloc())?);
     Ok(())
 }
 
