@@ -1,6 +1,7 @@
 //! Rows of what a publication takes, and of looks beside publications.
 ghost use Rattle.std.specs.Prelude.{◌<◌, ◌≤◌};
 
+use crate::lives::lived;
 use crate::looking::looked;
 use crate::publishing::{held, published};
 use crate::told::told;
@@ -28,6 +29,11 @@ fn print_publications<R: AllocGlobal + Print + Clock + Wait>(
 pub(crate) fn print_held<R: AllocGlobal + Print + Wait>(rt: &R, count: usize) -> io::Result<()> {
     let last = told(held::<Brand, R>(rt, NewBoard::new(), count))?;
     println!(rt; "held {count} up to {last}")
+}
+
+/// A board that lives for so many thousand edits.
+pub(crate) fn print_life<R: AllocGlobal + Print + Wait>(rt: &R, thousands: u64) -> io::Result<()> {
+    told(lived::<Brand, R>(rt, NewBoard::new(), thousands))?
 }
 
 fn print_lookers<R: AllocGlobal + Print + Clock + Threads + Wait + Sync>(

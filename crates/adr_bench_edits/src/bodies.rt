@@ -1,7 +1,6 @@
 //! The objects of the tables.
-use adr_object::{Edit, Id, Kind, Object, Shared};
-use adr_read::{read_event, read_program, read_resource, read_ven};
-use adr_time::Moment;
+use crate::changes::read_object;
+use adr_object::{Edit, Id, Kind, Object};
 use adr_value::Refusal;
 use std::alloc::{AllocError, Global};
 
@@ -11,8 +10,8 @@ pub(crate) const MEMBERS: usize = 64;
 /// How many intervals an event has.
 const INTERVALS: usize = 16;
 
-/// An interval with one price.
-const INTERVAL: &str = r#"{"payloads":[{"type":"PRICE","values":[1]}]},"#;
+/// An interval with one price, and a comma.
+pub(crate) const INTERVAL: &str = r#"{"payloads":[{"type":"PRICE","values":[1]}]},"#;
 
 /// The targets of a group.
 fn targets(alloc: Global, group: usize) -> Result<String, AllocError> {
@@ -35,26 +34,20 @@ pub(crate) fn program(
 ) -> Result<Object, Refusal> {
     let targets = targets_or_all(alloc, group)?;
     let body = format!(in alloc; r#"{{"programName":"P","targets":{targets}}}"#)?;
-    let id = id(alloc, number)?;
-    let program = read_program(alloc, body.as_bytes(), &id, Moment::MIN)?;
-    Ok(Object::Program(Shared::new(alloc, program)?))
+    object(alloc, Kind::Program, number, body.as_str())
 }
 
 /// The ven of that number, whose resources are in the group.
 pub(crate) fn ven(alloc: Global, number: usize, group: usize) -> Result<Object, Refusal> {
     let targets = targets(alloc, group)?;
     let body = format!(in alloc; r#"{{"venName":"V","targets":{targets}}}"#)?;
-    let id = id(alloc, number)?;
-    let ven = read_ven(alloc, body.as_bytes(), &id, Moment::MIN)?;
-    Ok(Object::Ven(Shared::new(alloc, ven)?))
+    object(alloc, Kind::Ven, number, body.as_str())
 }
 
 /// The resource of that number, of a ven.
 pub(crate) fn resource(alloc: Global, number: usize, ven: usize) -> Result<Object, Refusal> {
     let body = format!(in alloc; r#"{{"resourceName":"R","venID":"{ven}"}}"#)?;
-    let id = id(alloc, number)?;
-    let resource = read_resource(alloc, body.as_bytes(), &id, Moment::MIN)?;
-    Ok(Object::Resource(Shared::new(alloc, resource)?))
+    object(alloc, Kind::Resource, number, body.as_str())
 }
 
 /// The event of that number, for a group or for all, of that priority. Events start hours apart over thirty days.
@@ -73,9 +66,20 @@ pub(crate) fn event(
     let body = format!(in alloc;
         r#"{{"programID":"{program}","targets":{targets},"priority":{priority},"intervalPeriod":{{"start":"2024-01-{day:02}T{hour:02}Z","duration":"PT1H"}},"intervals":[{intervals}]}}"#
     )?;
+    object(alloc, Kind::Event, number, body.as_str())
+}
+
+/// The object of a kind whose id is the number.
+pub(crate) fn object(
+    alloc: Global,
+    kind: Kind,
+    number: usize,
+    body: &str,
+) -> Result<Object, Refusal> {
     let id = id(alloc, number)?;
-    let event = read_event(alloc, body.as_bytes(), &id, Moment::MIN)?;
-    Ok(Object::Event(Shared::new(alloc, event)?))
+    let object = read_object(alloc, kind, &id, body.as_bytes());
+    drop(id);
+    object
 }
 
 fn id(alloc: Global, number: usize) -> Result<Id, Refusal> {

@@ -43,6 +43,18 @@ fn change_times<R: AllocGlobal + Clock>(
     times
 }
 
+fn print_edits_of<R: AllocGlobal + Print + Clock>(
+    rt: &R,
+    book: &mut Book,
+    intervals: usize,
+    is_timed: bool,
+) -> io::Result<()> {
+    let times = change_times(rt, book, intervals)?;
+    let pending = book.journal().pending().len();
+    print!(rt; "| {intervals} | {} | {pending} |", book.version())?;
+    print_times(rt, &times, is_timed)
+}
+
 /// A row of the edits: the intervals of an event, and the version and the open batch after it was changed again and again.
 fn print_edits<R: AllocGlobal + Print + Clock>(
     rt: &R,
@@ -50,10 +62,9 @@ fn print_edits<R: AllocGlobal + Print + Clock>(
     is_timed: bool,
 ) -> io::Result<()> {
     let mut book = told(book_of_event(rt.alloc(), intervals))?;
-    let times = change_times(rt, &mut book, intervals)?;
-    let pending = book.journal().pending().len();
-    print!(rt; "| {intervals} | {} | {pending} |", book.version())?;
-    print_times(rt, &times, is_timed)
+    let printed = print_edits_of(rt, &mut book, intervals, is_timed);
+    drop(book);
+    printed
 }
 
 fn print_all_edits<R: AllocGlobal + Print + Clock>(rt: &R, is_timed: bool) -> io::Result<()> {
@@ -80,16 +91,16 @@ fn copy_times<C: Clock>(clock: &C, book: &mut Book, edits: &[Edit]) -> io::Resul
     Ok([copy, beside, alone])
 }
 
-/// A row of the copies: the objects, and the version, the closed batches and the open one after all edits.
-fn print_copies<R: AllocGlobal + Print + Clock>(
+fn print_copies_of<R: AllocGlobal + Print + Clock>(
     rt: &R,
-    count: usize,
+    book: &mut Book,
+    apart: usize,
     is_timed: bool,
 ) -> io::Result<()> {
-    let mut book = told(book_of_many(rt.alloc(), count))?;
-    let edits = told(changes(rt.alloc(), CHANGES, count / CHANGES))?;
-    let times = copy_times(rt, &mut book, edits.as_slice());
+    let edits = told(changes(rt.alloc(), CHANGES, apart))?;
+    let times = copy_times(rt, book, edits.as_slice());
     drop(edits);
+    let times = times?;
     let journal = book.journal();
     print!(rt;
         "| {} | {} |",
@@ -98,7 +109,19 @@ fn print_copies<R: AllocGlobal + Print + Clock>(
     )?;
     print!(rt; " {} | {} |", book.version(), journal.closed().len())?;
     print!(rt; " {} |", journal.pending().len())?;
-    print_times(rt, &times?, is_timed)
+    print_times(rt, &times, is_timed)
+}
+
+/// A row of the copies: the objects, and the version, the closed batches and the open one after all edits.
+fn print_copies<R: AllocGlobal + Print + Clock>(
+    rt: &R,
+    count: usize,
+    is_timed: bool,
+) -> io::Result<()> {
+    let mut book = told(book_of_many(rt.alloc(), count))?;
+    let printed = print_copies_of(rt, &mut book, count / CHANGES, is_timed);
+    drop(book);
+    printed
 }
 
 fn print_all_copies<R: AllocGlobal + Print + Clock>(rt: &R, is_timed: bool) -> io::Result<()> {
@@ -129,6 +152,21 @@ fn publish_times<C: Clock>(
     Ok([copy, seal])
 }
 
+fn print_publications_of<R: AllocGlobal + Print + Clock>(
+    rt: &R,
+    book: &mut Book,
+    publications: u32,
+    is_timed: bool,
+) -> io::Result<()> {
+    let edit = told(change(rt.alloc(), 0, 1))?;
+    let times = publish_times(rt, book, &edit, publications);
+    drop(edit);
+    let times = times?;
+    let closed = book.journal().closed().len();
+    print!(rt; "| {publications} | {} | {closed} |", book.version())?;
+    print_times(rt, &times, is_timed)
+}
+
 /// A row of the publications: their number, and the version and the closed batches after some more of them.
 fn print_publications<R: AllocGlobal + Print + Clock>(
     rt: &R,
@@ -136,12 +174,9 @@ fn print_publications<R: AllocGlobal + Print + Clock>(
     is_timed: bool,
 ) -> io::Result<()> {
     let mut book = told(book_of_event(rt.alloc(), 1))?;
-    let edit = told(change(rt.alloc(), 0, 1))?;
-    let times = publish_times(rt, &mut book, &edit, publications);
-    drop(edit);
-    let closed = book.journal().closed().len();
-    print!(rt; "| {publications} | {} | {closed} |", book.version())?;
-    print_times(rt, &times?, is_timed)
+    let printed = print_publications_of(rt, &mut book, publications, is_timed);
+    drop(book);
+    printed
 }
 
 fn print_all_publications<R: AllocGlobal + Print + Clock>(

@@ -1,6 +1,6 @@
 //! What is measured: judging and making an edit, copies of a book and edits after them, and publications.
 use crate::books::make;
-use crate::told::told;
+use crate::told::{done, since, told};
 use adr_book::{Book, judge};
 use adr_object::Edit;
 use adr_value::Refusal;
@@ -28,11 +28,13 @@ pub(crate) fn fastest_judge<C: Clock>(clock: &C, book: &Book, edit: &Edit) -> io
 
 /// The nanoseconds in which a copy of the edit is committed, once it is judged.
 fn commit_time<C: Clock>(clock: &C, book: &mut Book, edit: &Edit) -> io::Result<u128> {
-    let copy = told(edit.copy())?;
     told(judge(book, edit))?;
-    let start = Instant::now(clock)?;
-    told(book.commit(copy))?;
-    Ok(start.elapsed(clock)?.as_nanos())
+    let copy = told(edit.copy())?;
+    let start = Instant::now(clock);
+    let committed = book.commit(copy);
+    let nanoseconds = since(clock, start);
+    told(committed)?;
+    nanoseconds
 }
 
 /// The nanoseconds in which the edit is committed, again and again: the least of the times.
@@ -97,11 +99,11 @@ pub(crate) fn fastest_edits_beside_copy<C: Clock>(
 }
 
 fn copy_time<C: Clock>(clock: &C, book: &Book) -> io::Result<u128> {
-    let start = Instant::now(clock)?;
-    let copy = told(book.copy())?;
-    let passed = start.elapsed(clock);
-    drop(copy);
-    Ok(passed?.as_nanos())
+    let start = Instant::now(clock);
+    let copy = book.copy();
+    let nanoseconds = since(clock, start);
+    done(copy)?;
+    nanoseconds
 }
 
 /// The nanoseconds in which the book is copied: the least of some times.

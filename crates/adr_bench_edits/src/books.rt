@@ -53,21 +53,33 @@ fn fill(alloc: Global, book: &mut Book, count: usize) -> Result<(), Refusal> {
     create_all(alloc, book, Kind::Event, count)
 }
 
+/// The book, unless its edits were refused.
+fn filled(book: Book, made: Result<(), Refusal>) -> Result<Book, Refusal> {
+    match made {
+        Ok(()) => Ok(book),
+        Err(refusal) => {
+            drop(book);
+            Err(refusal)
+        }
+    }
+}
+
 /// A book of so many resources and as many events, in whole groups.
 pub(crate) fn book_of_many(alloc: Global, count: usize) -> Result<Book, Refusal> {
     let mut book = Book::new(alloc);
-    fill(alloc, &mut book, count)?;
-    Ok(book)
+    let made = fill(alloc, &mut book, count);
+    filled(book, made)
 }
 
-fn begin(alloc: Global, book: &mut Book, intervals: usize) -> Result<u64, Refusal> {
+fn begin(alloc: Global, book: &mut Book, intervals: usize) -> Result<(), Refusal> {
     create_all(alloc, book, Kind::Program, 1)?;
-    create(alloc, book, Kind::Event, 0, intervals)
+    create(alloc, book, Kind::Event, 0, intervals)?;
+    Ok(())
 }
 
 /// A book of one program with one event of so many intervals.
 pub(crate) fn book_of_event(alloc: Global, intervals: usize) -> Result<Book, Refusal> {
     let mut book = Book::new(alloc);
-    begin(alloc, &mut book, intervals)?;
-    Ok(book)
+    let made = begin(alloc, &mut book, intervals);
+    filled(book, made)
 }

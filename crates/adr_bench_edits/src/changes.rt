@@ -1,4 +1,5 @@
 //! The edits that fill the books of the tables and change their events.
+use crate::bodies::object;
 use adr_object::{Edit, Id, Kind, Object, Shared};
 use adr_read::{read_event, read_program, read_resource, read_ven};
 use adr_time::Moment;
@@ -20,7 +21,13 @@ fn body(alloc: Global, named: usize, intervals: usize) -> Result<String, Refusal
     )?)
 }
 
-fn read_object(alloc: Global, kind: Kind, id: &Id, body: &[u8]) -> Result<Object, Refusal> {
+/// The object of a kind with that body.
+pub(crate) fn read_object(
+    alloc: Global,
+    kind: Kind,
+    id: &Id,
+    body: &[u8],
+) -> Result<Object, Refusal> {
     match kind {
         Kind::Program => {
             let program = read_program(alloc, body, id, Moment::MIN)?;
@@ -42,13 +49,14 @@ fn read_object(alloc: Global, kind: Kind, id: &Id, body: &[u8]) -> Result<Object
 }
 
 /// The object of a kind whose id is the number. What it names is the number of its group.
-fn object(alloc: Global, kind: Kind, number: usize, intervals: usize) -> Result<Object, Refusal> {
+fn object_of(
+    alloc: Global,
+    kind: Kind,
+    number: usize,
+    intervals: usize,
+) -> Result<Object, Refusal> {
     let body = body(alloc, number / GROUP, intervals)?;
-    let text = format!(in alloc; "{number}")?;
-    let id = Id::read(alloc, text.as_str())?;
-    let object = read_object(alloc, kind, &id, body.as_str().as_bytes());
-    drop(id);
-    object
+    object(alloc, kind, number, body.as_str())
 }
 
 /// The creation of an object, which has so many intervals if it is an event.
@@ -58,12 +66,12 @@ pub(crate) fn creation(
     number: usize,
     intervals: usize,
 ) -> Result<Edit, Refusal> {
-    Ok(Edit::Create(object(alloc, kind, number, intervals)?))
+    Ok(Edit::Create(object_of(alloc, kind, number, intervals)?))
 }
 
 /// The change of an event, which has so many intervals then.
 pub(crate) fn change(alloc: Global, number: usize, intervals: usize) -> Result<Edit, Refusal> {
-    Ok(Edit::Change(object(alloc, Kind::Event, number, intervals)?))
+    Ok(Edit::Change(object_of(alloc, Kind::Event, number, intervals)?))
 }
 
 /// Changes of so many events, each that many numbers after the one before.

@@ -3,6 +3,7 @@ use crate::desk_times::{Round, least_round};
 use crate::desks::desk_of;
 use crate::told::told;
 use crate::works::Work;
+use adr_desk::Desk;
 use std::io;
 use std::rt::Clock;
 
@@ -18,13 +19,27 @@ fn print_round(
     is_timed: bool,
 ) -> io::Result<()> {
     let Round { there, back } = round;
-    print!(rt; "| {} | {count} |", work.name())?;
-    print!(rt; " {} | {} |", there.compares, back.compares)?;
+    let name = work.name();
+    let (compares, compares_back) = (there.compares, back.compares);
+    print!(rt; "| {name} | {count} | {compares} | {compares_back} |")?;
     if is_timed {
-        print!(rt; " {} |", there.nanoseconds / 1000)?;
-        print!(rt; " {} |", back.nanoseconds / 1000)?;
+        let (time, time_back) = (there.nanoseconds / 1000, back.nanoseconds / 1000);
+        print!(rt; " {time} | {time_back} |")?;
     }
     println!(rt)
+}
+
+fn print_rows_of<R: AllocGlobal + Print + Clock>(
+    rt: &R,
+    desk: &mut Desk,
+    count: usize,
+    is_timed: bool,
+) -> io::Result<()> {
+    for work in Work::ALL {
+        let round = least_round(rt, rt.alloc(), desk, work, count)?;
+        print_round(rt, work, count, round, is_timed)?;
+    }
+    Ok(())
 }
 
 /// The rows of a desk of so many resources.
@@ -34,11 +49,9 @@ fn print_rows<R: AllocGlobal + Print + Clock>(
     is_timed: bool,
 ) -> io::Result<()> {
     let mut desk = told(desk_of(rt.alloc(), count))?;
-    for work in Work::ALL {
-        let round = least_round(rt, rt.alloc(), &mut desk, work, count)?;
-        print_round(rt, work, count, round, is_timed)?;
-    }
-    Ok(())
+    let printed = print_rows_of(rt, &mut desk, count, is_timed);
+    drop(desk);
+    printed
 }
 
 /// The table of edits of desks.

@@ -1,7 +1,7 @@
 //! How much an edit compares, and how long it takes.
-use crate::told::told;
+use crate::told::{since, told};
 use crate::works::Work;
-use adr_desk::Desk;
+use adr_desk::{Desk, Receipt};
 use adr_object::Edit;
 use adr_value::Refusal;
 use std::alloc::Global;
@@ -40,13 +40,25 @@ impl Taken {
     }
 }
 
+fn compares(receipt: Result<Receipt, Refusal>) -> Result<u128, Refusal> {
+    match receipt {
+        Ok(receipt) => {
+            let compares = receipt.compares;
+            drop(receipt);
+            Ok(compares)
+        }
+        Err(refusal) => Err(refusal),
+    }
+}
+
 fn edit_taken<C: Clock>(clock: &C, desk: &mut Desk, edit: Edit) -> io::Result<Taken> {
-    let start = Instant::now(clock)?;
-    let receipt = told(desk.apply(edit))?;
-    let nanoseconds = start.elapsed(clock)?.as_nanos();
+    let start = Instant::now(clock);
+    let receipt = desk.apply(edit);
+    let nanoseconds = since(clock, start);
+    let compares = told(compares(receipt))?;
     Ok(Taken {
-        compares: receipt.compares,
-        nanoseconds,
+        compares,
+        nanoseconds: nanoseconds?,
     })
 }
 

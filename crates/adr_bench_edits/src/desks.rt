@@ -9,7 +9,12 @@ use std::alloc::Global;
 /// The priority of an event that was not changed.
 pub(crate) const PRIORITY: u32 = 5;
 
-fn add_parties(alloc: Global, edits: &mut Vec<Edit>, count: usize) -> Result<(), Refusal> {
+/// Programs and vens for so many resources and events.
+pub(crate) fn add_parties(
+    alloc: Global,
+    edits: &mut Vec<Edit>,
+    count: usize,
+) -> Result<(), Refusal> {
     for number in 0..count / MEMBERS + 1 {
         edits.push(Edit::Create(program(alloc, number, None)?))?;
         edits.push(Edit::Create(ven(alloc, number, number)?))?;
@@ -17,7 +22,12 @@ fn add_parties(alloc: Global, edits: &mut Vec<Edit>, count: usize) -> Result<(),
     Ok(())
 }
 
-fn add_resources(alloc: Global, edits: &mut Vec<Edit>, count: usize) -> Result<(), Refusal> {
+/// So many resources.
+pub(crate) fn add_resources(
+    alloc: Global,
+    edits: &mut Vec<Edit>,
+    count: usize,
+) -> Result<(), Refusal> {
     for number in 0..count {
         edits.push(Edit::Create(resource(alloc, number, number / MEMBERS)?))?;
     }
@@ -60,8 +70,13 @@ fn apply_all(desk: &mut Desk, edits: Vec<Edit>) -> Result<(), Refusal> {
 /// A desk that the edits make, one after the other. Their batch is closed: an edit copies what is open.
 pub(crate) fn made_of(alloc: Global, edits: Vec<Edit>) -> Result<Desk, Refusal> {
     let mut desk = Desk::new(alloc, Tie::Newest)?;
-    apply_all(&mut desk, edits)?;
-    Ok(desk)
+    match apply_all(&mut desk, edits) {
+        Ok(()) => Ok(desk),
+        Err(refusal) => {
+            drop(desk);
+            Err(refusal)
+        }
+    }
 }
 
 /// The desk of these edits for so many resources.

@@ -1,9 +1,9 @@
 //! How books, desks and boards stand after many edits and publications, and how much repairs compare.
 //!
-//! With no word, all by count. With `books`, `desks` or `boards`: that part alone, and how long it takes. With `looks`: how
-//! often readers look in a second beside an editor that publishes. With `crews`: how long an edit takes by several workers,
-//! and a desk to be loaded. With `hold COUNT`: so many publications are held at once, for a measurement of memory from
-//! outside.
+//! With no word, all by count. With `books`, `desks`, `boards` or `workloads`: that part alone, and how long it takes.
+//! With `looks`: how often readers look in a second beside an editor that publishes. With `crews`: how long an edit takes
+//! by several workers, and a desk to be loaded. With `hold COUNT`: so many publications are held at once; with
+//! `live COUNT`: a board lives for so many thousand edits, while publications are held; both for measurements from outside.
 #![tactic(auto)]
 
 mod board_rows;
@@ -17,15 +17,18 @@ mod crews;
 mod desk_rows;
 mod desk_times;
 mod desks;
+mod lives;
 mod looking;
 mod publishing;
 mod told;
+mod workloads;
 mod works;
 
-use crate::board_rows::{print_boards, print_held, print_looks};
+use crate::board_rows::{print_boards, print_held, print_life, print_looks};
 use crate::book_rows::print_books;
 use crate::crews::print_crews;
 use crate::desk_rows::print_desks;
+use crate::workloads::print_workloads;
 use std::rt::{Clock, Env};
 use std::sync::Wait;
 use std::thread::Threads;
@@ -41,8 +44,10 @@ fn print_part<R: AllocGlobal + Print + Clock + Threads + Wait + Sync>(
         "books" => print_books(rt, true),
         "desks" => print_desks(rt, true),
         "boards" => print_boards(rt, true),
+        "workloads" => print_workloads(rt, true),
         "looks" => print_looks(rt),
         "crews" => print_crews(rt),
+        "live" => print_life(rt, count.parse::<u64>().unwrap_or(1)),
         _ => print_held(rt, count.parse::<usize>().unwrap_or(1)),
     }
 }
@@ -60,5 +65,7 @@ fn main(rt: HostRuntime) -> io::Result<()> {
     println!(&rt)?;
     print_desks(&rt, false)?;
     println!(&rt)?;
-    print_boards(&rt, false)
+    print_boards(&rt, false)?;
+    println!(&rt)?;
+    print_workloads(&rt, false)
 }

@@ -70,7 +70,26 @@ pub(crate) fn published<J: Naming, R: AllocGlobal + Clock + Wait>(
     taken
 }
 
-/// Looks after each of so many publications, and keeps what is seen until the last.
+/// Looks after each of so many publications, and keeps what is seen.
+fn keep_each<J: Naming, R: Wait>(
+    rt: &R,
+    alloc: Global,
+    editor: &mut Editor<J>,
+    reader: &mut Reader<J>,
+    kept: &mut Vec<Arc<Snapshot>>,
+    count: usize,
+) -> Result<(), Refusal> {
+    let mut price = 0_u64;
+    for _ in 0..count {
+        change(alloc, editor, price)?;
+        editor.publish(rt)?;
+        kept.push(reader.look()?)?;
+        price = price.wrapping_add(1);
+    }
+    Ok(())
+}
+
+/// The number of the last of so many publications, which are kept until then.
 fn hold<J: Naming, R: Wait>(
     rt: &R,
     alloc: Global,
@@ -79,18 +98,15 @@ fn hold<J: Naming, R: Wait>(
     count: usize,
 ) -> Result<u64, Refusal> {
     fill(rt, alloc, editor, MANY)?;
-    let mut kept: Vec<Arc<Snapshot>> = Vec::new(alloc);
     let Some(reader) = readers.first_mut() else {
         return Ok(0);
     };
-    let mut price = 0_u64;
-    for _ in 0..count {
-        change(alloc, editor, price)?;
-        editor.publish(rt)?;
-        kept.push(reader.look()?)?;
-        price = price.wrapping_add(1);
-    }
-    Ok(kept.last().map_or(0, |snapshot| snapshot.number()))
+    let mut kept: Vec<Arc<Snapshot>> = Vec::new(alloc);
+    let held = keep_each(rt, alloc, editor, reader, &mut kept, count);
+    let last = kept.last().map_or(0, |snapshot| snapshot.number());
+    drop(kept);
+    held?;
+    Ok(last)
 }
 
 /// The number of the last of so many publications that are held at once.

@@ -1,0 +1,92 @@
+//! Runs random scripts beside the plain machine, which scans: the replies must be the same bytes.
+//!
+//! With no word, short scripts and long ones under each rule for ties, by one worker and by three. With `FIRST COUNT`: a
+//! script of 400 lines for each of so many seeds from the first on. Where a script is answered otherwise, its seed is told.
+#![tactic(auto)]
+
+ghost use Rattle.std.specs.Prelude.{◌<◌, ◌≤◌};
+
+mod lines;
+mod plain;
+mod scripts;
+
+use crate::scripts::{Scripts, first_unlike};
+use adr_server::Tie;
+use std::rt::Env;
+use std::sync::Wait;
+use std::thread::Threads;
+use std::{env, io};
+
+/// What the gate runs.
+const SCRIPTS: [Scripts; 2] = [
+    Scripts {
+        first: 0,
+        count: 1500,
+        lines: 40,
+    },
+    Scripts {
+        first: 0,
+        count: 2,
+        lines: 4000,
+    },
+];
+
+fn name(tie: Tie) -> &'static str {
+    match tie {
+        Tie::Newest => "newest",
+        Tie::LatestStart => "latest-start",
+    }
+}
+
+/// Runs the scripts under a rule for ties, and tells what came of it.
+fn print_alike<R: AllocGlobal + Print + Threads + Wait>(
+    rt: &R,
+    tie: Tie,
+    workers: usize,
+    scripts: Scripts,
+) -> io::Result<()>
+    requires { (0 < workers) × (workers ≤ 64) }
+{
+    let unlike = first_unlike(rt, tie, workers, scripts)?;
+    let Scripts { count, lines, .. } = scripts;
+    let tie = name(tie);
+    print!(rt; "{count} scripts of {lines} lines, ties {tie}, workers {workers}: ")?;
+    match unlike {
+        None => println!(rt; "the same replies"),
+        Some(seed) => {
+            println!(rt; "seed {seed} has other replies")?;
+            Err(io::ErrorKind::InvalidData.into())
+        }
+    }
+}
+
+/// Runs the scripts under both rules for ties, by one worker and by three.
+fn print_all<R: AllocGlobal + Print + Threads + Wait>(rt: &R, scripts: Scripts) -> io::Result<()> {
+    for tie in [Tie::Newest, Tie::LatestStart] {
+        print_alike(rt, tie, 1, scripts)?;
+        print_alike(rt, tie, 3, scripts)?;
+    }
+    Ok(())
+}
+
+/// A number of the command line, or zero.
+fn number(word: Option<String>) -> u64 {
+    word.and_then(|word| word.parse::<u64>().ok()).unwrap_or(0)
+}
+
+fn main(rt: HostRuntime) -> io::Result<()> {
+    let mut words = env::args(&rt)?;
+    let _name = words.next();
+    if let Some(first) = words.next() {
+        let scripts = Scripts {
+            first: number(Some(first)),
+            count: number(words.next()),
+            lines: 400,
+        };
+        return print_all(&rt, scripts);
+    }
+    for scripts in SCRIPTS {
+        print_all(&rt, scripts)?;
+    }
+    Ok(())
+}

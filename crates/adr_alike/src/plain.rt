@@ -1,0 +1,50 @@
+//! The plain machine's replies to lines.
+use adr_plain::Plain;
+use adr_server::{Command, parse_line};
+use adr_value::Refusal;
+use std::alloc::{AllocError, Global};
+
+/// What the machine replies to a command, its line's end among it.
+fn answer(alloc: Global, machine: &mut Plain, command: Command) -> Result<Vec<u8>, Refusal> {
+    let text = match command {
+        Command::Edit(edit) => {
+            let version = machine.edit(edit)?;
+            format!(in alloc; "ok {version}\n")?
+        }
+        Command::Publish => {
+            let published = machine.publish()?;
+            let number = published.number;
+            let version = published.version;
+            format!(in alloc; "published {number} version {version}\n")?
+        }
+        Command::Condense => {
+            let version = machine.condense()?;
+            format!(in alloc; "condensed version {version}\n")?
+        }
+        Command::At(id, payload_type, moment) => return machine.at(&id, &payload_type, moment),
+        Command::List(id, payload_type, from, to) => {
+            return machine.list(&id, &payload_type, from, to);
+        }
+        Command::Roll(payload_type, moment) => return machine.roll(&payload_type, moment),
+        Command::Types(id) => return machine.types(&id),
+    };
+    Ok(text.into_bytes())
+}
+
+fn answer_line(alloc: Global, machine: &mut Plain, line: &str) -> Result<Vec<u8>, Refusal> {
+    let command = parse_line(alloc, line.as_bytes())?;
+    answer(alloc, machine, command)
+}
+
+/// What the machine replies to a line; a refusal by its number and name.
+pub(crate) fn reply(alloc: Global, machine: &mut Plain, line: &str) -> Result<Vec<u8>, AllocError> {
+    match answer_line(alloc, machine, line) {
+        Ok(answer) => Ok(answer),
+        Err(refusal) => {
+            let number = refusal.number();
+            let name = refusal.name();
+            let text = format!(in alloc; "refused {number} {name}\n")?;
+            Ok(text.into_bytes())
+        }
+    }
+}
