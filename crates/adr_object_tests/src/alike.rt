@@ -74,17 +74,33 @@ fn found_by<'a>(store: &'a Store, written: u64) -> Option<Facts<'a>> {
 /// Whether both have as many objects of the kind, and the same ones at each place.
 fn are_alike_in_order(store: &Store, other: &Store, kind: Kind) -> bool {
     let count = store.count(kind);
+    for place in 0..count {
+        if found_at(store, kind, place) != found_at(other, kind, place) {
+            return false;
+        }
+    }
     other.count(kind) == count
-        && (0..count).all(|place| found_at(store, kind, place) == found_at(other, kind, place))
+}
+
+/// Whether the events have the same numbers in both, in order.
+fn are_written_alike(store: &Store, other: &Store) -> bool {
+    for place in 0..store.count(Kind::Event) {
+        if store.written_at(place) != other.written_at(place) {
+            return false;
+        }
+    }
+    true
 }
 
 /// Whether both have the events by the same numbers.
 fn are_alike_by_number(store: &Store, other: &Store) -> bool {
-    let count = store.count(Kind::Event);
     let version = store.version();
+    for number in 0..=version {
+        if found_by(store, number) != found_by(other, number) {
+            return false;
+        }
+    }
     other.version() == version
-        && (0..count).all(|place| store.written_at(place) == other.written_at(place))
-        && (0..=version).all(|number| found_by(store, number) == found_by(other, number))
 }
 
 /// Whether both find the same by the id.
@@ -131,7 +147,8 @@ fn are_alike_of(
 /// Whether each look-up answers alike in both stores. An id is the first letter of its kind and a number below 64.
 pub(crate) fn are_alike(alloc: Global, store: &Store, other: &Store) -> Result<bool, Refusal> {
     Ok(
-        are_alike_by_number(store, other)
+        are_written_alike(store, other)
+            && are_alike_by_number(store, other)
             && are_alike_of(alloc, store, other, Kind::Program, "p")?
             && are_alike_of(alloc, store, other, Kind::Ven, "v")?
             && are_alike_of(alloc, store, other, Kind::Resource, "r")?

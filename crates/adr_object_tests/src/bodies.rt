@@ -1,5 +1,6 @@
 //! Bodies that end too early, and long ones.
 use crate::reading::{read_object, word};
+use crate::rows::{Asked, check};
 use adr_object::Id;
 use adr_value::Refusal;
 use std::alloc::Global;
@@ -19,7 +20,7 @@ ven v1 {"venName":"V","targets":[{"type":"GROUP","values":[false,1e2]}]}
 resource r1 {"resourceName":"R","venID":"v1","targets":[]}"#;
 
 /// Whether a body is read, and none of its beginnings.
-fn is_read_only_whole(alloc: Global, line: &str) -> Result<bool, Refusal> {
+pub(crate) fn is_read_only_whole(alloc: Global, line: &str) -> Result<bool, Refusal> {
     let (kind, line) = word(line)?;
     let (id, body) = word(line)?;
     let id = Id::read(alloc, id)?;
@@ -36,10 +37,7 @@ fn is_read_only_whole(alloc: Global, line: &str) -> Result<bool, Refusal> {
 
 #[test]
 fn beginnings_of_bodies_are_refused(rt: HostRuntime) -> Result<(), Fail> {
-    for line in OBJECTS.lines() {
-        assert!(rt; is_read_only_whole(rt.alloc(), line)?, "{line}");
-    }
-    Ok(())
+    check(rt.alloc(), Asked::Beginnings, OBJECTS, '\n')
 }
 
 /// Elements of a list, parted by bars.
@@ -60,12 +58,13 @@ fn outcome_of_list(alloc: Global, element: &str, end: &str) -> Result<(), Refusa
     outcome
 }
 
+/// Whether a long list of the element is read, and refused where it has no end.
+pub(crate) fn is_read_only_closed(alloc: Global, element: &str) -> Result<bool, Refusal> {
+    outcome_of_list(alloc, element, "]")?;
+    Ok(outcome_of_list(alloc, element, "") == Err(Refusal::BadJson))
+}
+
 #[test]
 fn long_lists_are_read(rt: HostRuntime) -> Result<(), Fail> {
-    for element in ELEMENTS.split('|') {
-        outcome_of_list(rt.alloc(), element, "]")?;
-        let open = outcome_of_list(rt.alloc(), element, "");
-        assert!(rt; open == Err(Refusal::BadJson), "{element}");
-    }
-    Ok(())
+    check(rt.alloc(), Asked::LongList, ELEMENTS, '|')
 }

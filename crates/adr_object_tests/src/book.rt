@@ -93,23 +93,46 @@ fn id_at<'a>(book: &'a Book, kind: Kind, place: usize) -> Option<&'a Id> {
     }
 }
 
+fn has_id(book: &Book, kind: Kind, place: usize, wanted: &str) -> bool {
+    match id_at(book, kind, place) {
+        Some(id) => id.text() == wanted,
+        None => false,
+    }
+}
+
 /// Whether the objects of a kind have these ids, in order.
 fn has_ids(book: &Book, kind: Kind, wanted: &[&str]) -> bool {
+    for (place, id) in wanted.iter().enumerate() {
+        if !has_id(book, kind, place, id) {
+            return false;
+        }
+    }
     book.count(kind) == wanted.len()
-        && wanted.iter().enumerate().all(|(
-            place,
-            id,
-        )| matches!(id_at(book, kind, place), Some(found) if found.text() == *id))
+}
+
+/// Whether the event with that id has the number, and is found by it.
+fn has_number(book: &Book, id: &Id, number: u64) -> bool {
+    match book.event_by(number) {
+        Some(event) => event.id.same(id) && book.written(id) == Some(number),
+        None => false,
+    }
+}
+
+fn has_event(book: &Book, place: usize, wanted: &str, number: u64) -> bool {
+    match id_at(book, Kind::Event, place) {
+        Some(id) => id.text() == wanted && has_number(book, id, number),
+        None => false,
+    }
 }
 
 /// Whether the events have these ids and numbers, in order, and are found by their numbers.
 fn has_events(book: &Book, wanted: &[(&str, u64)]) -> bool {
+    for (place, (id, number)) in wanted.iter().enumerate() {
+        if !has_event(book, place, id, *number) {
+            return false;
+        }
+    }
     book.count(Kind::Event) == wanted.len()
-        && wanted.iter().enumerate().all(|(place, (id, number))| {
-            matches!(book.event_at(place), Some(event) if event.id.text() == *id
-                    && book.written(&event.id) == Some(*number))
-                && matches!(book.event_by(*number), Some(event) if event.id.text() == *id)
-        })
 }
 
 const PLACES: &str = "0 create program p1 - 0 on

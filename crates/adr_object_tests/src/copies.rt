@@ -162,9 +162,10 @@ fn whole_copies(alloc: Global, book: &mut Book) -> Result<usize, Refusal> {
 
 /// Whether many objects of each kind stand, so that the trees have several levels.
 fn has_many(book: &Book) -> bool {
-    [Kind::Program, Kind::Ven, Kind::Resource, Kind::Event]
-        .iter()
-        .all(|kind| book.count(*kind) >= 16)
+    book.count(Kind::Program) >= 16
+        && book.count(Kind::Ven) >= 16
+        && book.count(Kind::Resource) >= 16
+        && book.count(Kind::Event) >= 16
 }
 
 #[test]

@@ -1,18 +1,19 @@
 //! The words that are ids.
+use crate::rows::{Asked, check};
 use adr_object::Id;
 use adr_value::{Refusal, TryClone};
 use std::alloc::Global;
 use std::test::Fail;
 
 /// Whether the id of a word has its characters.
-fn is_id(alloc: Global, word: &str) -> bool {
+pub(crate) fn is_id(alloc: Global, word: &str) -> bool {
     match Id::read(alloc, word) {
         Ok(id) => Id::fits(word) && id.text() == word,
         Err(_) => false,
     }
 }
 
-fn is_refused(alloc: Global, word: &str) -> bool {
+pub(crate) fn is_refused(alloc: Global, word: &str) -> bool {
     match Id::read(alloc, word) {
         Ok(_) => false,
         Err(refusal) => !Id::fits(word) && refusal == Refusal::BadId,
@@ -29,12 +30,10 @@ fn is_refused_by_length(alloc: Global, length: usize) -> Result<bool, Refusal> {
 
 #[test]
 fn an_id_has_1_to_128_characters(rt: HostRuntime) -> Result<(), Fail> {
-    for length in [1, 128] {
-        assert!(rt; is_id_of_length(rt.alloc(), length)?, "{length}");
-    }
-    for length in [0, 129] {
-        assert!(rt; is_refused_by_length(rt.alloc(), length)?, "{length}");
-    }
+    assert!(rt; is_id_of_length(rt.alloc(), 1)?);
+    assert!(rt; is_id_of_length(rt.alloc(), 128)?);
+    assert!(rt; is_refused_by_length(rt.alloc(), 0)?);
+    assert!(rt; is_refused_by_length(rt.alloc(), 129)?);
     Ok(())
 }
 
@@ -44,13 +43,9 @@ const IDS: &str = "a|z|A|Z|0|9|_|-|az-AZ_09";
 const OTHERS: &str = "`|{|@|[|/|:|^|,|.| |a b|é|r/1|a\n";
 
 #[test]
-fn an_id_has_letters_digits_underscores_and_hyphens(rt: HostRuntime) {
-    for word in IDS.split('|') {
-        assert!(rt; is_id(rt.alloc(), word), "{word}");
-    }
-    for word in OTHERS.split('|') {
-        assert!(rt; is_refused(rt.alloc(), word), "{word}");
-    }
+fn an_id_has_letters_digits_underscores_and_hyphens(rt: HostRuntime) -> Result<(), Fail> {
+    check(rt.alloc(), Asked::Id, IDS, '|')?;
+    check(rt.alloc(), Asked::NoId, OTHERS, '|')
 }
 
 fn is_like(alloc: Global, id: &Id, other: &str) -> Result<bool, Refusal> {

@@ -1,4 +1,5 @@
 //! Where the intervals of an event lie.
+use crate::rows::{Asked, check};
 use adr_layout::lay_out;
 use adr_model::Placed;
 use adr_object::{Event, Id};
@@ -95,7 +96,8 @@ fn is_laid_out(alloc: Global, event: &Event, wanted: &str) -> Result<bool, Refus
     }
 }
 
-fn is_row(alloc: Global, line: &str) -> Result<bool, Refusal> {
+/// Whether the event of a row is laid out as the row says.
+pub(crate) fn is_row(alloc: Global, line: &str) -> Result<bool, Refusal> {
     let (default, rest) = part(line)?;
     let (periods, wanted) = part(rest)?;
     let event = event_with(alloc, default, periods)?;
@@ -106,10 +108,7 @@ fn is_row(alloc: Global, line: &str) -> Result<bool, Refusal> {
 
 #[test]
 fn intervals_lie_where_their_periods_say(rt: HostRuntime) -> Result<(), Fail> {
-    for line in LAYOUTS.lines() {
-        assert!(rt; is_row(rt.alloc(), line)?, "{line}");
-    }
-    Ok(())
+    check(rt.alloc(), Asked::Layout, LAYOUTS, '\n')
 }
 
 /// How many spans an event has that has no intervals.

@@ -23,6 +23,8 @@ mod objects;
 #[cfg(test)]
 mod reading;
 #[cfg(test)]
+mod rows;
+#[cfg(test)]
 mod targets;
 #[cfg(test)]
 mod touches;

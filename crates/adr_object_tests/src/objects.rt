@@ -1,7 +1,8 @@
 //! Objects and edits, and copies of them.
-use crate::reading::{edit, object, word};
+use crate::reading::{edit, kind_of, object, shared, word};
+use crate::rows::{Asked, check};
 use adr_object::{
-    Edit, Event, Interval, Kind, Object, Payload, Period, Program, Resource, Shared, Target, Ven,
+    Edit, Event, Interval, Kind, Object, Payload, Period, Program, Resource, Target, Ven,
 };
 use adr_time::{Length, Moment, end_of};
 use adr_value::{Datum, Refusal, Text};
@@ -136,12 +137,10 @@ fn same_edits(a: &Edit, b: &Edit) -> bool {
 /// An object equal to this one, in memory of its own.
 fn renewed(alloc: Global, object: &Object) -> Result<Object, Refusal> {
     match object {
-        Object::Program(program) => Ok(Object::Program(Shared::new(alloc, program.get().copy()?)?)),
-        Object::Event(event) => Ok(Object::Event(Shared::new(alloc, event.get().copy()?)?)),
-        Object::Ven(ven) => Ok(Object::Ven(Shared::new(alloc, ven.get().copy()?)?)),
-        Object::Resource(resource) => {
-            Ok(Object::Resource(Shared::new(alloc, resource.get().copy()?)?))
-        }
+        Object::Program(program) => Ok(Object::Program(shared(alloc, program.get().copy())?)),
+        Object::Event(event) => Ok(Object::Event(shared(alloc, event.get().copy())?)),
+        Object::Ven(ven) => Ok(Object::Ven(shared(alloc, ven.get().copy())?)),
+        Object::Resource(resource) => Ok(Object::Resource(shared(alloc, resource.get().copy())?)),
     }
 }
 
@@ -153,13 +152,13 @@ fn is_whole(alloc: Global, object: &Object, kind: Kind) -> Result<bool, Refusal>
     Ok(is_copied && object.kind() == kind)
 }
 
-/// Whether the object of a line has that kind and its id, and its copy in memory of its own is equal.
-fn is_read_whole(alloc: Global, line: &str, kind: Kind) -> Result<bool, Refusal> {
-    let (_, after_kind) = word(line)?;
+/// Whether the object of a line has its kind and id, and its copy in memory of its own is equal.
+pub(crate) fn is_read_whole(alloc: Global, line: &str) -> Result<bool, Refusal> {
+    let (kind, after_kind) = word(line)?;
     let (id, _) = word(after_kind)?;
     let object = object(alloc, line)?;
     let has_id = object.id().text() == id;
-    let is_whole = is_whole(alloc, &object, kind);
+    let is_whole = is_whole(alloc, &object, kind_of(kind));
     drop(object);
     Ok(has_id && is_whole?)
 }
@@ -170,14 +169,9 @@ event e1 {"programID":"p1","eventName":"N","priority":3,"targets":[{"type":"GROU
 ven v1 {"venName":"V","targets":[{"type":"GROUP","values":[true]}]}
 resource r1 {"resourceName":"R","venID":"v1","targets":[{"type":"GROUP","values":[true]}]}"#;
 
-const KINDS: [Kind; 4] = [Kind::Program, Kind::Event, Kind::Ven, Kind::Resource];
-
 #[test]
 fn objects_are_copied(rt: HostRuntime) -> Result<(), Fail> {
-    for (kind, line) in KINDS.iter().zip(OBJECTS.lines()) {
-        assert!(rt; is_read_whole(rt.alloc(), line, *kind)?, "{line}");
-    }
-    Ok(())
+    check(rt.alloc(), Asked::Object, OBJECTS, '\n')
 }
 
 fn is_edit_copied(edit: &Edit) -> Result<bool, Refusal> {
@@ -187,7 +181,7 @@ fn is_edit_copied(edit: &Edit) -> Result<bool, Refusal> {
     Ok(is_copied)
 }
 
-fn is_read_edit_copied(alloc: Global, line: &str) -> Result<bool, Refusal> {
+pub(crate) fn is_read_edit_copied(alloc: Global, line: &str) -> Result<bool, Refusal> {
     let edit = edit(alloc, line)?;
     let is_copied = is_edit_copied(&edit);
     drop(edit);
@@ -200,8 +194,5 @@ delete ven v1 {}"#;
 
 #[test]
 fn edits_are_copied(rt: HostRuntime) -> Result<(), Fail> {
-    for line in EDITS.lines() {
-        assert!(rt; is_read_edit_copied(rt.alloc(), line)?, "{line}");
-    }
-    Ok(())
+    check(rt.alloc(), Asked::Edit, EDITS, '\n')
 }

@@ -13,6 +13,14 @@ pub(crate) fn word(line: &str) -> Result<(&str, &str), Refusal> {
     line.split_once(' ').ok_or(Refusal::BadLine)
 }
 
+/// What was read or copied, where it may have several owners.
+pub(crate) fn shared<T: Drop>(
+    alloc: Global,
+    value: Result<T, Refusal>,
+) -> Result<Shared<T>, Refusal> {
+    Shared::new(alloc, value?)
+}
+
 /// The object of a body on a line of that kind and id.
 pub(crate) fn read_object(
     alloc: Global,
@@ -22,20 +30,20 @@ pub(crate) fn read_object(
 ) -> Result<Object, Refusal> {
     match kind {
         "program" => {
-            let program = read_program(alloc, body, id, Moment::MIN)?;
-            Ok(Object::Program(Shared::new(alloc, program)?))
+            let program = read_program(alloc, body, id, Moment::MIN);
+            Ok(Object::Program(shared(alloc, program)?))
         }
         "ven" => {
-            let ven = read_ven(alloc, body, id, Moment::MIN)?;
-            Ok(Object::Ven(Shared::new(alloc, ven)?))
+            let ven = read_ven(alloc, body, id, Moment::MIN);
+            Ok(Object::Ven(shared(alloc, ven)?))
         }
         "resource" => {
-            let resource = read_resource(alloc, body, id, Moment::MIN)?;
-            Ok(Object::Resource(Shared::new(alloc, resource)?))
+            let resource = read_resource(alloc, body, id, Moment::MIN);
+            Ok(Object::Resource(shared(alloc, resource)?))
         }
         _ => {
-            let event = read_event(alloc, body, id, Moment::MIN)?;
-            Ok(Object::Event(Shared::new(alloc, event)?))
+            let event = read_event(alloc, body, id, Moment::MIN);
+            Ok(Object::Event(shared(alloc, event)?))
         }
     }
 }
@@ -50,7 +58,7 @@ pub(crate) fn object(alloc: Global, line: &str) -> Result<Object, Refusal> {
     object
 }
 
-fn kind_of(word: &str) -> Kind {
+pub(crate) fn kind_of(word: &str) -> Kind {
     match word {
         "program" => Kind::Program,
         "ven" => Kind::Ven,

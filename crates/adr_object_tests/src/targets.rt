@@ -1,6 +1,7 @@
 //! Which targets match, and which events apply.
 use crate::edits::apply;
 use crate::reading::{edit, word};
+use crate::rows::{Asked, check};
 use adr_book::Book;
 use adr_rule::{Scene, applies, matches};
 use adr_value::Refusal;
@@ -103,25 +104,20 @@ fn event_matches(book: &Book) -> bool {
     }
 }
 
-fn does_match(alloc: Global, list: &str) -> Result<bool, Refusal> {
+/// Whether the list of a row matches where the row says so.
+pub(crate) fn does_match(alloc: Global, row: &str) -> Result<bool, Refusal> {
+    let (wanted, list) = word(row)?;
     let mut book = Book::new(alloc);
     let set = set(alloc, &mut book, r#""E""#, list, "[]");
     let does_match = event_matches(&book);
     drop(book);
     set?;
-    Ok(does_match)
+    Ok(does_match == (wanted == "true"))
 }
 
 #[test]
 fn a_list_matches_by_each_of_its_types(rt: HostRuntime) -> Result<(), Fail> {
-    for line in LISTS.lines() {
-        let (wanted, list) = word(line)?;
-        assert!(rt;
-            does_match(rt.alloc(), list)? == (wanted == "true"),
-            "{line}"
-        );
-    }
-    Ok(())
+    check(rt.alloc(), Asked::Match, LISTS, '\n')
 }
 
 fn event_applies(book: &Book) -> bool {
@@ -131,7 +127,9 @@ fn event_applies(book: &Book) -> bool {
     }
 }
 
-fn does_apply(alloc: Global, line: &str) -> Result<bool, Refusal> {
+/// Whether the event of a row applies where the row says so.
+pub(crate) fn does_apply(alloc: Global, row: &str) -> Result<bool, Refusal> {
+    let (wanted, line) = word(row)?;
     let (name, line) = word(line)?;
     let (asked, of_program) = word(line)?;
     let mut book = Book::new(alloc);
@@ -139,17 +137,10 @@ fn does_apply(alloc: Global, line: &str) -> Result<bool, Refusal> {
     let does_apply = event_applies(&book);
     drop(book);
     set?;
-    Ok(does_apply)
+    Ok(does_apply == (wanted == "true"))
 }
 
 #[test]
 fn an_event_applies_where_it_and_its_program_match(rt: HostRuntime) -> Result<(), Fail> {
-    for line in APPLIES.lines() {
-        let (wanted, asked) = word(line)?;
-        assert!(rt;
-            does_apply(rt.alloc(), asked)? == (wanted == "true"),
-            "{line}"
-        );
-    }
-    Ok(())
+    check(rt.alloc(), Asked::Application, APPLIES, '\n')
 }

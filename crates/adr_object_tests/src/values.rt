@@ -1,5 +1,6 @@
 //! The values under a type: equal ones, copies, and those that have a payload type's shape.
 use crate::reading::word;
+use crate::rows::{Asked, check};
 use adr_object::{Id, Program};
 use adr_read::read_program;
 use adr_time::Moment;
@@ -34,11 +35,12 @@ false [true,false]
 true [{"x":1,"y":2},{"x":1,"y":20e-1}]
 false [{"x":1,"y":2},{"x":2,"y":1}]"#;
 
-/// Whether two values of a JSON list are the same.
-fn are_same(alloc: Global, values: &str) -> Result<bool, Refusal> {
+/// Whether two values of a JSON list are the same where the row says so.
+pub(crate) fn are_same(alloc: Global, row: &str) -> Result<bool, Refusal> {
+    let (wanted, values) = word(row)?;
     let program = program_with(alloc, values)?;
     let are_same = match values_of(&program) {
-        [a, b] => Ok(a.same(b)),
+        [a, b] => Ok(a.same(b) == (wanted == "true")),
         _ => Err(Refusal::TooMany),
     };
     drop(program);
@@ -47,14 +49,7 @@ fn are_same(alloc: Global, values: &str) -> Result<bool, Refusal> {
 
 #[test]
 fn values_are_the_same_where_they_are_equal(rt: HostRuntime) -> Result<(), Fail> {
-    for line in PAIRS.lines() {
-        let (wanted, values) = word(line)?;
-        assert!(rt;
-            are_same(rt.alloc(), values)? == (wanted == "true"),
-            "{line}"
-        );
-    }
-    Ok(())
+    check(rt.alloc(), Asked::SameValues, PAIRS, '\n')
 }
 
 fn is_copied(value: &Datum) -> Result<bool, Refusal> {
@@ -109,7 +104,10 @@ fn number_of(alloc: Global, kind: &PayloadType, values: &str) -> Result<u8, Refu
     Ok(number)
 }
 
-fn is_checked(alloc: Global, kind: &str, wanted: &str, values: &str) -> Result<bool, Refusal> {
+/// Whether the values of a row are refused with its number, as values of its payload type.
+pub(crate) fn is_checked(alloc: Global, row: &str) -> Result<bool, Refusal> {
+    let (kind, rest) = word(row)?;
+    let (wanted, values) = word(rest)?;
     let kind = PayloadType::type_of(alloc, kind)?;
     let number = number_of(alloc, &kind, values);
     drop(kind);
@@ -118,11 +116,6 @@ fn is_checked(alloc: Global, kind: &str, wanted: &str, values: &str) -> Result<b
 
 #[test]
 fn values_have_the_shape_of_their_type(rt: HostRuntime) -> Result<(), Fail> {
-    for line in SHAPES.lines() {
-        let (kind, rest) = word(line)?;
-        let (wanted, values) = word(rest)?;
-        assert!(rt; is_checked(rt.alloc(), kind, wanted, values)?, "{line}");
-    }
     assert!(rt; Shape::Any.fits(&[Datum::Truth(false)]));
-    Ok(())
+    check(rt.alloc(), Asked::Shape, SHAPES, '\n')
 }
