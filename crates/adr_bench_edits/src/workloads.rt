@@ -242,7 +242,11 @@ fn taken_on<C: Clock>(
 }
 
 /// How many windows the first edit touches, and what all others take.
-fn taken<C: Clock>(clock: &C, alloc: Global, workload: Workload) -> io::Result<(usize, Taken)> {
+fn work_taken<C: Clock>(
+    clock: &C,
+    alloc: Global,
+    workload: Workload,
+) -> io::Result<(usize, Taken)> {
     let mut desk = told(made(alloc, workload))?;
     let taken = taken_on(clock, alloc, &mut desk, workload);
     drop(desk);
@@ -254,7 +258,7 @@ fn print_workload<R: AllocGlobal + Print + Clock>(
     workload: Workload,
     is_timed: bool,
 ) -> io::Result<()> {
-    let (windows, taken) = taken(rt, rt.alloc(), workload)?;
+    let (windows, taken) = work_taken(rt, rt.alloc(), workload)?;
     let (name, compares) = (workload.name(), taken.compares);
     print!(rt; "| {name} | {windows} | {compares} |")?;
     if is_timed {
