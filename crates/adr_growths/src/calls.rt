@@ -1,7 +1,7 @@
 //! The calls of a book.
 use adr_book::{Book, judge};
-use adr_object::{Edit, Id};
-use adr_same::{same_book, same_by_id, tell_ordinary, tell_refused, tell_same, told};
+use adr_object::Edit;
+use adr_same::{edited_id, same_book, same_by_id, tell_ordinary, tell_refused, tell_same, told};
 use adr_test_edits::edit;
 use adr_value::Refusal;
 use std::alloc::Global;
@@ -28,14 +28,8 @@ impl Books {
 
     /// Whether they are the same also where the edit's id is not there.
     fn are_same_beside(&self, edit: &Edit) -> bool {
-        self.are_same() && same_by_id(self.book.objects(), self.twin.objects(), id_of(edit))
-    }
-}
-
-fn id_of(edit: &Edit) -> &Id {
-    match edit {
-        Edit::Create(object) | Edit::Change(object) => object.id(),
-        Edit::Remove(_, id) => id,
+        let id = edited_id(edit);
+        self.are_same() && same_by_id(self.book.objects(), self.twin.objects(), id)
     }
 }
 

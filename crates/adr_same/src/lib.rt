@@ -5,7 +5,9 @@
 mod books;
 mod objects;
 mod telling;
+mod timelines;
 
 pub use books::{same_book, same_by_id, same_journal, same_store};
-pub use objects::{Same, same_option};
+pub use objects::{Same, edited_id, same_option};
 pub use telling::{tell_ordinary, tell_refused, tell_same, told};
+pub use timelines::same_timeline;

@@ -1,5 +1,7 @@
 //! Objects and edits.
-use adr_object::{Edit, Event, Interval, Object, Payload, Period, Program, Resource, Target, Ven};
+use adr_object::{
+    Edit, Event, Id, Interval, Object, Payload, Period, Program, Resource, Target, Ven,
+};
 use adr_time::{Length, Moment, end_of};
 use adr_value::{Datum, Text};
 
@@ -150,5 +152,13 @@ impl Same for Edit {
             (Edit::Remove(a, id), Edit::Remove(b, other)) => *a == *b && id.same(other),
             _ => false,
         }
+    }
+}
+
+/// The id of what the edit creates, changes or removes.
+pub fn edited_id(edit: &Edit) -> &Id {
+    match edit {
+        Edit::Create(object) | Edit::Change(object) => object.id(),
+        Edit::Remove(_, id) => id,
     }
 }
