@@ -1,0 +1,111 @@
+//! Boards that are opened and closed.
+ghost use Rattle.std.specs.Prelude.{◌≡◌, [], IfOk};
+ghost use Rattle.adr_model.specs.Book.{empty};
+
+use adr_board::{Board, Desk, Editor, Naming, NewBoard, Reader};
+use adr_model::Tie;
+use adr_object::Edit;
+use adr_same::{tell_ordinary, tell_same, told};
+use adr_test_edits::edit;
+use adr_value::Refusal;
+use std::alloc::Global;
+use std::io;
+use std::marker::Brand;
+use std::sync::Wait;
+use std::thread::Threads;
+
+/// How many readers each board has.
+pub(crate) const READERS: usize = 2;
+
+/// What the desk is made of that a board is opened over.
+const EDITS: &str = "create program p1
+create ven v1
+create resource r1 v1
+create event e1 p1 2024-01-01T00:00:00Z PT2H 3 10 -";
+
+/// Ends the board, and answers the version of its desk.
+fn end<J: Naming, R: Wait>(rt: &R, editor: Editor<J>, readers: Vec<Reader<J>>) -> u64 {
+    let version = editor.desk().book().version();
+    drop(readers);
+    editor.close(rt);
+    version
+}
+
+fn open<J: Naming, R: AllocGlobal + Wait>(rt: &R, board: NewBoard) -> Result<u64, Refusal>
+    requires { board.diary.page.book ≡ J.history }
+{
+    let (editor, readers) = Board::open::<J, R>(rt.alloc(), rt, board, Tie::Newest, READERS)?;
+    Ok(end(rt, editor, readers))
+}
+
+fn open_new<R: AllocGlobal + Wait>(rt: &R) -> Result<u64, Refusal> {
+    open::<Brand, R>(rt, NewBoard::new())
+}
+
+/// Opens a board, and ends it.
+pub(crate) fn try_open<R: AllocGlobal + Print + Wait>(rt: &R) -> io::Result<()> {
+    println!(rt; "open: version 0")?;
+    let mut answer = open_new(rt);
+    if answer.is_err() {
+        println!(rt; "  refused")?;
+        answer = open_new(rt);
+    }
+    tell_ordinary(rt, answer)
+}
+
+fn over<J: Naming, R: AllocGlobal + Wait>(
+    rt: &R,
+    board: NewBoard,
+    desk: Desk,
+) -> Result<u64, Refusal>
+    requires history { board.diary.page.book ≡ J.history }
+    requires base { desk.book.base ≡ empty }
+    requires closed { desk.book.closed ≡ [] }
+{
+    let (editor, readers) = Board::over::<J, R>(rt.alloc(), rt, board, desk, READERS)?;
+    Ok(end(rt, editor, readers))
+}
+
+fn over_new<R: AllocGlobal + Wait>(rt: &R, desk: Desk) -> Result<u64, Refusal>
+    requires base { desk.book.base ≡ empty }
+    requires closed { desk.book.closed ≡ [] }
+{
+    over::<Brand, R>(rt, NewBoard::new(), desk)
+}
+
+/// The desk of those edits.
+fn desk_of<R: AllocGlobal + Threads + Sync>(rt: &R) -> Result<Desk, Refusal>
+    ensures base { IfOk result (λ desk. desk.book.base ≡ empty) }
+    ensures closed { IfOk result (λ desk. desk.book.closed ≡ []) }
+{
+    let edits = edits_of(rt.alloc())?;
+    let (desk, answers) = Desk::load(rt, rt.alloc(), edits, Tie::Newest)?;
+    drop(answers);
+    Ok(desk)
+}
+
+fn edits_of(alloc: Global) -> Result<Vec<Edit>, Refusal> {
+    let mut edits = Vec::new(alloc);
+    for line in EDITS.lines() {
+        edits.push(edit(alloc, line)?)?;
+    }
+    Ok(edits)
+}
+
+fn over_again<R: AllocGlobal + Wait + Threads + Sync>(rt: &R) -> Result<u64, Refusal> {
+    let desk = desk_of(rt)?;
+    over_new(rt, desk)
+}
+
+/// Opens a board over a desk, and ends it.
+pub(crate) fn try_over<R: AllocGlobal + Print + Wait + Threads + Sync>(rt: &R) -> io::Result<()> {
+    let desk = told(desk_of(rt))?;
+    println!(rt; "over: version 4")?;
+    let mut answer = over_new(rt, desk);
+    if answer.is_err() {
+        println!(rt; "  refused")?;
+        answer = over_again(rt);
+    }
+    tell_ordinary(rt, answer)?;
+    tell_same(rt, answer == Ok(4))
+}
