@@ -4,6 +4,7 @@ ghost use Rattle.std.specs.Prelude.{◌≡◌};
 use crate::replayed::is_replayed;
 use adr_board::{Board, Editor, Naming, NewBoard, Reader};
 use adr_model::Tie;
+use adr_snapshot::Snapshot;
 use adr_test_edits::edit;
 use adr_value::Refusal;
 use std::alloc::Global;
@@ -28,11 +29,23 @@ delete event e1";
 fn see_the_opening<J: Naming>(readers: &mut [Reader<J>]) -> Result<bool, Refusal> {
     for reader in readers.iter_mut() {
         let shown = reader.look()?;
-        if shown.number() != 0 || shown.version() != 0 {
+        let is_opening = shown.number() == 0 && shown.version() == 0;
+        drop(shown);
+        if !is_opening {
             return Ok(false);
         }
     }
     Ok(true)
+}
+
+pub(crate) fn make<J: Naming>(
+    alloc: Global,
+    editor: &mut Editor<J>,
+    line: &str,
+) -> Result<(), Refusal> {
+    let receipt = editor.apply(edit(alloc, line)?)?;
+    drop(receipt);
+    Ok(())
 }
 
 fn publish_each<J: Naming, R: Wait>(
@@ -42,21 +55,57 @@ fn publish_each<J: Naming, R: Wait>(
     lines: &str,
 ) -> Result<(), Refusal> {
     for line in lines.lines() {
-        editor.apply(edit(alloc, line)?)?;
+        make(alloc, editor, line)?;
         editor.publish(rt)?;
     }
     Ok(())
 }
 
-fn apply_each<J: Naming>(
+pub(crate) fn apply_each<J: Naming>(
     alloc: Global,
     editor: &mut Editor<J>,
     lines: &str,
 ) -> Result<(), Refusal> {
     for line in lines.lines() {
-        editor.apply(edit(alloc, line)?)?;
+        make(alloc, editor, line)?;
     }
     Ok(())
+}
+
+/// Whether the snapshot has that number and version, and is what its journal leaves.
+fn is_at(alloc: Global, snapshot: &Snapshot, number: u64, version: u64) -> Result<bool, Refusal> {
+    Ok(
+        snapshot.number() == number
+            && snapshot.version() == version
+            && is_replayed(alloc, snapshot)?,
+    )
+}
+
+/// Whether the reader's next look shows the publication of that number and version.
+fn sees<J: Naming>(
+    alloc: Global,
+    reader: &mut Reader<J>,
+    number: u64,
+    version: u64,
+) -> Result<bool, Refusal> {
+    let shown = reader.look()?;
+    let is_at = is_at(alloc, &*shown, number, version);
+    drop(shown);
+    is_at
+}
+
+/// Whether an old snapshot stays as it was through three publications, and the reader sees the last of them once it is told.
+fn goes_on_beside<J: Naming, R: Wait>(
+    rt: &R,
+    alloc: Global,
+    editor: &mut Editor<J>,
+    reader: &mut Reader<J>,
+    old: &Snapshot,
+) -> Result<bool, Refusal> {
+    publish_each(rt, alloc, editor, LATER)?;
+    let is_kept = is_at(alloc, old, 1, 4)?;
+    reader.learn(&editor.tell());
+    Ok(is_kept && sees(alloc, reader, 4, 7)?)
 }
 
 /// A reader keeps a snapshot through three publications, which show other edits: it stays as it was, and after it is
@@ -70,11 +119,9 @@ fn keeps_an_old_snapshot<J: Naming, R: Wait>(
     apply_each(alloc, editor, FIRST)?;
     editor.publish(rt)?;
     let old = reader.look()?;
-    publish_each(rt, alloc, editor, LATER)?;
-    let is_kept = old.number() == 1 && old.version() == 4 && is_replayed(alloc, &*old)?;
-    reader.learn(&editor.tell());
-    let shown = reader.look()?;
-    Ok(is_kept && shown.number() == 4 && shown.version() == 7 && is_replayed(alloc, &*shown)?)
+    let is_kept = goes_on_beside(rt, alloc, editor, reader, &*old);
+    drop(old);
+    is_kept
 }
 
 fn first_keeps_an_old_snapshot<J: Naming, R: Wait>(

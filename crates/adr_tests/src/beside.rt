@@ -1,10 +1,11 @@
 //! Readers in threads of their own, beside an editor that publishes as fast as it can.
 ghost use Rattle.std.specs.Prelude.{◌≡◌};
 
+use crate::alone::{apply_each, make};
 use crate::replayed::is_replayed;
 use adr_board::{Board, Editor, Naming, NewBoard, Reader};
 use adr_model::Tie;
-use adr_test_edits::edit;
+use adr_snapshot::Snapshot;
 use adr_value::Refusal;
 use std::alloc::Global;
 use std::marker::Brand;
@@ -42,12 +43,19 @@ struct Looker<J: Naming> {
     is_right: bool,
 }
 
+/// Whether a snapshot that is seen after the publication of that number is another one, later and what its journal leaves.
+fn is_right_after(alloc: Global, shown: &Snapshot, last: u64) -> Result<bool, Refusal> {
+    Ok(last < shown.number() && is_replayed(alloc, shown)?)
+}
+
 /// One look. Whether the reader goes on.
 fn look_once<J: Naming>(alloc: Global, looker: &mut Looker<J>) -> Result<bool, Refusal> {
     let shown = looker.reader.look()?;
     let number = shown.number();
+    let is_right = is_right_after(alloc, &*shown, looker.last);
+    drop(shown);
     if number != looker.last {
-        looker.is_right = looker.last < number && is_replayed(alloc, &*shown)?;
+        looker.is_right = is_right?;
     }
     looker.last = number;
     Ok(looker.is_right && number < PUBLICATIONS)
@@ -72,9 +80,7 @@ fn publish_first<J: Naming, R: Wait>(
     alloc: Global,
     editor: &mut Editor<J>,
 ) -> Result<(), Refusal> {
-    for line in FIRST.lines() {
-        editor.apply(edit(alloc, line)?)?;
-    }
+    apply_each(alloc, editor, FIRST)?;
     editor.publish(rt)?;
     Ok(())
 }
@@ -85,7 +91,7 @@ fn publish_other<J: Naming, R: Wait>(
     editor: &mut Editor<J>,
     line: &str,
 ) -> Result<(), Refusal> {
-    editor.apply(edit(alloc, line)?)?;
+    make(alloc, editor, line)?;
     editor.publish(rt)?;
     Ok(())
 }

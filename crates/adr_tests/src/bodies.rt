@@ -26,7 +26,9 @@ fn is_randomized(period: &Option<Period>, start: Moment) -> bool {
 fn keeps_randomization(alloc: Global, now: Moment) -> Result<bool, Refusal> {
     let id = Id::read(alloc, "e1")?;
     let event = read_event(alloc, EVENT.as_bytes(), &id, now)?;
-    Ok(is_randomized(&event.interval_period, now) && event.intervals.len() == 3)
+    let is_kept = is_randomized(&event.interval_period, now) && event.intervals.len() == 3;
+    drop(event);
+    Ok(is_kept)
 }
 
 #[test]

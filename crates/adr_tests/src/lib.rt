@@ -1,19 +1,13 @@
 #![tactic(auto)]
-//! Tests that cross crates, of what no transcript can say: random scripts beside the plain machine, streams that fail,
-//! hostile bytes and command lines; and of a board, what runs of its steps show and what a reader keeps.
+//! Tests that cross crates, of what no transcript can say: streams that fail, hostile bytes and command lines; and of a
+//! board, what runs of its steps show and what a reader keeps.
 
-#[cfg(test)]
-mod alike;
 #[cfg(test)]
 mod alone;
 #[cfg(test)]
 mod beside;
 #[cfg(test)]
 mod bodies;
-#[cfg(test)]
-mod lines;
-#[cfg(test)]
-mod plain;
 #[cfg(test)]
 mod replayed;
 #[cfg(test)]

@@ -22,16 +22,15 @@ fn make_all(plain: &mut Plain, edits: &SharedList<Edit>) -> Result<(), Refusal> 
     Ok(())
 }
 
-/// The plain machine's publication of the edits in the closed batches.
-fn published(alloc: Global, snapshot: &Snapshot) -> Result<Plain, Refusal> {
-    let mut plain = Plain::new(alloc, snapshot.tie());
+/// Publishes the edits in the closed batches.
+fn publish(plain: &mut Plain, snapshot: &Snapshot) -> Result<(), Refusal> {
     let journal = snapshot.book().journal();
     for place in 0..journal.closed().len() {
         let batch = journal.closed().at(place).ok_or(Refusal::NotThere)?;
-        make_all(&mut plain, batch.edits())?;
+        make_all(plain, batch.edits())?;
     }
     plain.publish()?;
-    Ok(plain)
+    Ok(())
 }
 
 /// Whether both answer the same bytes of the prices of all resources at the moment.
@@ -56,10 +55,15 @@ fn answers_alike(alloc: Global, snapshot: &Snapshot, plain: &Plain) -> Result<bo
     Ok(true)
 }
 
+fn is_answered_by(alloc: Global, snapshot: &Snapshot, plain: &mut Plain) -> Result<bool, Refusal> {
+    publish(plain, snapshot)?;
+    answers_alike(alloc, snapshot, plain)
+}
+
 /// Whether the snapshot answers what the plain machine does over the same edits.
 pub(crate) fn is_replayed(alloc: Global, snapshot: &Snapshot) -> Result<bool, Refusal> {
-    let plain = published(alloc, snapshot)?;
-    let is_alike = answers_alike(alloc, snapshot, &plain);
+    let mut plain = Plain::new(alloc, snapshot.tie());
+    let is_answered = is_answered_by(alloc, snapshot, &mut plain);
     drop(plain);
-    is_alike
+    is_answered
 }
