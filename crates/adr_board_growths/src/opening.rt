@@ -23,9 +23,13 @@ create ven v1
 create resource r1 v1
 create event e1 p1 2024-01-01T00:00:00Z PT2H 3 10 -";
 
+fn version_of<J: Naming>(editor: &Editor<J>) -> u64 {
+    editor.desk().book().version()
+}
+
 /// Ends the board, and answers the version of its desk.
 fn end<J: Naming, R: Wait>(rt: &R, editor: Editor<J>, readers: Vec<Reader<J>>) -> u64 {
-    let version = editor.desk().book().version();
+    let version = version_of(&editor);
     drop(readers);
     editor.close(rt);
     version
@@ -84,10 +88,16 @@ fn desk_of<R: AllocGlobal + Threads + Sync>(rt: &R) -> Result<Desk, Refusal>
     Ok(desk)
 }
 
+fn add_edit(alloc: Global, line: &str, edits: &mut Vec<Edit>) -> Result<(), Refusal> {
+    let edit = edit(alloc, line)?;
+    edits.push(edit)?;
+    Ok(())
+}
+
 fn edits_of(alloc: Global) -> Result<Vec<Edit>, Refusal> {
     let mut edits = Vec::new(alloc);
     for line in EDITS.lines() {
-        edits.push(edit(alloc, line)?)?;
+        add_edit(alloc, line, &mut edits)?;
     }
     Ok(edits)
 }

@@ -6,11 +6,13 @@ use adr_same::{same_store, tell_ordinary, tell_refused, tell_same, told};
 use adr_snapshot::Snapshot;
 use adr_value::Refusal;
 use std::io;
-use std::sync::Wait;
+use std::sync::{Arc, Wait};
 
 fn publish<J: Naming, R: Wait>(rt: &R, editor: &mut Editor<J>) -> Result<u64, Refusal> {
-    let published = editor.publish(rt)?;
-    Ok(published.number)
+    match editor.publish(rt) {
+        Ok(published) => Ok(published.number),
+        Err(refusal) => Err(refusal),
+    }
 }
 
 /// Whether the desk is as the twin, whose open batch is closed now, and was published under the number.
@@ -78,9 +80,14 @@ pub(crate) fn try_condense<J: Naming, R: Print>(rt: &R, editor: &mut Editor<J>) 
     tried
 }
 
+// A function of its own, so that callers need not look into what is seen.
+fn seen_by<J: Naming>(reader: &mut Reader<J>) -> Result<Arc<Snapshot>, Refusal> {
+    reader.look()
+}
+
 /// Looks: the version of what is seen, and whether that is the publication.
 fn look<J: Naming>(reader: &mut Reader<J>, last: &Snapshot) -> Result<(u64, bool), Refusal> {
-    let seen = reader.look()?;
+    let seen = seen_by(reader)?;
     let version = seen.version();
     let is_same = seen.number() == last.number() && are_same(&*seen, last);
     drop(seen);

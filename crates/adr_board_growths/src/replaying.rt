@@ -30,9 +30,11 @@ look 1";
 fn reader(word: &str) -> Result<usize, Refusal>
     ensures { IfOk result (λ place. place < READERS) }
 {
-    match word.parse::<usize>() {
-        Ok(place) if place < READERS => Ok(place),
-        _ => Err(Refusal::BadLine),
+    let place = word.parse::<usize>().unwrap_or(READERS);
+    if place < READERS {
+        Ok(place)
+    } else {
+        Err(Refusal::BadLine)
     }
 }
 

@@ -37,14 +37,18 @@ impl Shows for Snapshot {
     }
 }
 
+fn same_of_type<A: Shows, B: Shows>(a: &A, b: &B, id: &Id, payload_type: &PayloadType) -> bool {
+    same_timeline(
+        a.timeline_of(id, payload_type),
+        b.timeline_of(id, payload_type),
+    )
+}
+
 fn same_of_code<A: Shows, B: Shows>(a: &A, b: &B, id: &Id, code: u8) -> bool {
     let Some(payload_type) = PayloadType::of_code(code) else {
         return true;
     };
-    let is_same = same_timeline(
-        a.timeline_of(id, &payload_type),
-        b.timeline_of(id, &payload_type),
-    );
+    let is_same = same_of_type(a, b, id, &payload_type);
     drop(payload_type);
     is_same
 }
