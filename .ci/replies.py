@@ -1,5 +1,15 @@
-"""The replies of the program, one by one."""
+"""Scripts line by line, and the replies of the program one by one."""
 import re
+
+
+def lines_of(script):
+    """A line ends with its line feed, and at no other byte."""
+    return re.findall(rb"[^\n]*\n|[^\n]+", script)
+
+
+def script_of(transcript):
+    """The script of a transcript, without the replies between its lines."""
+    return b"".join(line for line in lines_of(transcript) if not line.startswith(b"> "))
 
 
 def replies_of(text):

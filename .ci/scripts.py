@@ -53,3 +53,20 @@ class Scripts:
 
     def script(self, count, several):
         return "".join(self.line(several) + "\n" for _ in range(count)).encode()
+
+    def mutated(self, text):
+        """The text with wrong bytes at some places."""
+        pick = self.random
+        text = bytearray(text)
+        for _ in range(pick.randrange(1, 8)):
+            at = pick.randrange(len(text))
+            kind = pick.randrange(4)
+            if kind == 0:
+                text[at] = pick.randrange(256)
+            elif kind == 1:
+                del text[at : at + pick.randrange(1, 20)]
+            elif kind == 2:
+                text[at:at] = bytes(pick.randrange(256) for _ in range(pick.randrange(1, 9)))
+            else:
+                text[at:at] = text[at : at + pick.randrange(1, 200)]
+        return bytes(text)
