@@ -22,6 +22,9 @@ use adr_timeline::timeline_laws;
 use adr_value::{PayloadType, Refusal};
 use std::alloc::Global;
 
+/// How long the line of a segment mostly is at most.
+const LINE: usize = 80;
+
 /// What the winner shows, where there is one.
 fn shown_by_winner<'a>(
     book: &'a Book,
@@ -117,6 +120,7 @@ fn put_lines(
     ensures ok { OnOk result (out.new.items ≡ out.old.items ++ flat_map (line_of_segment book.now.objects payload_type.now to) segments.now) }
     ensures memory { OnlyNoMemory result }
 {
+    out.reserve(segments.len().saturating_mul(LINE))?;
     let mut last = LastMoment::none(alloc);
     for segment in segments {
         put_line(out, &mut last, book, payload_type, to, segment)?;

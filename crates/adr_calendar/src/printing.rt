@@ -1,5 +1,5 @@
 //! The bytes of numbers, texts, values and ends.
-ghost use Rattle.std.specs.Prelude.{◌≡◌, ◌++◌, ◌<◌, ◌≤◌, ◌^◌, OnOk, codes, replicate};
+ghost use Rattle.std.specs.Prelude.{◌≡◌, ◌++◌, ◌<◌, ◌≤◌, ◌^◌, ◌/◌, ◌%◌, ℕ, OnOk, codes, replicate};
 ghost use Rattle.std.specs.Fmt.{decimal, sign_text, signed_decimal};
 ghost use Rattle.std.specs.List.{flat_map};
 ghost use Rattle.adr_value.specs.Answer.{OnlyNoMemory};
@@ -30,30 +30,50 @@ fn put_zeros(out: &mut Vec<u8>, count: usize) -> Result<(), Refusal>
     Ok(())
 }
 
+/// The digits of a number: one of 64 bits takes a shorter way.
+fn digits_of(buffer: &mut Buffer, number: u128) -> &[u8]
+    ensures { result.now ≡ decimal number }
+{
+    match u64::try_from(number) {
+        Ok(number) => buffer.format(number).as_bytes(),
+        Err(_) => buffer.format(number).as_bytes(),
+    }
+}
+
 /// Appends a number in so many digits, with zeros before it.
 fn put_places(out: &mut Vec<u8>, places: u8, value: u128) -> Result<(), Refusal>
     ensures ok { OnOk result (out.new.items ≡ out.old.items ++ places_text places value) }
     ensures memory { OnlyNoMemory result }
 {
     let mut buffer = Buffer::new();
-    let digits = buffer.format(value).as_bytes();
+    let digits = digits_of(&mut buffer, value);
     put_zeros(out, usize::from(places).saturating_sub(digits.len()))?;
     put(out, digits)
 }
 
+/// The whole part of a division, and what is left: numbers of 64 bits take a shorter way.
+fn divided(size: u128, power: u128) -> (u128, u128)
+    requires { 0 < power }
+    ensures whole { result.0 ≡ size / power }
+    ensures rest { result.1 ≡ size % power }
+{
+    match (u64::try_from(size), u64::try_from(power)) {
+        (Ok(size), Ok(power)) => (u128::from(size / power), u128::from(size % power)),
+        _ => (size / power, size % power),
+    }
+}
+
 /// Appends the point and the digits after it, if there are any.
-fn put_fraction(out: &mut Vec<u8>, places: u8, power: u128, size: u128) -> Result<(), Refusal>
+fn put_fraction(out: &mut Vec<u8>, places: u8, rest: u128) -> Result<(), Refusal>
     requires places { places ≤ 36 }
-    requires power { power ≡ 10 ^ places }
-    requires positive { 0 < power }
-    ensures ok { OnOk result (out.new.items ≡ out.old.items ++ fraction_text places size) }
+    ensures ok { OnOk result ((size : ℕ) → rest ≡ size % 10 ^ places → out.new.items ≡ out.old.items ++ fraction_text places size) }
     ensures memory { OnlyNoMemory result }
 {
     if places == 0 {
         return Ok(());
     }
     put(out, b".")?;
-    put_places(out, places, size % power)
+    put_places(out, places, rest)
 }
 
 /// Appends a minus sign, if there is to be one.
@@ -70,10 +90,10 @@ fn put_decimal(out: &mut Vec<u8>, number: Decimal) -> Result<(), Refusal>
 {
     let size = number.coefficient().unsigned_abs();
     let places = number.scale();
-    let power = power_of_ten(places);
+    let (whole, rest) = divided(size, power_of_ten(places));
     put_sign(out, number.coefficient() < 0)?;
-    put_natural(out, size / power)?;
-    put_fraction(out, places, power, size)
+    put_natural(out, whole)?;
+    put_fraction(out, places, rest)
 }
 
 // 10 to the power of `places`.
@@ -91,7 +111,7 @@ pub(crate) fn put_natural(out: &mut Vec<u8>, number: u128) -> Result<(), Refusal
     ensures memory { OnlyNoMemory result }
 {
     let mut buffer = Buffer::new();
-    put(out, buffer.format(number).as_bytes())
+    put(out, digits_of(&mut buffer, number))
 }
 
 /// Appends the id of an interval.

@@ -6,6 +6,7 @@ pub mod Grown
 pub mod Mended
 pub mod Ordered
 pub mod Placed
+pub mod Runs
 pub mod Scanned
 pub mod Searched
 pub mod Sorted

@@ -47,7 +47,7 @@ starts_trans s t u x y z f h k = elim (or_cases (int_lt s t) (int_eq s t && x) h
     or_true true = refl
     or_true false = refl
 
-listed_trans : (a b c : Entry) → is_listed_before a b ≡ true → is_listed_before b c ≡ true → is_listed_before a c ≡ true
+pub listed_trans : (a b c : Entry) → is_listed_before a b ≡ true → is_listed_before b c ≡ true → is_listed_before a c ≡ true
 listed_trans a b c h k = starts_trans a.span.start b.span.start c.span.start (later_write a b) (later_write b c) (later_write a c) (writes_trans a b c) h k
 
 starts_total : (s t : ℤ) (x y : Bool) → (x ≡ false → y ≡ true) → (int_lt s t || (int_eq s t && x)) ≡ false → (int_lt t s || (int_eq t s && y)) ≡ true

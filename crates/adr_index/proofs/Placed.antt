@@ -50,7 +50,7 @@ module _ (cs : List Chunk) (k : ℕ) (c : Chunk) (inside : k < length cs) (read 
         last_read (x ∷ xs) zero d lt = refl
         last_read (x ∷ xs) (suc i) d lt = last_read xs i d (omega arith)
 
-all_set : (cs : List Chunk) (k : ℕ) (c : Chunk) → k < length cs → all_listed (set cs k c) ≡ all_listed (take k cs) ++ (listed c ++ all_listed (drop (k + 1) cs))
+pub all_set : (cs : List Chunk) (k : ℕ) (c : Chunk) → k < length cs → all_listed (set cs k c) ≡ all_listed (take k cs) ++ (listed c ++ all_listed (drop (k + 1) cs))
 all_set [] k c lt = absurd (omega arith)
 all_set (d ∷ cs) zero c lt = refl
 all_set (d ∷ cs) (suc k) c lt = let next : suc k + 1 ≡ suc (k + 1) = omega arith in rw next (ap (λ (xs : List Entry). listed d ++ xs) (all_set cs k c (omega arith)) ∙ sym (append_assoc (listed d) (all_listed (take k cs)) (listed c ++ all_listed (drop (k + 1) cs))))
@@ -60,7 +60,7 @@ all_set_insert [] k c o lt = absurd (omega arith)
 all_set_insert (d ∷ cs) zero c o lt = sym (append_assoc (listed c) (listed o) (all_listed cs))
 all_set_insert (d ∷ cs) (suc k) c o lt = let next : suc k + 1 ≡ suc (k + 1) = omega arith in rw next (ap (λ (xs : List Entry). listed d ++ xs) (all_set_insert cs k c o (omega arith)) ∙ sym (append_assoc (listed d) (all_listed (take k cs)) ((listed c ++ listed o) ++ all_listed (drop (k + 1) cs))))
 
-all_removed : (cs : List Chunk) (k : ℕ) (c : Chunk) → k < length cs → all_listed (remove (set cs k c) k) ≡ all_listed (take k cs) ++ all_listed (drop (k + 1) cs)
+pub all_removed : (cs : List Chunk) (k : ℕ) (c : Chunk) → k < length cs → all_listed (remove (set cs k c) k) ≡ all_listed (take k cs) ++ all_listed (drop (k + 1) cs)
 all_removed [] k c lt = absurd (omega arith)
 all_removed (d ∷ cs) zero c lt = refl
 all_removed (d ∷ cs) (suc k) c lt = let next : suc k + 1 ≡ suc (k + 1) = omega arith in rw next (ap (λ (xs : List Entry). listed d ++ xs) (all_removed cs k c (omega arith)) ∙ sym (append_assoc (listed d) (all_listed (take k cs)) (all_listed (drop (k + 1) cs))))
@@ -75,29 +75,6 @@ module _ (cs : List Chunk) (k : ℕ) (c new : Chunk) (e : Entry) (inside : k < l
 
     pub put_two : (other : Chunk) → listed new ++ listed other ≡ inserted e (listed c) → all_listed (insert (set cs k new) (k + 1) other) ≡ inserted e (all_listed cs)
     put_two other h = rw (all_set_insert cs k new other inside, around cs k c inside read, inserted_between (all_listed (take k cs)) (listed c) (all_listed (drop (k + 1) cs)) e before after, ← h) refl
-
-    pub take_one : listed new ≡ others e (listed c) → all_listed (set cs k new) ≡ others e (all_listed cs)
-    take_one h = rw (all_set cs k new inside, around cs k c inside read, others_between (all_listed (take k cs)) (listed c) (all_listed (drop (k + 1) cs)) e before after, ← h) refl
-
-    pub take_gone : listed new ≡ others e (listed c) → length (listed new) ≡ 0 → all_listed (remove (set cs k new) k) ≡ others e (all_listed cs)
-    take_gone h none = rw (all_removed cs k new inside, around cs k c inside read, others_between (all_listed (take k cs)) (listed c) (all_listed (drop (k + 1) cs)) e before after, ← h, no_length (listed new) none) refl
-      where
-        no_length : (xs : List Entry) → length xs ≡ 0 → xs ≡ []
-        no_length [] h = refl
-        no_length (x ∷ xs) h = absurd (omega arith)
-
-    -- how many are left
-    pub take_count : listed new ≡ others e (listed c) → length (others e (all_listed cs)) + length (listed c) ≡ length (all_listed cs) + length (listed new)
-    take_count h =
-        rw (
-          around cs k c inside read,
-          others_between (all_listed (take k cs)) (listed c) (all_listed (drop (k + 1) cs)) e before after,
-          ← h,
-          length-append (all_listed (take k cs)) (listed new ++ all_listed (drop (k + 1) cs)),
-          length-append (listed new) (all_listed (drop (k + 1) cs)),
-          length-append (all_listed (take k cs)) (listed c ++ all_listed (drop (k + 1) cs)),
-          length-append (listed c) (all_listed (drop (k + 1) cs)),
-        ) (omega arith)
 
 pub others_fewer : (e : Entry) (es : List Entry) → length (others e es) ≤ length es
 others_fewer e es = rw (length-filter (λ x. is_listed_before x e || is_listed_before e x) es) (count_by-le-length (λ x. is_listed_before x e || is_listed_before e x) es)

@@ -1,5 +1,5 @@
 -- The chunks of an index.
-use Rattle.std.specs.Prelude.{◌≡◌, ℕ, ℤ, ◌^◌, ◌-◌, ◌<◌, ◌≤◌, Bool, List, [], length, slice_index_or, Option, Some, None, vec_capacity}
+use Rattle.std.specs.Prelude.{◌≡◌, ℕ, ℤ, ◌^◌, ◌-◌, ◌<◌, ◌≤◌, Bool, true, false, List, [], length, slice_index_or, Option, Some, None, vec_capacity}
 use Rattle.std.specs.List.{AllByRecursion, flat_map}
 use Rattle.adr_time.specs.declared.span.End.{End}
 use Rattle.adr_model.specs.declared.entry.Entry.{Entry}
@@ -57,3 +57,7 @@ ArePooled cs = AllByRecursion IsPooled cs
 -- whether the last entry of the chunk comes before the entry
 abbrev pub EndsBefore : Chunk → Entry → Bool → Type 0
 EndsBefore c e answer = (d : Entry) → is_listed_before (slice_index_or (listed c) (length (listed c) - 1) d) e ≡ answer
+
+-- the entries come behind the first and not behind the chunk's last entry, and so belong to the chunk too, if the first does
+abbrev pub GoTogether : Entry → Chunk → List Entry → Type 0
+GoTogether first c es = AllByRecursion (λ e. (is_listed_before first e ≡ true) × EndsBefore c e false) es

@@ -1,9 +1,9 @@
 //! A chunk of an index: some entries in order, under a tree of their ends.
-ghost use Rattle.std.specs.Prelude.{◌≡◌, ◌+◌, ◌<◌, ◌≤◌, ◌++◌, ◌∷◌, [], ◌^◌, IfOk, IfSome, OnOk, length};
+ghost use Rattle.std.specs.Prelude.{◌≡◌, ◌+◌, ◌<◌, ◌≤◌, ◌++◌, ◌∷◌, [], ◌^◌, IfOk, IfSome, OnOk, length, vec_capacity};
 ghost use Rattle.adr_index.specs.Chunks.{listed, listed_too, ArePooled, HasEnds, IsChunk, IsPooled, IsRoomy, StartsLast};
 ghost use Rattle.adr_index.specs.Query.{any_late, hits, looks};
 ghost use Rattle.adr_index.specs.Tree.{IsByStart};
-ghost use Rattle.adr_index.specs.Index.{inserted, others, IsOrdered};
+ghost use Rattle.adr_index.specs.Index.{inserted, inserted_all, others, others_all, AreNew, IsOrdered};
 
 use crate::order::{comes_before, place_of};
 use crate::query::Query;
@@ -33,6 +33,47 @@ fn last_start(entries: &[Entry]) -> Moment
     match entries.last() {
         Some(entry) => entry.span.start,
         None => Moment::MIN,
+    }
+}
+
+/// Takes out the entry that stands in the same place, if there is one.
+fn take_out(entries: &mut Vec<Entry>, entry: &Entry)
+    requires order { IsOrdered entries.old.items }
+    ensures entries { entries.new.items ≡ others entry.now entries.old.items }
+    ensures fewer { length entries.new.items ≤ length entries.old.items }
+    ensures room { vec_capacity entries.old ≤ vec_capacity entries.new }
+{
+    let place = place_of(entries, entry);
+    if place == entries.len() || comes_before(entry, &entries[place]) {
+        return;
+    }
+    let _ = entries.remove(place);
+}
+
+/// Takes out what stands in the places of these entries.
+fn take_each(entries: &mut Vec<Entry>, run: &[Entry])
+    requires order { IsOrdered entries.old.items }
+    ensures entries { entries.new.items ≡ others_all run.now entries.old.items }
+    ensures fewer { length entries.new.items ≤ length entries.old.items }
+    ensures room { vec_capacity entries.old ≤ vec_capacity entries.new }
+{
+    for entry in run {
+        take_out(entries, entry);
+    }
+}
+
+/// Adds these entries, for which there is room, each in its place.
+fn insert_each(entries: &mut Vec<Entry>, run: &[Entry])
+    requires order { IsOrdered entries.old.items }
+    requires room { length entries.old.items + length run.now ≤ vec_capacity entries.old }
+    requires fresh { AreNew run.now entries.old.items }
+    ensures entries { entries.new.items ≡ inserted_all run.now entries.old.items }
+    ensures room { vec_capacity entries.old ≤ vec_capacity entries.new }
+    ensures more { length entries.new.items ≡ length entries.old.items + length run.now }
+{
+    for entry in run {
+        let place = place_of(entries, entry);
+        let _ = entries.insert(place, *entry);
     }
 }
 
@@ -116,21 +157,41 @@ impl Chunk {
         Some(other)
     }
 
-    /// Takes out the entry that stands in the same place, if there is one.
-    pub(crate) fn take(&mut self, entry: &Entry)
+    /// Takes out what stands in the places of the first entry and of the others.
+    pub(crate) fn take(&mut self, first: &Entry, run: &[Entry])
         requires chunk { IsChunk self.old }
         requires order { IsOrdered self.old.entries.items }
-        ensures entries { self.new.entries.items ≡ others entry.now self.old.entries.items }
+        ensures entries { self.new.entries.items ≡ others_all (first.now ∷ run.now) self.old.entries.items }
         ensures fewer { length self.new.entries.items ≤ length self.old.entries.items }
         ensures room { IsRoomy self.new }
         ensures chunk { 0 < length self.new.entries.items → IsChunk self.new }
     {
-        let place = place_of(&self.entries, entry);
-        if place == self.entries.len() || comes_before(entry, &self.entries[place]) {
-            return;
-        }
-        let _ = self.entries.remove(place);
+        take_out(&mut self.entries, first);
+        take_each(&mut self.entries, run);
         self.refresh();
+    }
+
+    /// Adds the first entry and the others, for which there is room.
+    pub(crate) fn put_each(&mut self, first: &Entry, run: &[Entry])
+        requires chunk { IsChunk self.old }
+        requires order { IsOrdered self.old.entries.items }
+        requires room { length self.old.entries.items + length run.now < 64 }
+        requires fresh { AreNew (first.now ∷ run.now) self.old.entries.items }
+        ensures entries { self.new.entries.items ≡ inserted_all (first.now ∷ run.now) self.old.entries.items }
+        ensures chunk { IsChunk self.new }
+    {
+        let place = place_of(&self.entries, first);
+        let _ = self.entries.insert(place, *first);
+        insert_each(&mut self.entries, run);
+        self.refresh();
+    }
+
+    /// For how many more entries there is room.
+    pub(crate) fn room(&self) -> usize
+        requires { IsChunk self.now }
+        ensures { length self.now.entries.items + result ≡ 64 }
+    {
+        MOST - self.entries.len()
     }
 
     /// A chunk of the entries.

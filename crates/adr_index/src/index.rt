@@ -89,7 +89,7 @@ fn settle(chunks: &[Chunk], tops: &mut [Option<End>], is_kept: bool)
     }
 }
 
-/// Takes out what stands in the places of the old entries, and answers whether the tree over the chunks is kept.
+/// Takes out what stands in the places of the old entries, those of one chunk together, and answers whether the tree over the chunks is kept.
 fn take_all(table: &mut Table, tops: &mut [Option<End>], old: &[Entry]) -> bool
     requires table { IsTable table.old }
     requires lengths { length table.old.chunks.items ≤ length tops.old }
@@ -102,14 +102,16 @@ fn take_all(table: &mut Table, tops: &mut [Option<End>], old: &[Entry]) -> bool
     ensures tops { result ≡ true → HasTops table.new.chunks.items tops.new }
 {
     let mut is_kept = true;
-    for entry in old {
-        let changed = table.take(entry);
-        is_kept = update(&table.chunks, tops, changed, is_kept);
+    let mut rest = old;
+    while let Some((first, later)) = rest.split_first() {
+        let run = table.take(first, later);
+        is_kept = update(&table.chunks, tops, run.place, is_kept);
+        (_, rest) = later.split_at(run.given);
     }
     is_kept
 }
 
-/// Adds the entries, one after the other, and answers whether the tree over the chunks is kept.
+/// Adds the entries, those of one chunk together as far as it has room, and answers whether the tree over the chunks is kept.
 fn put_all(table: &mut Table, tops: &mut [Option<End>], new: &[Entry], was_kept: bool) -> bool
     requires table { IsTable table.old }
     requires free { length new.now ≤ free table.old }
@@ -124,9 +126,11 @@ fn put_all(table: &mut Table, tops: &mut [Option<End>], new: &[Entry], was_kept:
     ensures tops { result ≡ true → HasTops table.new.chunks.items tops.new }
 {
     let mut is_kept = was_kept;
-    for entry in new {
-        let changed = table.put(*entry);
-        is_kept = update(&table.chunks, tops, changed, is_kept);
+    let mut rest = new;
+    while let Some((first, later)) = rest.split_first() {
+        let run = table.put_run(first, later);
+        is_kept = update(&table.chunks, tops, run.place, is_kept);
+        (_, rest) = later.split_at(run.given);
     }
     is_kept
 }
@@ -258,7 +262,8 @@ impl Index {
 
     /// Takes out what stands in the place of an old entry, with its start, written number and place, and adds the new
     /// ones, as when an event is written again. It takes no memory. Cost: for each entry of both some 64 steps in its
-    /// chunk, and once a step for each chunk where one is parted or emptied.
+    /// chunk, whose tree is written once for entries that come in order, and once a step for each chunk where one is parted
+    /// or emptied.
     pub fn replace(&mut self, old: &[Entry], new: &[Entry])
         requires room { length new.now ≤ self.old.spare }
         requires fresh { AreNew new.now (others_all old.now self.old.entries) }

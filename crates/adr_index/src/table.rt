@@ -2,9 +2,9 @@
 ghost use Rattle.std.specs.Prelude.{◌≡◌, ◌+◌, ◌-◌, ◌<◌, ◌≤◌, ◌++◌, ◌∷◌, [], true, false, IfNone, IfOk, IfSome, OnOk, length, take, drop, vec_len, vec_capacity};
 ghost use Rattle.std.specs.List.{AllByRecursion, list_any};
 ghost use Rattle.adr_model.specs.Entries.{is_listed_before};
-ghost use Rattle.adr_index.specs.Chunks.{all_listed, AreChunks, ArePooled, EndsBefore, IsChunk, IsPooled};
+ghost use Rattle.adr_index.specs.Chunks.{all_listed, AreChunks, ArePooled, EndsBefore, GoTogether, IsChunk, IsPooled};
 ghost use Rattle.adr_index.specs.Tables.{free, IsChangedAt, IsFound, IsTable};
-ghost use Rattle.adr_index.specs.Index.{inserted, is_entry, others, without, IsOrdered};
+ghost use Rattle.adr_index.specs.Index.{inserted, inserted_all, is_entry, others_all, without, AreNew, IsOrdered};
 
 use crate::chunk::Chunk;
 use crate::order::{comes_before, is_entry};
@@ -104,36 +104,94 @@ fn lay_by(pool: &mut Vec<Chunk>, chunk: Chunk)
     let _ = pool.push(chunk);
 }
 
-/// Takes out the entry that stands in the same place, and answers how many that were and the place of its chunk, where
-/// no other was changed. A chunk that it leaves empty goes to the pool.
+/// What was taken out or added at once: how many of the entries that were given, and the place of their chunk, where no
+/// other was changed.
+#[derive(Clone, Copy)]
+pub(crate) struct Run {
+    pub(crate) given: usize,
+    pub(crate) place: Option<usize>,
+}
+
+/// How many of the later entries, one after the other, belong to the chunk of the first too.
+fn run_into(chunk: &Chunk, first: &Entry, later: &[Entry]) -> usize
+    requires { IsChunk chunk.now }
+    ensures within { result ≤ length later.now }
+    ensures together { GoTogether first.now chunk.now (take result later.now) }
+{
+    let mut count = 0;
+    while count < later.len()
+        && comes_before(first, &later[count])
+        && !ends_before(chunk, &later[count])
+    {
+        count += 1;
+    }
+    count
+}
+
+/// Takes out what stands in the place of the first entry, and of those behind it that belong to the same chunk, and
+/// answers how many entries of the chunk that were. A chunk that it leaves empty goes to the pool.
 pub(crate) fn take_among(
     chunks: &mut Vec<Chunk>,
     pool: &mut Vec<Chunk>,
-    entry: &Entry,
-) -> (usize, Option<usize>)
+    first: &Entry,
+    later: &[Entry],
+) -> (usize, Run)
     requires some { 0 < length chunks.old.items }
     requires chunks { AreChunks chunks.old.items }
     requires order { IsOrdered (all_listed chunks.old.items) }
     requires pool { ArePooled pool.old.items }
+    ensures given { result.1.given ≤ length later.now }
     ensures chunks { AreChunks chunks.new.items }
-    ensures entries { all_listed chunks.new.items ≡ others entry.now (all_listed chunks.old.items) }
+    ensures entries { all_listed chunks.new.items ≡ others_all (first.now ∷ take result.1.given later.now) (all_listed chunks.old.items) }
     ensures count { length (all_listed chunks.new.items) + result.0 ≡ length (all_listed chunks.old.items) }
     ensures pool { ArePooled pool.new.items }
     ensures kept { length pool.old.items ≤ length pool.new.items }
     ensures room { vec_capacity chunks.old - vec_len chunks.old ≤ vec_capacity chunks.new - vec_len chunks.new }
     ensures length { length chunks.new.items ≤ length chunks.old.items }
-    ensures changed { IfSome result.1 (λ place. IsChangedAt place chunks.old.items chunks.new.items) }
+    ensures changed { IfSome result.1.place (λ place. IsChangedAt place chunks.old.items chunks.new.items) }
 {
-    let place = home(chunks, entry);
+    let place = home(chunks, first);
+    let given = run_into(&chunks[place], first, later);
+    let (run, _) = later.split_at(given);
     let count = chunks[place].entries.len();
-    chunks[place].take(entry);
+    chunks[place].take(first, run);
     let left = chunks[place].entries.len();
     if left > 0 {
-        return (count - left, Some(place));
+        let place = Some(place);
+        return (count - left, Run { given, place });
     }
     let chunk = chunks.remove(place);
     lay_by(pool, chunk);
-    (count, None)
+    let place = None;
+    (count, Run { given, place })
+}
+
+/// Adds the first entry and those behind it to the chunk to which they belong, as far as it has room; None where it has
+/// none, and nothing is changed.
+fn put_behind(chunks: &mut Vec<Chunk>, first: &Entry, later: &[Entry]) -> Option<(usize, usize)>
+    requires chunks { AreChunks chunks.old.items }
+    requires order { IsOrdered (all_listed chunks.old.items) }
+    requires fresh { AreNew (first.now ∷ later.now) (all_listed chunks.old.items) }
+    ensures none { IfNone result (chunks.new ≡ chunks.old) }
+    ensures given { IfSome result (λ r. r.0 ≤ length later.now) }
+    ensures chunks { AreChunks chunks.new.items }
+    ensures entries { IfSome result (λ r. all_listed chunks.new.items ≡ inserted_all (first.now ∷ take r.0 later.now) (all_listed chunks.old.items)) }
+    ensures room { vec_capacity chunks.old - vec_len chunks.old ≤ vec_capacity chunks.new - vec_len chunks.new }
+    ensures length { length chunks.new.items ≡ length chunks.old.items }
+    ensures changed { IfSome result (λ r. IsChangedAt r.1 chunks.old.items chunks.new.items) }
+{
+    if chunks.is_empty() {
+        return None;
+    }
+    let place = home(chunks, first);
+    let room = chunks[place].room();
+    if room == 0 {
+        return None;
+    }
+    let given = run_into(&chunks[place], first, later).min(room - 1);
+    let (run, _) = later.split_at(given);
+    chunks[place].put_each(first, run);
+    Some((given, place))
 }
 
 /// Adds an entry. It takes a chunk of the pool at most. Answers the place of its chunk, where no other was changed.
@@ -217,22 +275,45 @@ impl Table {
         changed
     }
 
-    /// Takes out the entry that stands in the same place, if there is one, and answers the place of its chunk, where no
-    /// other was changed.
-    pub(crate) fn take(&mut self, entry: &Entry) -> Option<usize>
-        requires { IsTable self.old }
+    /// Adds the first entry and some of those behind it, and answers how many of these, and the place of their chunk.
+    pub(crate) fn put_run(&mut self, first: &Entry, later: &[Entry]) -> Run
+        requires table { IsTable self.old }
+        requires free { length later.now < free self.old }
+        requires fresh { AreNew (first.now ∷ later.now) (all_listed self.old.chunks.items) }
+        ensures given { result.given ≤ length later.now }
         ensures table { IsTable self.new }
-        ensures entries { all_listed self.new.chunks.items ≡ others entry.now (all_listed self.old.chunks.items) }
+        ensures entries { all_listed self.new.chunks.items ≡ inserted_all (first.now ∷ take result.given later.now) (all_listed self.old.chunks.items) }
+        ensures free { free self.old ≤ free self.new + (result.given + 1) }
+        ensures length { length self.new.chunks.items ≤ length self.old.chunks.items + 1 }
+        ensures changed { IfSome result.place (λ place. IsChangedAt place self.old.chunks.items self.new.chunks.items) }
+    {
+        if let Some((given, place)) = put_behind(&mut self.chunks, first, later) {
+            self.count += given + 1;
+            let place = Some(place);
+            return Run { given, place };
+        }
+        let place = self.put(*first);
+        Run { given: 0, place }
+    }
+
+    /// Takes out what stands in the place of the first entry, and of some of those behind it, and answers how many of
+    /// these, and the place of their chunk.
+    pub(crate) fn take(&mut self, first: &Entry, later: &[Entry]) -> Run
+        requires { IsTable self.old }
+        ensures given { result.given ≤ length later.now }
+        ensures table { IsTable self.new }
+        ensures entries { all_listed self.new.chunks.items ≡ others_all (first.now ∷ take result.given later.now) (all_listed self.old.chunks.items) }
         ensures free { free self.old ≤ free self.new }
         ensures length { length self.new.chunks.items ≤ length self.old.chunks.items }
-        ensures changed { IfSome result (λ place. IsChangedAt place self.old.chunks.items self.new.chunks.items) }
+        ensures changed { IfSome result.place (λ place. IsChangedAt place self.old.chunks.items self.new.chunks.items) }
     {
         if self.chunks.is_empty() {
-            return None;
+            let place = None;
+            return Run { given: 0, place };
         }
-        let (count, changed) = take_among(&mut self.chunks, &mut self.pool, entry);
+        let (count, run) = take_among(&mut self.chunks, &mut self.pool, first, later);
         self.count -= count;
-        changed
+        run
     }
 
     /// Takes out the entries of that written number and place, and answers whether there were any.
@@ -246,7 +327,7 @@ impl Table {
     {
         let mut is_found = false;
         while let Some(entry) = find(&self.chunks, written, place) {
-            let _ = self.take(&entry);
+            let _ = self.take(&entry, &[]);
             is_found = true;
         }
         is_found

@@ -1,18 +1,24 @@
-use Rattle.std.proofs.Common.{rules, arith}
-use Rattle.std.proofs.lemmas.Grind.{common_steps}
+use Rattle.std.proofs.Common.{rules, ◌≡◌, ◌+◌, ◌-◌, ◌∷◌, length, drop, ◌∙◌, arith}
+use Rattle.std.proofs.lemmas.List.{length-drop}
+use Rattle.adr_index.specs.Chunks.{all_listed}
 use Rattle.adr_index.proofs.Mended.{still_kept}
+use Rattle.adr_index.proofs.Runs.{inserted_rest, new_rest}
 use Rattle.adr_index.proofs.index.put_all.Goals as goal
 
 pub update-is_kept-requires-clause-tops : goal.update-is_kept-requires-clause-tops
-update-is_kept-requires-clause-tops c = λ kept. rw c.deref.ensures.value (still_kept c.put-changed.result c.loop-entry.table.chunks.items c.put-changed.new.self.chunks.items c.loop-entry.tops c.put-changed.ensures.changed (c.loop-entry.invariant.tops kept))
+update-is_kept-requires-clause-tops c = λ kept. rw c.deref.ensures.value (still_kept c.put_run-run.result.place c.loop-first.table.chunks.items c.put_run-run.new.self.chunks.items c.loop-first.tops c.put_run-run.ensures.changed (c.loop-first.invariant.tops kept))
 
-pub loop-entry-preserved : goal.loop-entry-preserved
-loop-entry-preserved c = record {
-  table = c.put-changed.ensures.table;
-  entries = grind (arith, common_steps);
-  fresh = grind (arith, common_steps);
-  free = omega (arith, c.put-changed.ensures.free, c.loop-entry.invariant.free);
-  nodes = search rules;
-  length = omega (arith, c.put-changed.ensures.length, c.loop-entry.invariant.length);
-  tops = rw c.deref.ensures.value at c.update-is_kept.ensures;
-}
+pub loop-first-preserved : goal.loop-first-preserved
+loop-first-preserved c =
+    let parts : c.loop-first.rest.now ≡ c.in-Some.first.now ∷ c.in-Some.later.now = search rules in
+    let count : length c.loop-first.rest.now ≡ length c.in-Some.later.now + 1 = rw parts (omega arith) in
+    let left : length (drop c.put_run-run.result.given c.in-Some.later.now) ≡ length c.in-Some.later.now - c.put_run-run.result.given = length-drop c.put_run-run.result.given c.in-Some.later.now in
+    record {
+      table = c.put_run-run.ensures.table;
+      entries = rw (c.split_at.ensures.back, c.put_run-run.ensures.entries) (inserted_rest c.put_run-run.result.given c.in-Some.first.now c.in-Some.later.now (all_listed c.loop-first.table.chunks.items) ∙ (rw parts at c.loop-first.invariant.entries));
+      fresh = rw (c.split_at.ensures.back, c.put_run-run.ensures.entries) (new_rest c.put_run-run.result.given c.in-Some.first.now c.in-Some.later.now (all_listed c.loop-first.table.chunks.items) (rw parts at c.loop-first.invariant.fresh));
+      free = omega (arith, c.put_run-run.ensures.free, c.loop-first.invariant.free, count, left);
+      nodes = search rules;
+      length = omega (arith, c.put_run-run.ensures.length, c.loop-first.invariant.length, count, left);
+      tops = rw c.deref.ensures.value at c.update-is_kept.ensures;
+    }

@@ -1,16 +1,19 @@
-use Rattle.std.proofs.Common.{◌≡◌, ◌+◌, ◌≤◌, true, drop, length}
+use Rattle.std.proofs.Common.{◌≡◌, ◌+◌, ◌≤◌, true, length}
 use Rattle.adr_index.specs.Chunks.{all_listed}
 use Rattle.adr_index.specs.Index.{inserted_all, AreNew}
 use Rattle.adr_index.specs.Tables.{free, HasTops, IsTable}
 use Rattle.adr_index.proofs.index.put_all.Given as goal
 
-abbrev pub invariant-loop-entry : goal.invariant-loop-entry
-invariant-loop-entry l = record {
+abbrev pub invariant-loop-first : goal.invariant-loop-first
+invariant-loop-first l = record {
   table : IsTable l.table;
-  entries : inserted_all (drop l.entry-index l.new) (all_listed l.table.chunks.items) ≡ inserted_all l.new (all_listed l.fn.table.chunks.items);
-  fresh : AreNew (drop l.entry-index l.new) (all_listed l.table.chunks.items);
-  free : free l.fn.table ≤ free l.table + l.entry-index;
+  entries : inserted_all l.rest (all_listed l.table.chunks.items) ≡ inserted_all l.new (all_listed l.fn.table.chunks.items);
+  fresh : AreNew l.rest (all_listed l.table.chunks.items);
+  free : free l.fn.table + length l.rest ≤ free l.table + length l.new;
   nodes : length l.tops ≡ length l.fn.tops;
-  length : length l.table.chunks.items ≤ length l.fn.table.chunks.items + l.entry-index;
+  length : length l.table.chunks.items + length l.rest ≤ length l.fn.table.chunks.items + length l.new;
   tops : l.is_kept ≡ true → HasTops l.table.chunks.items l.tops;
 }
+
+abbrev pub decreases-loop-first : goal.decreases-loop-first
+decreases-loop-first l = length l.rest

@@ -1,12 +1,12 @@
-use Rattle.std.proofs.Common.{arith}
-use Rattle.adr_index.proofs.Ordered.{ordered_others}
+use Rattle.std.proofs.Common.{arith, ◌∷◌, take}
 use Rattle.adr_index.specs.Chunks.{all_listed}
+use Rattle.adr_index.proofs.Runs.{ordered_taken}
 use Rattle.adr_index.proofs.table.Table.take.Goals as goal
 
 pub returns-clause-table : goal.returns-clause-table
 returns-clause-table c = record {
   chunks = c.take_among-count.ensures.chunks;
-  order = rw c.take_among-count.ensures.entries (ordered_others c.args.entry.now (all_listed c.args.self.now.chunks.items) c.requires.order);
+  order = rw c.take_among-count.ensures.entries (ordered_taken (c.args.first.now ∷ take c.take_among-count.result.1.given c.args.later.now) (all_listed c.args.self.now.chunks.items) c.requires.order);
   pool = c.take_among-count.ensures.pool;
   count = omega (arith, c.requires.count, c.take_among-count.ensures.count);
 }

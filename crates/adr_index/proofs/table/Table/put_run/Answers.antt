@@ -1,0 +1,13 @@
+use Rattle.std.proofs.Common.{arith, ◌∷◌, take}
+use Rattle.std.proofs.lemmas.List.{length-take-le}
+use Rattle.adr_index.specs.Chunks.{all_listed}
+use Rattle.adr_index.proofs.Runs.{length_put, new_start, ordered_put}
+use Rattle.adr_index.proofs.table.Table.put_run.Goals as goal
+
+pub returns-in-Some-clause-table : goal.returns-in-Some-clause-table
+returns-in-Some-clause-table c = record {
+  chunks = c.put_behind.ensures.chunks;
+  order = rw c.in-Some.ensures.entries (ordered_put (c.args.first.now ∷ take c.in-Some.given c.args.later.now) (all_listed c.args.self.now.chunks.items) c.requires.table.order (new_start c.in-Some.given c.args.first.now c.args.later.now (all_listed c.args.self.now.chunks.items) c.requires.fresh));
+  pool = c.requires.table.pool;
+  count = rw (c.in-Some.ensures.entries, length_put (c.args.first.now ∷ take c.in-Some.given c.args.later.now) (all_listed c.args.self.now.chunks.items)) (omega (arith, c.requires.table.count, length-take-le c.in-Some.given c.args.later.now c.in-Some.ensures.given));
+}
