@@ -6,7 +6,7 @@ use crate::spans::{endless, entry, span, tell_span};
 use adr_model::Entry;
 use adr_rule::Meter;
 use adr_time::{End, Moment, Span, covers};
-use adr_timeline::{Segment, Timeline, are_apart, timeline_laws};
+use adr_timeline::{PackedSegment, Timeline, are_apart, timeline_laws};
 use adr_value::Refusal;
 use std::alloc::Global;
 use std::test::Fail;
@@ -44,11 +44,11 @@ fn one(alloc: Global, start: i128, end: i128, written: u64) -> Result<Timeline, 
 }
 
 /// Writes segments, each as `[START END WRITTEN PLACE]`.
-fn tell_segments(text: &mut String, segments: &[Segment]) -> Result<(), Refusal> {
+fn tell_segments(text: &mut String, segments: &[PackedSegment]) -> Result<(), Refusal> {
     for segment in segments {
         text.push('[')?;
-        tell_span(text, segment.start, segment.end)?;
-        let winner = segment.winner;
+        tell_span(text, segment.start(), segment.end())?;
+        let winner = segment.winner();
         write!(text, " {} {}]", winner.written, winner.place)?;
     }
     Ok(())

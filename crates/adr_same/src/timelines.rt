@@ -13,7 +13,7 @@ fn same_winner(a: Option<Winner>, b: Option<Winner>) -> bool {
 /// Whether both show the same from the start of each of the segments to its end.
 fn is_chunk_shown(chunk: &Chunk, a: &Timeline, b: &Timeline) -> bool {
     for segment in chunk.segments() {
-        let start = segment.start;
+        let start = segment.start();
         if !same_winner(a.governor(start), b.governor(start))
             || a.next_change(start) != b.next_change(start)
         {

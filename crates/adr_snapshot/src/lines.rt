@@ -1,5 +1,5 @@
 //! What a timeline says of a moment, and of a window.
-ghost use Rattle.std.specs.Prelude.{◌≡◌, ◌++◌, [], ℤ, None, IfOk, if◌then◌else◌};
+ghost use Rattle.std.specs.Prelude.{◌≡◌, ◌++◌, [], ℤ, None, IfOk, OnOk, if◌then◌else◌};
 ghost use Rattle.std.specs.Option.{option_copied, option_map_or};
 ghost use Rattle.adr_value.specs.Answer.{OnlyNoMemory};
 ghost use Rattle.adr_model.specs.Answer.{IsUntil};
@@ -11,9 +11,9 @@ ghost use Rattle.adr_timeline.specs.Chunks.{listed};
 use adr_calendar::State;
 use adr_model::Segment;
 use adr_time::{End, Moment, Span};
-use adr_timeline::{Chunk, Timeline};
+use adr_timeline::{Chunk, PackedSegment, Timeline};
 use adr_value::Refusal;
-use std::alloc::Global;
+use std::alloc::{AllocError, Global};
 
 /// What the line shows at the moment, and until when; no line shows nothing.
 pub(crate) fn state_of(line: Option<&Timeline>, moment: Moment) -> State
@@ -32,6 +32,17 @@ pub(crate) fn state_of(line: Option<&Timeline>, moment: Moment) -> State
     }
 }
 
+/// Puts the segments, unpacked, at the end of others.
+fn add_unpacked(segments: &mut Vec<Segment>, stored: &[PackedSegment]) -> Result<(), AllocError>
+    ensures { OnOk result (segments.new.items ≡ segments.old.items ++ stored.now) }
+{
+    segments.reserve(stored.len())?;
+    for segment in stored {
+        segments.push(segment.segment())?;
+    }
+    Ok(())
+}
+
 /// The segments of the chunks, one behind the other.
 fn joined(alloc: Global, chunks: &[Chunk]) -> Result<Vec<Segment>, Refusal>
     ensures ok { IfOk result (λ segments. segments.items ≡ listed chunks.now) }
@@ -40,7 +51,7 @@ fn joined(alloc: Global, chunks: &[Chunk]) -> Result<Vec<Segment>, Refusal>
     let mut segments = Vec::new(alloc);
     let mut rest = chunks;
     'rest: while let Some((chunk, more)) = rest.split_first() {
-        segments.extend_from_slice(chunk.segments())?;
+        add_unpacked(&mut segments, chunk.segments())?;
         rest = more;
     }
     Ok(segments)

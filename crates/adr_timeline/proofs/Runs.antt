@@ -1,14 +1,18 @@
 -- The steps of entries that come one after the other.
-use Rattle.std.proofs.Common.{◌≡◌, true, not, ◌&&◌, List, [], ◌∷◌, ◌++◌, Option, Some, None, refl, sym, ◌∙◌, arith, ℤ, int_le, int_lt}
+use Rattle.std.proofs.Common.{◌≡◌, true, not, ◌&&◌, List, [], ◌∷◌, ◌++◌, map, Option, Some, None, refl, sym, ◌∙◌, ap, arith, ℤ, int_le, int_lt}
 use Rattle.std.proofs.lemmas.Int.{ints}
 use Rattle.std.proofs.lemmas.Bool.{false≢true, and_parts}
 use Rattle.adr_time.specs.Spans.{is_before}
 use Rattle.adr_time.specs.declared.span.End.{End}
 use Rattle.adr_time.specs.declared.span.End.TheVariants.{At, Endless}
+use Rattle.adr_time.specs.declared.span.Span.{Span}
 use Rattle.adr_model.specs.declared.entry.Entry.{Entry}
 use Rattle.adr_model.specs.declared.entry.Rank.{Rank}
+use Rattle.adr_model.specs.declared.timeline.Segment.{Segment}
 use Rattle.adr_timeline.specs.declared.step.Step.{Step}
-use Rattle.adr_timeline.specs.Steps.{Adds, AreRanked, goes_left, down_at, steps_of, starts_from, is_run, steps_in_turn}
+use Rattle.adr_timeline.specs.Build.{Takes}
+use Rattle.adr_timeline.specs.Parts.{joined_all, part}
+use Rattle.adr_timeline.specs.Steps.{Adds, AreRanked, goes_left, down_at, own_segment, pieces, steps_of, starts_from, is_run, steps_in_turn, winner_of_rank}
 use Rattle.adr_timeline.proofs.Merged.{IsMerge, merge_none, merge_left, merge_right, order_of}
 use Rattle.adr_timeline.proofs.Least.{rank_append}
 use Rattle.adr_timeline.proofs.Stepped.{steps_rank, steps_order, steps_few}
@@ -77,3 +81,20 @@ run_ranked (e ∷ es) h =
 
 pub run_added : (es : List Entry) (old new : List Step) → is_run es ≡ true → new ≡ old ++ steps_in_turn es → Adds (AreRanked es) old new
 run_added es old new h n = (steps_in_turn es, n, run_ranked es h)
+
+-- the pieces of one entry, and of those that start where it ends or later
+entry_pieces : (a : ℤ) (end : End) (r : Rank) (es : List Entry) → starts_from end es ≡ true → pieces (steps_in_turn es) ≡ map own_segment es → pieces ((up a r ∷ down_at end) ++ steps_in_turn es) ≡ record { start = a; end = end; winner = winner_of_rank r } ∷ map own_segment es
+entry_pieces a (At u) r es h rest = ap (λ (ss : List Segment). record { start = a; end = At u; winner = winner_of_rank r } ∷ ss) rest
+entry_pieces a Endless r [] h rest = refl
+entry_pieces a Endless r (e ∷ es) h rest = absurd (false≢true h)
+
+run_pieces : (es : List Entry) → is_run es ≡ true → pieces (steps_in_turn es) ≡ map own_segment es
+run_pieces [] h = refl
+run_pieces (e ∷ es) h =
+    let parts = run_parts e es h in
+    rw (steps_if e parts.0) (entry_pieces e.span.start e.span.end e.rank es parts.1 (run_pieces es parts.2))
+
+pub run_taken : (es : List Entry) (w : Span) (old new : List Segment) → is_run es ≡ true → new ≡ joined_all old (part (Some w.start) w.end (map own_segment es)) → Takes es w old new
+run_taken es w old new h n =
+    let ranked = run_ranked es h in
+    (steps_in_turn es, ranked.0, ranked.2, n ∙ ap (λ (ss : List Segment). joined_all old (part (Some w.start) w.end ss)) (sym (run_pieces es h)))

@@ -102,3 +102,7 @@ is_run (e ∷ es) = is_before e.span.start e.span.end && starts_from e.span.end 
 abbrev pub steps_in_turn : List Entry → List Step
 steps_in_turn [] = []
 steps_in_turn (e ∷ es) = steps_of e ++ steps_in_turn es
+
+-- the segment of an entry that nothing goes before
+abbrev pub own_segment : Entry → Segment
+own_segment e = record { start = e.span.start; end = e.span.end; winner = winner_of_rank e.rank }

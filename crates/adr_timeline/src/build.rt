@@ -8,7 +8,7 @@ ghost use Rattle.adr_timeline.specs.Build.{most_compared, most_compared_all, Tak
 ghost use Rattle.adr_timeline.specs.Windows.{any_covers, are_apart};
 
 use crate::line::Line;
-use crate::step::{join_steps, ranked};
+use crate::step::{is_run, join_run, join_steps, ranked};
 use adr_model::Entry;
 use adr_rule::Meter;
 use adr_time::Span;
@@ -30,7 +30,9 @@ pub trait Source {
         ensures refused { OnlyNoMemory result };
 }
 
-/// Puts the segments of the winners inside the window at the end of a line.
+/// Puts the segments of the winners inside the window at the end of a line. Entries that come in turn, as one alone does,
+/// are put there straight away.
+#[tactic(auto, using(crate::proofs::Runs::run_taken))]
 fn join_window<S: Source>(
     line: &mut Line,
     alloc: Global,
@@ -44,6 +46,10 @@ fn join_window<S: Source>(
     ensures refused { OnlyNoMemory result }
 {
     let found = source.meeting(alloc, *window)?;
+    if is_run(&found) {
+        join_run(line, &found, window)?;
+        return Ok(());
+    }
     let steps = ranked(alloc, &found, meter)?;
     join_steps(line, &steps, *window)?;
     Ok(())

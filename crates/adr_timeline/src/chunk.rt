@@ -2,7 +2,7 @@
 ghost use Rattle.std.specs.Prelude.{◌≡◌, ◌<◌, Some, IfOk, length};
 ghost use Rattle.adr_timeline.specs.Chunks.{first_of, last_of};
 
-use adr_model::Segment;
+use crate::packed::PackedSegment;
 use std::alloc::{AllocError, Global};
 use std::marker::Model;
 use std::sync::Arc;
@@ -10,7 +10,7 @@ use std::sync::Arc;
 /// Segments in order, at least one, in memory that several timelines may share. Contracts see their list.
 #[derive(Drop)]
 pub struct Chunk {
-    segments: Arc<Vec<Segment>>,
+    segments: Arc<Vec<PackedSegment>>,
 }
 
 impl Model for Chunk {
@@ -26,7 +26,7 @@ impl Model for Chunk {
 }
 
 impl Chunk {
-    pub(crate) fn new(alloc: Global, segments: Vec<Segment>) -> Result<Chunk, AllocError>
+    pub(crate) fn new(alloc: Global, segments: Vec<PackedSegment>) -> Result<Chunk, AllocError>
         requires { 0 < length segments.items }
         ensures { IfOk result (λ chunk. chunk ≡ segments.items) }
     {
@@ -35,15 +35,15 @@ impl Chunk {
         })
     }
 
-    /// The segments, in order.
-    pub fn segments(&self) -> &[Segment]
+    /// The segments, in order, as they are stored.
+    pub fn segments(&self) -> &[PackedSegment]
         ensures segments { result.now ≡ self.now }
         ensures filled { 0 < length self.now }
     {
         &self.segments
     }
 
-    pub(crate) fn first(&self) -> Segment
+    pub(crate) fn first(&self) -> PackedSegment
         ensures first { first_of self.now ≡ Some result }
         ensures filled { 0 < length self.now }
     {
@@ -51,7 +51,7 @@ impl Chunk {
     }
 
     #[tactic(auto, using(crate::proofs::Chunks::last_read))]
-    pub(crate) fn last(&self) -> Segment
+    pub(crate) fn last(&self) -> PackedSegment
         ensures last { last_of self.now ≡ Some result }
         ensures filled { 0 < length self.now }
     {

@@ -5,6 +5,7 @@ ghost use Rattle.adr_timeline.specs.Chunks.{listed, last_of, AreFilled, goes_on 
 ghost use Rattle.adr_timeline.specs.Parts.{joined, joined_part, joined_all};
 
 use crate::chunk::Chunk;
+use crate::packed::PackedSegment;
 use crate::segment::{join, leads_to, push};
 use adr_model::Segment;
 use std::alloc::{AllocError, Global};
@@ -16,7 +17,7 @@ use std::mem;
 pub(crate) struct Line {
     most: usize,
     chunks: Vec<Chunk>,
-    unsealed: Vec<Segment>,
+    unsealed: Vec<PackedSegment>,
 }
 
 impl Model for Line {
@@ -33,7 +34,7 @@ impl Model for Line {
 
 /// Takes the last chunk back, where no segment is after it.
 #[tactic(auto, using(crate::proofs::Chunks::popped_same, crate::proofs::Chunks::popped_filled))]
-fn reopen(chunks: &mut Vec<Chunk>, unsealed: &mut Vec<Segment>) -> Result<(), AllocError>
+fn reopen(chunks: &mut Vec<Chunk>, unsealed: &mut Vec<PackedSegment>) -> Result<(), AllocError>
     requires { AreFilled chunks.old.items }
     ensures same { OnOk result (listed chunks.new.items ++ unsealed.new.items ≡ listed chunks.old.items ++ unsealed.old.items) }
     ensures filled { AreFilled chunks.new.items }
@@ -50,7 +51,7 @@ fn reopen(chunks: &mut Vec<Chunk>, unsealed: &mut Vec<Segment>) -> Result<(), Al
 
 /// The last segment of the chunks and of those after them.
 #[tactic(auto, using(crate::proofs::Chunks::last_after, crate::proofs::Chunks::last_chunk))]
-fn last(chunks: &[Chunk], unsealed: &[Segment]) -> Option<Segment>
+fn last(chunks: &[Chunk], unsealed: &[PackedSegment]) -> Option<PackedSegment>
     ensures { result ≡ last_of (listed chunks.now ++ unsealed.now) }
 {
     if !unsealed.is_empty() {
@@ -64,7 +65,7 @@ fn last(chunks: &[Chunk], unsealed: &[Segment]) -> Option<Segment>
 
 /// Makes a chunk of the segments after the chunks.
 #[tactic(auto, using(crate::proofs::Chunks::listed_push, crate::proofs::Chunks::filled_push))]
-fn seal(chunks: &mut Vec<Chunk>, unsealed: &mut Vec<Segment>) -> Result<(), AllocError>
+fn seal(chunks: &mut Vec<Chunk>, unsealed: &mut Vec<PackedSegment>) -> Result<(), AllocError>
     requires { AreFilled chunks.old.items }
     ensures same { OnOk result (listed chunks.new.items ≡ listed chunks.old.items ++ unsealed.old.items) }
     ensures filled { AreFilled chunks.new.items }
@@ -104,7 +105,7 @@ impl Line {
     }
 
     /// Whether the last segment leads to the piece.
-    fn leads_to(&self, piece: &Segment) -> bool
+    fn leads_to(&self, piece: &PackedSegment) -> bool
         ensures { result ≡ leads_on self.now piece.now }
     {
         match last(&self.chunks, &self.unsealed) {
@@ -125,7 +126,7 @@ impl Line {
     }
 
     /// Puts a piece at the end, as a segment of its own.
-    fn add(&mut self, piece: &Segment) -> Result<(), AllocError>
+    fn add(&mut self, piece: &PackedSegment) -> Result<(), AllocError>
         ensures { OnOk result (self.new ≡ self.old ++ piece.now ∷ []) }
     {
         self.seal_full()?;
@@ -133,7 +134,7 @@ impl Line {
     }
 
     /// Puts a piece at the end, as a part of the last segment, which leads to it.
-    fn lengthen(&mut self, piece: &Segment) -> Result<(), AllocError>
+    fn lengthen(&mut self, piece: &PackedSegment) -> Result<(), AllocError>
         requires { leads_on self.old piece.now ≡ true }
         ensures { OnOk result (self.new ≡ joined self.old piece.now) }
     {
@@ -143,7 +144,7 @@ impl Line {
 
     /// Puts a piece at the end, as a part of the last segment where that one goes on with the same winner.
     #[tactic(auto, using(crate::proofs::Chunks::joined_apart))]
-    fn join(&mut self, piece: &Segment) -> Result<(), AllocError>
+    fn join(&mut self, piece: &PackedSegment) -> Result<(), AllocError>
         ensures { OnOk result (self.new ≡ joined self.old piece.now) }
     {
         if self.leads_to(piece) {
@@ -158,13 +159,13 @@ impl Line {
         ensures { OnOk result (self.new ≡ joined_part self.old piece.now) }
     {
         if piece.start.is_before(piece.end) {
-            self.join(piece)?;
+            self.join(&PackedSegment::of(piece))?;
         }
         Ok(())
     }
 
     /// Puts pieces at the end.
-    fn join_all(&mut self, pieces: &[Segment]) -> Result<(), AllocError>
+    fn join_all(&mut self, pieces: &[PackedSegment]) -> Result<(), AllocError>
         ensures { OnOk result (self.new ≡ joined_all self.old pieces.now) }
     {
         for piece in pieces {
@@ -174,7 +175,7 @@ impl Line {
     }
 
     /// Puts pieces at the end, each as a segment of its own.
-    fn add_each(&mut self, pieces: &[Segment]) -> Result<(), AllocError>
+    fn add_each(&mut self, pieces: &[PackedSegment]) -> Result<(), AllocError>
         ensures { OnOk result (self.new ≡ self.old ++ pieces.now) }
     {
         for piece in pieces {
@@ -185,7 +186,7 @@ impl Line {
 
     /// The same, all together where they fit into one chunk.
     #[tactic(auto, using(crate::proofs::Chunks::extended_view))]
-    fn add_all(&mut self, pieces: &[Segment]) -> Result<(), AllocError>
+    fn add_all(&mut self, pieces: &[PackedSegment]) -> Result<(), AllocError>
         ensures { OnOk result (self.new ≡ self.old ++ pieces.now) }
     {
         if pieces.len() <= self.most.saturating_sub(self.unsealed.len()) {
@@ -196,7 +197,7 @@ impl Line {
 
     /// Puts the segments of a canonical list at the end, together but for the first.
     #[tactic(auto, using(crate::proofs::Chunks::canonical_tail))]
-    pub(crate) fn join_run(&mut self, segments: &[Segment]) -> Result<(), AllocError>
+    pub(crate) fn join_run(&mut self, segments: &[PackedSegment]) -> Result<(), AllocError>
         requires { IsCanonical segments.now }
         ensures { OnOk result (self.new ≡ joined_all self.old segments.now) }
     {
@@ -209,7 +210,7 @@ impl Line {
 
     /// The same, together where the first goes on from nothing that is there.
     #[tactic(auto, using(crate::proofs::Chunks::joined_whole))]
-    fn join_rest(&mut self, segments: &[Segment]) -> Result<(), AllocError>
+    fn join_rest(&mut self, segments: &[PackedSegment]) -> Result<(), AllocError>
         requires { IsCanonical segments.now }
         ensures { OnOk result (self.new ≡ joined_all self.old segments.now) }
     {

@@ -8,8 +8,9 @@ ghost use Rattle.adr_timeline.specs.Steps.{IsInOrder, IsMergeOf, lesser, rank_at
 
 use crate::bound::later;
 use crate::chunk::Chunk;
+use crate::packed::PackedSegment;
 use crate::step::{Step, add_steps_of, merge, ranked};
-use adr_model::{Entry, Rank, Segment, Winner};
+use adr_model::{Entry, Rank, Winner};
 use adr_rule::Meter;
 use adr_time::{End, Span};
 use std::alloc::{AllocError, Global};
@@ -70,17 +71,17 @@ pub(crate) fn hull_of(entries: &[Entry]) -> Option<Span>
 /// Puts the steps of the segments, by the ranks of their winners, at the end of others.
 fn add_shown<R: Ranks>(
     steps: &mut Vec<Step>,
-    segments: &[Segment],
+    segments: &[PackedSegment],
     ranks: &R,
 ) -> Result<(), AllocError>
     ensures { OnOk result (steps.new.items ≡ steps.old.items ++ steps_in_turn (map (shown_entry (R.rank ranks.now)) segments.now)) }
 {
     for segment in segments {
         let entry = Entry {
-            rank: ranks.rank(segment.winner),
+            rank: ranks.rank(segment.winner()),
             span: Span {
-                start: segment.start,
-                end: segment.end,
+                start: segment.start(),
+                end: segment.end(),
             },
         };
         add_steps_of(steps, &entry)?;

@@ -9,6 +9,7 @@ ghost use Rattle.adr_timeline.specs.Windows.{any_covers, are_apart};
 use crate::bound::{earlier, later, start_from};
 use crate::chunk::Chunk;
 use crate::line::Line;
+use crate::packed::PackedSegment;
 use crate::search::open_chunks;
 use adr_model::Segment;
 use adr_time::{End, Moment, Span};
@@ -31,14 +32,14 @@ pub(crate) fn trimmed(from: &Option<Moment>, until: &End, segment: &Segment) -> 
 /// Puts the parts of segments from a moment on and before an end at the end of a line.
 fn join_each(
     line: &mut Line,
-    segments: &[Segment],
+    segments: &[PackedSegment],
     from: &Option<Moment>,
     until: &End,
 ) -> Result<(), AllocError>
     ensures { OnOk result (line.new ≡ joined_all line.old (part from.now until.now segments.now)) }
 {
     for segment in segments {
-        let piece = trimmed(from, until, segment);
+        let piece = trimmed(from, until, &segment.segment());
         line.join_some(&piece)?;
     }
     Ok(())
@@ -54,38 +55,38 @@ fn is_from(from: &Option<Moment>, start: Moment) -> bool
 }
 
 #[tactic(auto, using(crate::proofs::Chunks::last_is))]
-fn last(segments: &[Segment]) -> Option<Segment>
+fn last(segments: &[PackedSegment]) -> Option<PackedSegment>
     ensures { result ≡ last_of segments.now }
 {
     segments.last().copied()
 }
 
 /// Whether the segments end by the end.
-fn is_over_by(segments: &[Segment], until: End) -> bool
+fn is_over_by(segments: &[PackedSegment], until: End) -> bool
     ensures { result ≡ is_ended_by segments.now until }
 {
     let End::At(end) = until else {
         return true;
     };
     match last(segments) {
-        Some(last) => !end.is_before(last.end),
+        Some(last) => !end.is_before(last.end()),
         None => true,
     }
 }
 
 /// Whether the segments lie from the moment on and before the end.
-fn is_within(segments: &[Segment], from: &Option<Moment>, until: &End) -> bool
+fn is_within(segments: &[PackedSegment], from: &Option<Moment>, until: &End) -> bool
     ensures { result ≡ lies_within from.now until.now segments.now }
 {
     let is_from = match segments.split_first() {
-        Some((first, _)) => is_from(from, first.start),
+        Some((first, _)) => is_from(from, first.start()),
         None => true,
     };
     is_from && is_over_by(segments, *until)
 }
 
 /// Whether the segments end by the moment.
-fn is_past(segments: &[Segment], from: &Option<Moment>) -> bool
+fn is_past(segments: &[PackedSegment], from: &Option<Moment>) -> bool
     ensures { result ≡ is_passed from.now segments.now }
 {
     match from {
@@ -95,11 +96,11 @@ fn is_past(segments: &[Segment], from: &Option<Moment>) -> bool
 }
 
 /// Whether the segments start at the end or later.
-fn starts_late(segments: &[Segment], until: &End) -> bool
+fn starts_late(segments: &[PackedSegment], until: &End) -> bool
     ensures { result ≡ is_late until.now segments.now }
 {
     match segments.split_first() {
-        Some((first, _)) => !first.start.is_before(*until),
+        Some((first, _)) => !first.start().is_before(*until),
         None => true,
     }
 }
@@ -107,7 +108,7 @@ fn starts_late(segments: &[Segment], until: &End) -> bool
 /// Puts the parts of segments at the end of a line, by halves: those that lie inside are copied together.
 fn join_slice(
     line: &mut Line,
-    segments: &[Segment],
+    segments: &[PackedSegment],
     from: &Option<Moment>,
     until: &End,
 ) -> Result<(), AllocError>

@@ -7,7 +7,8 @@ ghost use Rattle.adr_timeline.specs.Chunks.{listed, lasts_past, open_chunks as c
 ghost use Rattle.adr_timeline.specs.Open.{change_at, open_in, open_in_first, winner_at_open};
 
 use crate::chunk::Chunk;
-use adr_model::{Segment, Winner};
+use crate::packed::PackedSegment;
+use adr_model::Winner;
 use adr_time::{End, Moment};
 
 /// The chunks from the first on that has not ended by the moment.
@@ -19,27 +20,27 @@ pub(crate) fn open_chunks<'a>(chunks: &'a [Chunk], at: Moment) -> &'a [Chunk]
     let ended = chunks.partition_point(
         |chunk: &Chunk| -> bool
             ensures { result ≡ not (lasts_past chunk.now at) }
-        { !at.is_before(chunk.last().end) },
+        { !at.is_before(chunk.last().end()) },
     );
     chunks.split_at(ended).1
 }
 
 /// The first of a chunk's segments that has not ended by the moment.
-fn first_open_in(segments: &[Segment], at: Moment) -> Option<Segment>
+fn first_open_in(segments: &[PackedSegment], at: Moment) -> Option<PackedSegment>
     requires { IsCanonical segments.now }
     ensures { result ≡ open_in segments.now at }
 {
     let ended = segments.partition_point(
-        |segment: &Segment| -> bool
+        |segment: &PackedSegment| -> bool
             ensures { result ≡ not (is_before at segment.now.end) }
-        { !at.is_before(segment.end) },
+        { !at.is_before(segment.end()) },
     );
     segments.get(ended).copied()
 }
 
 /// The same, of the first of some chunks.
 #[tactic(auto, using(crate::proofs::Chunks::canonical_first))]
-fn first_open_chunk(chunks: &[Chunk], at: Moment) -> Option<Segment>
+fn first_open_chunk(chunks: &[Chunk], at: Moment) -> Option<PackedSegment>
     requires { IsCanonical (listed chunks.now) }
     ensures { result ≡ open_in_first chunks.now at }
 {
@@ -50,7 +51,7 @@ fn first_open_chunk(chunks: &[Chunk], at: Moment) -> Option<Segment>
 }
 
 /// The first segment that has not ended by the moment.
-fn first_open(chunks: &[Chunk], at: Moment) -> Option<Segment>
+fn first_open(chunks: &[Chunk], at: Moment) -> Option<PackedSegment>
     requires canonical { IsCanonical (listed chunks.now) }
     requires filled { AreFilled chunks.now }
     ensures winner { shows (listed chunks.now) at ≡ winner_at_open result at }
@@ -66,7 +67,7 @@ pub(crate) fn governor(chunks: &[Chunk], at: Moment) -> Option<Winner>
     ensures { result ≡ shows (listed chunks.now) at }
 {
     match first_open(chunks, at) {
-        Some(segment) if segment.start <= at => Some(segment.winner),
+        Some(segment) if segment.start() <= at => Some(segment.winner()),
         _ => None,
     }
 }
@@ -78,8 +79,8 @@ pub(crate) fn next_change(chunks: &[Chunk], at: Moment) -> End
     ensures { IsUntil (shows (listed chunks.now)) at result }
 {
     match first_open(chunks, at) {
-        Some(segment) if segment.start <= at => segment.end,
-        Some(segment) => End::At(segment.start),
+        Some(segment) if segment.start() <= at => segment.end(),
+        Some(segment) => End::At(segment.start()),
         None => End::Endless,
     }
 }

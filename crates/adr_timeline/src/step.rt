@@ -1,7 +1,7 @@
 //! Steps: the least rank from moment to moment, by halves that are merged.
-ghost use Rattle.std.specs.Prelude.{◌≡◌, ◌+◌, ◌*◌, ◌<◌, ◌≤◌, ◌^◌, ℤ, [], ◌++◌, IfOk, OnOk, None, length};
+ghost use Rattle.std.specs.Prelude.{◌≡◌, ◌+◌, ◌*◌, ◌<◌, ◌≤◌, ◌^◌, ℤ, [], ◌++◌, IfOk, OnOk, None, length, map};
 ghost use Rattle.adr_timeline.specs.Parts.{joined_all, part};
-ghost use Rattle.adr_timeline.specs.Steps.{Adds, AreRanked, IsInOrder, IsMergeOf, first_from, goes_left as is_left_next, is_run as are_in_turn, starts_from as starts_from_end, steps_in_turn, lesser, piece, pieces, rank_at, rank_from, steps_of};
+ghost use Rattle.adr_timeline.specs.Steps.{Adds, AreRanked, IsInOrder, IsMergeOf, first_from, goes_left as is_left_next, is_run as are_in_turn, starts_from as starts_from_end, steps_in_turn, lesser, own_segment as segment_of, piece, pieces, rank_at, rank_from, steps_of};
 
 use crate::line::Line;
 use crate::part::trimmed;
@@ -116,7 +116,7 @@ fn starts_from(end: End, entries: &[Entry]) -> bool
 }
 
 /// Whether the entries last, and each ends before the next one starts, or where it starts.
-fn is_run(entries: &[Entry]) -> bool
+pub(crate) fn is_run(entries: &[Entry]) -> bool
     ensures { result ≡ are_in_turn entries.now }
 {
     let mut entries = entries;
@@ -229,6 +229,32 @@ fn join_step(line: &mut Line, step: &Step, until: End, window: &Span) -> Result<
     };
     let inside = trimmed(&Some(window.start), &window.end, &whole);
     line.join_some(&inside)
+}
+
+/// The segment of an entry that nothing goes before.
+fn own_segment(entry: &Entry) -> Segment
+    ensures { result ≡ segment_of entry.now }
+{
+    Segment {
+        start: entry.span.start,
+        end: entry.span.end,
+        winner: Winner {
+            written: entry.rank.written,
+            place: entry.rank.place,
+        },
+    }
+}
+
+/// Puts the segments of entries that come in turn at the end of a line, as far as they are inside the window.
+pub(crate) fn join_run(line: &mut Line, entries: &[Entry], window: &Span) -> Result<(), AllocError>
+    ensures { OnOk result (line.new ≡ joined_all line.old (part (Some window.now.start) window.now.end (map segment_of entries.now))) }
+{
+    let from = Some(window.start);
+    for entry in entries {
+        let inside = trimmed(&from, &window.end, &own_segment(entry));
+        line.join_some(&inside)?;
+    }
+    Ok(())
 }
 
 /// Where the first of the steps begins.

@@ -6,7 +6,7 @@ use Rattle.adr_timeline.proofs.segment.join.Goals.{else-count-gt0-via-then-count
 pub returns-then-leads_to : goal.returns-then-leads_to
 returns-then-leads_to c =
     let n : c.len-count.result - 1 + 1 ≡ length c.args.segments.now.items = search rules in
-    joined_grown _ _ _ _ c.args.piece n c.index.ensures c.index_mut.ensures.value (sym c.leads_to.ensures ∙ c.if-leads_to.true)
+    rw c.end_with.ensures (joined_grown _ _ _ _ c.args.piece n c.index.ensures c.index_mut.ensures.value (sym c.leads_to.ensures ∙ c.if-leads_to.true))
 
 pub returns-in_ok-push : goal.returns-in_ok-push
 returns-in_ok-push c = elim c.else-count-gt0.branch [
