@@ -1,5 +1,5 @@
 -- What is seen inside windows.
-use Rattle.std.proofs.Common.{◌≡◌, ℕ, ◌+◌, ◌≤◌, ℤ, Bool, true, false, cond, if◌then◌else◌, ◌&&◌, ◌||◌, int_le, int_lt, List, [], ◌∷◌, ◌++◌, take, drop, Option, refl, ap, sym, ◌∙◌, arith}
+use Rattle.std.proofs.Common.{◌≡◌, ℕ, ◌+◌, ◌≤◌, ℤ, Bool, true, false, cond, if◌then◌else◌, ◌&&◌, ◌||◌, int_le, int_lt, List, [], ◌∷◌, ◌++◌, take, drop, Option, None, refl, ap, sym, ◌∙◌, arith}
 use Rattle.std.proofs.lemmas.Int.{ints}
 use Rattle.std.proofs.lemmas.List.{take-append-drop}
 use Rattle.std.proofs.lemmas.Bool.{false≢true, and_parts}
@@ -11,7 +11,7 @@ use Rattle.adr_model.specs.declared.entry.Entry.{Entry}
 use Rattle.adr_model.specs.declared.timeline.Winner.{Winner}
 use Rattle.adr_model.specs.Entries.{meeting}
 use Rattle.adr_timeline.specs.Build.{most_compared, most_compared_all}
-use Rattle.adr_timeline.specs.Windows.{all_last, any_covers, are_apart}
+use Rattle.adr_timeline.specs.Windows.{all_last, any_covers, are_apart, is_followed_by}
 use Rattle.adr_stretch.specs.Grouped.{any_covers_at}
 use Rattle.adr_stretch.specs.Right.{has_number, written_in}
 use Rattle.adr_group.specs.Repair.{most_inside}
@@ -49,6 +49,18 @@ entries_append (x ∷ xs) ys t = either (covers x.span t) (entries_append xs ys 
     either : (c : Bool) → any_covers_at (xs ++ ys) t ≡ (any_covers_at xs t || any_covers_at ys t) → (c || any_covers_at (xs ++ ys) t) ≡ ((c || any_covers_at xs t) || any_covers_at ys t)
     either true h = refl
     either false h = h
+
+-- windows that are apart last
+pub apart_last : (ws : List Span) → are_apart ws ≡ true → all_last ws ≡ true
+apart_last [] h = refl
+apart_last (w ∷ ws) h =
+    let parts = and_parts (is_before w.start w.end && is_followed_by w ws) (are_apart ws) h in
+    rw ((and_parts (is_before w.start w.end) (is_followed_by w ws) parts.0).0, apart_last ws parts.1) refl
+
+-- what was built replaces the rest in windows, however they are put together
+pub wide_shown : (m n : Bool) (w : Option Winner) (built inner shown : Option Winner) → n ≡ m → built ≡ (if m then w else None) → shown ≡ (if n then built else inner) → shown ≡ (if m then w else inner)
+wide_shown true n w built inner shown same b s = s ∙ (rw (same, b) refl)
+wide_shown false n w built inner shown same b s = s ∙ (rw same refl)
 
 pub compared_append : (es : List Entry) (xs ys : List Span) → most_compared_all es (xs ++ ys) ≡ most_compared_all es xs + most_compared_all es ys
 compared_append es [] ys = omega arith

@@ -1,6 +1,8 @@
 -- How much the repair of timelines compares.
-use Rattle.std.specs.Prelude.{ℕ, ◌+◌, ◌*◌, List, [], ◌∷◌, length}
+use Rattle.std.specs.Prelude.{ℕ, ◌+◌, ◌*◌, List, [], ◌∷◌, length, Option}
+use Rattle.std.specs.Option.{option_copied, option_map_or}
 use Rattle.adr_model.specs.declared.entry.Entry.{Entry}
+use Rattle.adr_index.specs.Index.{Indexed}
 use Rattle.adr_timeline.specs.Build.{most_compared}
 use Rattle.adr_stretch.specs.declared.grouped.TypeEntries.{TypeEntries}
 use Rattle.adr_stretch.specs.Right.{written_in}
@@ -8,9 +10,13 @@ use Rattle.adr_lines.specs.declared.indexes.Indexes.{Indexes}
 use Rattle.adr_lines.specs.Indexes.{under}
 use Rattle.adr_group.specs.declared.line.Given.{Given}
 
--- the entries under the type that are of the writes
+-- the entries of the index, where there is one
+abbrev pub indexed : Option Indexed → List Entry
+indexed index = option_map_or (λ i. i.entries) index []
+
+-- those of them that are of the writes
 abbrev pub given_entries : Given → List Entry
-given_entries given = written_in given.writes.now (under given.indexes.now given.payload_type.now)
+given_entries given = written_in given.writes.now (indexed (option_copied given.index))
 
 -- to build what the writes show inside each of the windows, of these entries
 abbrev pub most_inside : List ℕ → List Entry → List Entry → ℕ

@@ -1,6 +1,8 @@
 //! What the events of some writes show of one payload type, and its repair inside windows.
 ghost use Rattle.std.specs.Prelude.{◌≡◌, ◌+◌, ◌<◌, ◌≤◌, ◌^◌, ℤ, None, IfOk, IsTrue, if◌then◌else◌};
+ghost use Rattle.std.specs.Option.{option_copied};
 ghost use Rattle.adr_value.specs.Answer.{OnlyNoMemory};
+ghost use Rattle.adr_model.specs.Entries.{meeting};
 ghost use Rattle.adr_model.specs.Governor.{winner_at};
 ghost use Rattle.adr_model.specs.Timeline.{shows};
 ghost use Rattle.adr_timeline.specs.Build.{most_compared_all};
@@ -8,10 +10,11 @@ ghost use Rattle.adr_timeline.specs.Windows.{all_last, any_covers, are_apart};
 ghost use Rattle.adr_stretch.specs.Grouped.{any_covers_at};
 ghost use Rattle.adr_stretch.specs.Right.{written_in};
 ghost use Rattle.adr_lines.specs.Indexes.{under};
-ghost use Rattle.adr_group.specs.Repair.{given_entries, most_inside};
+ghost use Rattle.adr_group.specs.Repair.{given_entries, indexed, most_inside};
 
 use crate::windows::{put_together, spans_of};
 use crate::writes::Writes;
+use adr_index::Index;
 use adr_lines::Indexes;
 use adr_model::Entry;
 use adr_rule::Meter;
@@ -20,12 +23,22 @@ use adr_timeline::{Source, Timeline, first_run};
 use adr_value::{PayloadType, Refusal};
 use std::alloc::Global;
 
-/// The entries under a payload type that are of some writes.
+/// The entries of an index, where there is one, that are of some writes.
 #[derive(Clone, Copy)]
 pub(crate) struct Given<'a> {
-    indexes: &'a Indexes,
-    payload_type: &'a PayloadType,
+    index: Option<&'a Index>,
     writes: &'a Writes,
+}
+
+/// The entries of the index, where there is one, that meet the window.
+fn overlapping(alloc: Global, index: Option<&Index>, window: Span) -> Result<Vec<Entry>, Refusal>
+    ensures found { IfOk result (λ found. found.items ≡ meeting (indexed (option_copied index.entry)) window) }
+    ensures memory { OnlyNoMemory result }
+{
+    match index {
+        Some(index) => index.overlapping(window),
+        None => Ok(Vec::new(alloc)),
+    }
 }
 
 impl Source for Given<'_> {
@@ -34,13 +47,14 @@ impl Source for Given<'_> {
     ghost entries = { given_entries };
 
     fn meeting(&self, alloc: Global, window: Span) -> Result<Vec<Entry>, Refusal> {
-        let mut entries = self.indexes.overlapping(alloc, self.payload_type, window)?;
+        let mut entries = overlapping(alloc, self.index, window)?;
         entries.retain(|entry| self.writes.has(entry.rank.written));
         Ok(entries)
     }
 }
 
 /// The inner timeline with what the entries show inside the windows.
+#[tactic(auto, using(crate::proofs::Seen::apart_last, crate::proofs::Seen::wide_shown))]
 fn with_built(
     alloc: Global,
     inner: Timeline,
@@ -58,7 +72,8 @@ fn with_built(
     if inner.segments().is_empty() {
         return Ok(built);
     }
-    inner.splice_all(windows, &built)
+    let wide = put_together(alloc, windows)?;
+    spliced_in(&inner, &wide, &built)
 }
 
 /// What the entries show inside the spans, and nothing outside: one run of spans in order after the other.
@@ -85,7 +100,7 @@ fn built_in(
 }
 
 /// What those writes show inside the windows, and nothing outside. `NoMemory` where there is no room for it. Cost: for
-/// each window that lasts that of `Indexes::overlapping` and of a timeline of the entries of those writes that meet it;
+/// each window that lasts that of `Index::overlapping` and of a timeline of the entries of those writes that meet it;
 /// windows in order, as those of an event mostly are, are built in one pass.
 pub(crate) fn built(
     alloc: Global,
@@ -102,8 +117,7 @@ pub(crate) fn built(
 {
     let spans = spans_of(alloc, windows)?;
     let given = Given {
-        indexes,
-        payload_type,
+        index: indexes.index(payload_type),
         writes,
     };
     built_in(alloc, &given, &spans, meter)

@@ -5,7 +5,6 @@ use crate::counting::wanted;
 use adr_index::Index;
 use adr_model::Entry;
 use adr_stretch::TypeEntries;
-use adr_time::Span;
 use adr_value::{PayloadType, Refusal};
 use indexmap::IndexMap;
 use std::alloc::Global;
@@ -26,10 +25,10 @@ impl Drop for Indexes {
 
 impl Indexes {
     ghost use Rattle.std.specs.Prelude.{◌≡◌, ◌+◌, ◌≤◌, [], true, length, IfOk, OnOk};
+    ghost use Rattle.std.specs.Option.{option_copied, option_map_or};
     ghost use Rattle.adr_value.specs.Answer.{OnlyNoMemory};
     ghost use Rattle.adr_value.specs.declared.payload.PayloadType.{PayloadType as AnyType};
     ghost use Rattle.adr_model.specs.declared.entry.Tie.{Tie};
-    ghost use Rattle.adr_model.specs.Entries.{meeting};
     ghost use Rattle.adr_index.specs.Index.{inserted_all, others_all, AreNew};
     ghost use Rattle.adr_stretch.specs.Grouped.{entries_under};
     ghost use Rattle.adr_lines.specs.Exchange.{IsIndexOf};
@@ -58,21 +57,11 @@ impl Indexes {
         Ok(Indexes { by_name })
     }
 
-    /// The entries under the type that meet the window, in order. `NoMemory` where there is no room for them. Cost:
-    /// that of `Index::overlapping`, and one look-up of the type's name.
-    pub fn overlapping(
-        &self,
-        alloc: Global,
-        payload_type: &PayloadType,
-        window: Span,
-    ) -> Result<Vec<Entry>, Refusal>
-        ensures found { IfOk result (λ found. found.items ≡ meeting (under self.now payload_type.now) window) }
-        ensures memory { OnlyNoMemory result }
+    /// The index of the entries under the type, where there is one. Cost: one look-up of the type's name.
+    pub fn index(&self, payload_type: &PayloadType) -> Option<&Index>
+        ensures { option_map_or (λ index. index.entries) (option_copied result) [] ≡ under self.now payload_type.now }
     {
-        match self.by_name.get(payload_type.name()) {
-            Some(index) => index.overlapping(window),
-            None => Ok(Vec::new(alloc)),
-        }
+        self.by_name.get(payload_type.name())
     }
 
     /// Makes room for that many entries under the type. `NoMemory` leaves all entries as they were.
