@@ -38,7 +38,12 @@ fn add_unpacked(segments: &mut Vec<Segment>, stored: &[PackedSegment]) -> Result
 {
     segments.reserve(stored.len())?;
     for segment in stored {
-        segments.push(segment.segment())?;
+        let end: End = segment.end();
+        segments.push(Segment {
+            start: segment.start(),
+            end,
+            winner: segment.winner(),
+        })?;
     }
     Ok(())
 }
