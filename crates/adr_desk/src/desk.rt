@@ -315,8 +315,8 @@ impl Desk {
         self.apply_by(&alone, edit)
     }
 
-    /// The same by several workers, 1 to 64, who share out the repair of timelines where an event is edited: see `do_all` of adr_crew.
-    /// Each passes the gate before each of its jobs. The answer is the same for every number of workers.
+    /// The same by several workers, 1 to 64, who share out the repair of timelines: see `do_all` of adr_crew. Each passes
+    /// the gate before each of its jobs. The answer is the same for every number of workers.
     pub fn apply_with<R: Threads + Sync, G: Gate + Sync>(
         &mut self,
         rt: &R,

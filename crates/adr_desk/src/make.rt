@@ -53,8 +53,9 @@ fn committed(book: &Book, edit: &Edit) -> Result<Book, Refusal>
 }
 
 /// The groups after an accepted edit of a program, a ven or a resource.
-fn regrouped(
+fn regrouped<C: Fn(&Indexes, &[Job]) -> Result<Vec<Done>, Refusal>>(
     alloc: Global,
+    crew: &C,
     tie: Tie,
     old: &Book,
     new: &Book,
@@ -64,6 +65,7 @@ fn regrouped(
     edit: &Edit,
     meter: &mut Meter,
 ) -> Result<Schedule, Refusal>
+    requires crew { IsCrew (λ v. v.items) (C.pre crew.now) (C.post crew.now) }
     requires other { the_is_of_event edit.now ≡ false }
     requires accepted { step old.now.objects edit.now ≡ Ok new.now.objects }
     requires keys { AreKeysOf old.now.objects keys.now }
@@ -75,17 +77,24 @@ fn regrouped(
     ensures refusal { OnlyNoMemory result }
 {
     if is_of_program(edit) {
-        after_program(alloc, tie, old, new, keys, indexes, schedule, edit, meter)
+        after_program(
+            alloc, crew, tie, old, new, keys, indexes, schedule, edit, meter,
+        )
     } else if is_of_ven(edit) {
-        after_ven(alloc, tie, old, new, keys, indexes, schedule, edit, meter)
+        after_ven(
+            alloc, crew, tie, old, new, keys, indexes, schedule, edit, meter,
+        )
     } else {
-        after_resource(alloc, tie, old, new, keys, indexes, schedule, edit, meter)
+        after_resource(
+            alloc, crew, tie, old, new, keys, indexes, schedule, edit, meter,
+        )
     }
 }
 
 /// The groups after an accepted edit of a program, a ven or a resource, and then the keys. A refused call leaves the keys.
-fn followed(
+fn followed<C: Fn(&Indexes, &[Job]) -> Result<Vec<Done>, Refusal>>(
     alloc: Global,
+    crew: &C,
     tie: Tie,
     old: &Book,
     new: &Book,
@@ -95,6 +104,7 @@ fn followed(
     edit: &Edit,
     meter: &mut Meter,
 ) -> Result<Shared<Schedule>, Refusal>
+    requires crew { IsCrew (λ v. v.items) (C.pre crew.now) (C.post crew.now) }
     requires other { the_is_of_event edit.now ≡ false }
     requires whole { IsWhole old.now.objects }
     requires accepted { step old.now.objects edit.now ≡ Ok new.now.objects }
@@ -106,7 +116,9 @@ fn followed(
     ensures unchanged { OnErr result (keys.new ≡ keys.old) }
     ensures refusal { OnlyNoMemory result }
 {
-    let after = regrouped(alloc, tie, old, new, keys, indexes, schedule, edit, meter)?;
+    let after = regrouped(
+        alloc, crew, tie, old, new, keys, indexes, schedule, edit, meter,
+    )?;
     let after = Shared::new(alloc, after)?;
     keys.follow(old.objects(), edit)?;
     Ok(after)
@@ -114,8 +126,9 @@ fn followed(
 
 /// Makes an accepted edit of a program, a ven or a resource to the keys, and answers the groups after it. A refused call
 /// leaves the keys.
-fn after_other(
+fn after_other<C: Fn(&Indexes, &[Job]) -> Result<Vec<Done>, Refusal>>(
     alloc: Global,
+    crew: &C,
     tie: Tie,
     old: &Book,
     new: &Book,
@@ -125,6 +138,7 @@ fn after_other(
     edit: &Edit,
     meter: &mut Meter,
 ) -> Result<Shared<Schedule>, Refusal>
+    requires crew { IsCrew (λ v. v.items) (C.pre crew.now) (C.post crew.now) }
     requires other { the_is_of_event edit.now ≡ false }
     requires accepted { step old.now.objects edit.now ≡ Ok new.now.objects }
     requires desk { IsDesk tie old.now.objects keys.old indexes.now schedule.now }
@@ -135,7 +149,9 @@ fn after_other(
     ensures refusal { OnlyNoMemory result }
 {
     old.book_laws();
-    let after = followed(alloc, tie, old, new, keys, indexes, schedule, edit, meter)?;
+    let after = followed(
+        alloc, crew, tie, old, new, keys, indexes, schedule, edit, meter,
+    )?;
     Ok(after)
 }
 
@@ -167,7 +183,9 @@ fn grouped<C: Fn(&Indexes, &[Job]) -> Result<Vec<Done>, Refusal>>(
             alloc, crew, tie, old, new, keys, indexes, schedule, edit, meter,
         )
     } else {
-        after_other(alloc, tie, old, new, keys, indexes, schedule, edit, meter)
+        after_other(
+            alloc, crew, tie, old, new, keys, indexes, schedule, edit, meter,
+        )
     }
 }
 

@@ -5,6 +5,7 @@ ghost use Rattle.adr_model.specs.Book.{resource_by};
 ghost use Rattle.adr_model.specs.Edits.{step};
 ghost use Rattle.adr_model.specs.Touches.{touches};
 ghost use Rattle.adr_audience.specs.Keys.{AreKeysOf};
+ghost use Rattle.adr_group.specs.Jobs.{IsCrew};
 ghost use Rattle.adr_lines.specs.Exchange.{IsIndexOf};
 ghost use Rattle.adr_schedule.specs.Place.{LacksPlace, StaysRight};
 ghost use Rattle.adr_schedule.specs.Seating.{AreSeatedFor};
@@ -15,6 +16,7 @@ use crate::places::places_for;
 use crate::reseat::reseated_all;
 use adr_audience::Audiences;
 use adr_book::Book;
+use adr_group::{Done, Job};
 use adr_lines::Indexes;
 use adr_model::Tie;
 use adr_object::{Edit, Id};
@@ -28,8 +30,9 @@ use std::alloc::Global;
 ///
 /// `keys` and `indexes` are those of the old book. Cost: where a ven changes a look at each resource, and for those of
 /// the ven a query of the keys and `Schedule::rewritten`. `NoMemory` where there is no room.
-pub fn after_ven(
+pub fn after_ven<C: Fn(&Indexes, &[Job]) -> Result<Vec<Done>, Refusal>>(
     alloc: Global,
+    crew: &C,
     tie: Tie,
     old: &Book,
     new: &Book,
@@ -39,6 +42,7 @@ pub fn after_ven(
     edit: &Edit,
     meter: &mut Meter,
 ) -> Result<Schedule, Refusal>
+    requires crew { IsCrew (λ v. v.items) (C.pre crew.now) (C.post crew.now) }
     requires ven { is_of_ven edit.now ≡ true }
     requires accepted { step old.now.objects edit.now ≡ Ok new.now.objects }
     requires keys { AreKeysOf old.now.objects keys.now }
@@ -53,13 +57,16 @@ pub fn after_ven(
     new.book_laws();
     let places = places_for(alloc, old, edit)?;
     let same = schedule.copy()?;
-    let after = reseated_all(alloc, tie, old, new, keys, indexes, same, &places, meter)?;
+    let after = reseated_all(
+        alloc, crew, tie, old, new, keys, indexes, same, &places, meter,
+    )?;
     Ok(after)
 }
 
 /// The schedule where the one place that has other events than before has the writes of those that apply now.
-fn reseated_at(
+fn reseated_at<C: Fn(&Indexes, &[Job]) -> Result<Vec<Done>, Refusal>>(
     alloc: Global,
+    crew: &C,
     tie: Tie,
     old: &Book,
     new: &Book,
@@ -70,6 +77,7 @@ fn reseated_at(
     place: usize,
     meter: &mut Meter,
 ) -> Result<Schedule, Refusal>
+    requires crew { IsCrew (λ v. v.items) (C.pre crew.now) (C.post crew.now) }
     requires resource { is_of_resource edit.now ≡ true }
     requires accepted { step old.now.objects edit.now ≡ Ok new.now.objects }
     requires keys { AreKeysOf old.now.objects keys.now }
@@ -84,7 +92,7 @@ fn reseated_at(
     let mut places = Vec::new(alloc);
     places.push(place)?;
     let after = reseated_all(
-        alloc, tie, old, new, keys, indexes, schedule, &places, meter,
+        alloc, crew, tie, old, new, keys, indexes, schedule, &places, meter,
     )?;
     Ok(after)
 }
@@ -108,8 +116,9 @@ fn without(alloc: Global, old: &Book, schedule: &Schedule, id: &Id) -> Result<Sc
 ///
 /// `keys` and `indexes` are those of the old book. Cost: a query of the keys and `Schedule::rewritten`. `NoMemory`
 /// where there is no room.
-pub fn after_resource(
+pub fn after_resource<C: Fn(&Indexes, &[Job]) -> Result<Vec<Done>, Refusal>>(
     alloc: Global,
+    crew: &C,
     tie: Tie,
     old: &Book,
     new: &Book,
@@ -119,6 +128,7 @@ pub fn after_resource(
     edit: &Edit,
     meter: &mut Meter,
 ) -> Result<Schedule, Refusal>
+    requires crew { IsCrew (λ v. v.items) (C.pre crew.now) (C.post crew.now) }
     requires resource { is_of_resource edit.now ≡ true }
     requires accepted { step old.now.objects edit.now ≡ Ok new.now.objects }
     requires keys { AreKeysOf old.now.objects keys.now }
@@ -137,7 +147,7 @@ pub fn after_resource(
             let more = schedule.with_place(alloc)?;
             let place = schedule.len();
             let after = reseated_at(
-                alloc, tie, old, new, keys, indexes, more, edit, place, meter,
+                alloc, crew, tie, old, new, keys, indexes, more, edit, place, meter,
             )?;
             Ok(after)
         }
@@ -147,7 +157,7 @@ pub fn after_resource(
             };
             let same = schedule.copy()?;
             let after = reseated_at(
-                alloc, tie, old, new, keys, indexes, same, edit, place, meter,
+                alloc, crew, tie, old, new, keys, indexes, same, edit, place, meter,
             )?;
             Ok(after)
         }

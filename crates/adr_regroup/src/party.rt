@@ -7,6 +7,7 @@ ghost use Rattle.adr_audience.specs.Keys.{AreKeysOf};
 ghost use Rattle.adr_stretch.specs.Grouped.{entries_under};
 ghost use Rattle.adr_lines.specs.declared.indexes.Indexes.{Indexes as AnyIndexes};
 ghost use Rattle.adr_group.specs.Group.{AreWindowsOf, Lines};
+ghost use Rattle.adr_group.specs.Jobs.{IsCrew};
 ghost use Rattle.adr_group.specs.Repair.{most_possible, most_repaired};
 ghost use Rattle.adr_lines.specs.Exchange.{IsIndexOf};
 ghost use Rattle.adr_schedule.specs.Place.{IsRewritten};
@@ -17,7 +18,7 @@ ghost use Rattle.adr_regroup.specs.Party.{entries_but, entries_unless, numbers_a
 
 use adr_audience::Audiences;
 use adr_book::Book;
-use adr_group::Writes;
+use adr_group::{Done, Job, Writes};
 use adr_lines::Indexes;
 use adr_model::Tie;
 use adr_object::{Resource, Ven};
@@ -129,8 +130,9 @@ fn difference(
 }
 
 /// The schedule with these writes at the place, which shares the group of the place `like` where that has them.
-pub(crate) fn with_writes(
+pub(crate) fn with_writes<C: Fn(&Indexes, &[Job]) -> Result<Vec<Done>, Refusal>>(
     alloc: Global,
+    crew: &C,
     tie: Tie,
     book: &Book,
     indexes: &Indexes,
@@ -140,6 +142,7 @@ pub(crate) fn with_writes(
     writes: &Writes,
     meter: &mut Meter,
 ) -> Result<Schedule, Refusal>
+    requires crew { IsCrew (λ v. v.items) (C.pre crew.now) (C.post crew.now) }
     requires within { place < length schedule.now.seats }
     requires room { (most : ℕ) × IsMostOf tie book.now.objects.events indexes.now most × ((g : Lines) → group_at schedule.now place ≡ Some g → meter.old + (length g.writes + length writes.now) * most < 2 ^ 128) }
     ensures writes { IfOk result (λ after. IsRewritten place writes.now schedule.now after) }
@@ -156,5 +159,5 @@ pub(crate) fn with_writes(
         unreachable!();
     };
     let windows = difference(alloc, tie, book, group.writes(), writes)?;
-    schedule.rewritten(alloc, indexes, place, writes, &windows, meter)
+    schedule.rewritten(alloc, indexes, crew, place, writes, &windows, meter)
 }

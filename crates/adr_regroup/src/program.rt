@@ -8,6 +8,7 @@ ghost use Rattle.adr_model.specs.Touches.{touches};
 ghost use Rattle.adr_object.specs.declared.object.Edit.TheVariants.{Change as change_to};
 ghost use Rattle.adr_audience.specs.Keys.{AreKeysOf};
 ghost use Rattle.adr_audience.specs.Laws.{applying_places};
+ghost use Rattle.adr_group.specs.Jobs.{IsCrew};
 ghost use Rattle.adr_lines.specs.Exchange.{IsIndexOf};
 ghost use Rattle.adr_schedule.specs.Moves.{is_among};
 ghost use Rattle.adr_schedule.specs.Seating.{AreSeatedFor};
@@ -18,6 +19,7 @@ ghost use Rattle.adr_regroup.specs.Program.{is_of_program, is_program, with_prog
 use crate::reseat::reseated_all;
 use adr_audience::Audiences;
 use adr_book::Book;
+use adr_group::{Done, Job};
 use adr_lines::Indexes;
 use adr_model::Tie;
 use adr_object::{Edit, Event, Kind, Object, Program};
@@ -183,8 +185,9 @@ fn marked(alloc: Global, marks: &[bool]) -> Result<Vec<usize>, Refusal>
 
 /// The schedule where each of the places has the writes of the events that apply to its resource, and the keys that tell
 /// them are made anew; with no places it is the same.
-fn reseated(
+fn reseated<C: Fn(&Indexes, &[Job]) -> Result<Vec<Done>, Refusal>>(
     alloc: Global,
+    crew: &C,
     tie: Tie,
     new: &Book,
     indexes: &Indexes,
@@ -192,6 +195,7 @@ fn reseated(
     places: &[usize],
     meter: &mut Meter,
 ) -> Result<Schedule, Refusal>
+    requires crew { IsCrew (λ v. v.items) (C.pre crew.now) (C.post crew.now) }
     requires places { (p : ℕ) → is_among places.now p ≡ true → p < length new.now.objects.resources }
     requires few { length places.now ≤ length new.now.objects.resources }
     requires indexed { IsIndexOf tie new.now.objects.events indexes.now }
@@ -207,13 +211,16 @@ fn reseated(
         return Ok(same);
     }
     let keys = Audiences::of(alloc, new.objects())?;
-    let after = reseated_all(alloc, tie, new, new, &keys, indexes, same, places, meter)?;
+    let after = reseated_all(
+        alloc, crew, tie, new, new, &keys, indexes, same, places, meter,
+    )?;
     Ok(after)
 }
 
 /// The schedule after the program is changed to this one.
-fn after_change(
+fn after_change<C: Fn(&Indexes, &[Job]) -> Result<Vec<Done>, Refusal>>(
     alloc: Global,
+    crew: &C,
     tie: Tie,
     old: &Book,
     new: &Book,
@@ -223,6 +230,7 @@ fn after_change(
     program: &Program,
     meter: &mut Meter,
 ) -> Result<Schedule, Refusal>
+    requires crew { IsCrew (λ v. v.items) (C.pre crew.now) (C.post crew.now) }
     requires there { is_some (program_by old.now.objects program.now.id) ≡ true }
     requires made { new.now.objects ≡ with_program old.now.objects program.now }
     requires keys { AreKeysOf old.now.objects keys.now }
@@ -240,13 +248,23 @@ fn after_change(
     };
     let marks = marks_of(alloc, old, keys, was, program)?;
     let places = marked(alloc, marks.as_slice())?;
-    let after = reseated(alloc, tie, new, indexes, schedule, places.as_slice(), meter)?;
+    let after = reseated(
+        alloc,
+        crew,
+        tie,
+        new,
+        indexes,
+        schedule,
+        places.as_slice(),
+        meter,
+    )?;
     Ok(after)
 }
 
 /// The schedule after the object, which is a program, is changed to this one.
-fn after_object(
+fn after_object<C: Fn(&Indexes, &[Job]) -> Result<Vec<Done>, Refusal>>(
     alloc: Global,
+    crew: &C,
     tie: Tie,
     old: &Book,
     new: &Book,
@@ -256,6 +274,7 @@ fn after_object(
     object: &Object,
     meter: &mut Meter,
 ) -> Result<Schedule, Refusal>
+    requires crew { IsCrew (λ v. v.items) (C.pre crew.now) (C.post crew.now) }
     requires program { is_program object.now ≡ true }
     requires accepted { step old.now.objects (change_to object.now) ≡ Ok new.now.objects }
     requires keys { AreKeysOf old.now.objects keys.now }
@@ -270,7 +289,7 @@ fn after_object(
         Object::Program(program) => {
             let program = program.get();
             let after = after_change(
-                alloc, tie, old, new, keys, indexes, schedule, program, meter,
+                alloc, crew, tie, old, new, keys, indexes, schedule, program, meter,
             )?;
             Ok(after)
         }
@@ -285,8 +304,9 @@ fn after_object(
 /// `keys` and `indexes` are those of the old book. Cost: a look at each event, and for those of a program that changes
 /// two queries of the keys; where places differ, the keys of the new book, and for each such place a query of them and
 /// `Schedule::rewritten`. `NoMemory` where there is no room.
-pub fn after_program(
+pub fn after_program<C: Fn(&Indexes, &[Job]) -> Result<Vec<Done>, Refusal>>(
     alloc: Global,
+    crew: &C,
     tie: Tie,
     old: &Book,
     new: &Book,
@@ -296,6 +316,7 @@ pub fn after_program(
     edit: &Edit,
     meter: &mut Meter,
 ) -> Result<Schedule, Refusal>
+    requires crew { IsCrew (λ v. v.items) (C.pre crew.now) (C.post crew.now) }
     requires program { is_of_program edit.now ≡ true }
     requires accepted { step old.now.objects edit.now ≡ Ok new.now.objects }
     requires keys { AreKeysOf old.now.objects keys.now }
@@ -310,7 +331,9 @@ pub fn after_program(
     match edit {
         Edit::Create(_) => Ok(schedule.copy()?),
         Edit::Change(object) => {
-            let after = after_object(alloc, tie, old, new, keys, indexes, schedule, object, meter)?;
+            let after = after_object(
+                alloc, crew, tie, old, new, keys, indexes, schedule, object, meter,
+            )?;
             Ok(after)
         }
         Edit::Remove(_, _) => Ok(schedule.copy()?),

@@ -4,6 +4,7 @@ ghost use Rattle.std.specs.List.Sorted.{IsStrictlyIncreasing};
 ghost use Rattle.adr_value.specs.Answer.{OnlyNoMemory};
 ghost use Rattle.adr_audience.specs.Keys.{AreKeysOf};
 ghost use Rattle.adr_group.specs.Group.{Lines};
+ghost use Rattle.adr_group.specs.Jobs.{IsCrew};
 ghost use Rattle.adr_lines.specs.Exchange.{IsIndexOf};
 ghost use Rattle.adr_schedule.specs.Moves.{is_among};
 ghost use Rattle.adr_schedule.specs.Seating.{group_at, AreSeatedFor};
@@ -13,7 +14,7 @@ ghost use Rattle.adr_regroup.specs.Party.{most_reseated, AreSeatedBut, AreWrites
 use crate::party::{with_writes, writes_for};
 use adr_audience::Audiences;
 use adr_book::Book;
-use adr_group::Writes;
+use adr_group::{Done, Job, Writes};
 use adr_lines::{Indexes, index_laws};
 use adr_model::Tie;
 use adr_rule::Meter;
@@ -97,8 +98,9 @@ fn place_like(
 
 /// The schedule where the place has the writes of the events that apply to its resource, which leaves the others to be
 /// seen to.
-fn reseated(
+fn reseated<C: Fn(&Indexes, &[Job]) -> Result<Vec<Done>, Refusal>>(
     alloc: Global,
+    crew: &C,
     tie: Tie,
     old: &Book,
     new: &Book,
@@ -110,6 +112,7 @@ fn reseated(
     like: Option<usize>,
     meter: &mut Meter,
 ) -> Result<Schedule, Refusal>
+    requires crew { IsCrew (λ v. v.items) (C.pre crew.now) (C.post crew.now) }
     requires place { place < length new.now.objects.resources }
     requires keys { AreKeysOf old.now.objects keys.now }
     requires kept { KeepsEvents old.now.objects new.now.objects }
@@ -130,15 +133,16 @@ fn reseated(
     writes_ascend(schedule, place);
     let like = place_like(schedule, like, place, &writes);
     let after = with_writes(
-        alloc, tie, new, indexes, schedule, place, like, &writes, meter,
+        alloc, crew, tie, new, indexes, schedule, place, like, &writes, meter,
     )?;
     Ok(after)
 }
 
 /// The schedule where each of the places has the writes of the events that apply to its resource. A place shares the group
 /// of the last one that was seen to, or of one a little before it, where that has the same writes.
-pub(crate) fn reseated_all(
+pub(crate) fn reseated_all<C: Fn(&Indexes, &[Job]) -> Result<Vec<Done>, Refusal>>(
     alloc: Global,
+    crew: &C,
     tie: Tie,
     old: &Book,
     new: &Book,
@@ -148,6 +152,7 @@ pub(crate) fn reseated_all(
     places: &[usize],
     meter: &mut Meter,
 ) -> Result<Schedule, Refusal>
+    requires crew { IsCrew (λ v. v.items) (C.pre crew.now) (C.post crew.now) }
     requires places { (p : ℕ) → is_among places.now p ≡ true → p < length new.now.objects.resources }
     requires keys { AreKeysOf old.now.objects keys.now }
     requires kept { KeepsEvents old.now.objects new.now.objects }
@@ -164,7 +169,7 @@ pub(crate) fn reseated_all(
     let mut rest = places;
     'rest: while let Some((place, others)) = rest.split_first() {
         after = reseated(
-            alloc, tie, old, new, keys, indexes, &after, *place, others, like, meter,
+            alloc, crew, tie, old, new, keys, indexes, &after, *place, others, like, meter,
         )?;
         like = Some(*place);
         rest = others;

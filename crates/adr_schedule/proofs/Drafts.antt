@@ -12,8 +12,9 @@ use Rattle.adr_stretch.specs.declared.grouped.TypeEntries.{TypeEntries}
 use Rattle.adr_stretch.specs.Grouped.{any_covers_at, entries_under}
 use Rattle.adr_stretch.specs.Right.{has_number}
 use Rattle.adr_lines.specs.declared.indexes.Indexes.{Indexes}
+use Rattle.adr_lines.specs.Exchange.{IsIndexOf}
 use Rattle.adr_lines.specs.Indexes.{under}
-use Rattle.adr_group.specs.Group.{IsRightOf, Lines}
+use Rattle.adr_group.specs.Group.{AreWindowsOf, IsRightOf, Lines}
 use Rattle.adr_group.specs.Jobs.{jobs_for, most_done, AreAlike}
 use Rattle.adr_group.specs.Repair.{most_inside, most_possible, most_repaired}
 use Rattle.adr_group.proofs.Possible.{both_possible, possible}
@@ -174,6 +175,29 @@ every_made indexes drafts rest made none a = record { of = a.of; has = λ d m. h
     has : (d : Draft) → In d rest ⊎ ((h : Lines) × (in_slot made d.slot ≡ Some h)) → (h : Lines) × (in_slot made d.slot ≡ Some h)
     has d (inl m) = absurd (subst (λ l. In d l) none m)
     has d (inr k) = k
+
+-- windows that cover what others do hold what those hold
+alike_within : (events : List Written) (writes others : List ℕ) (windows wide : List TypeEntries) → AreAlike windows wide
+    → AreWindowsOf events writes others (entries_under wide) → AreWindowsOf events writes others (entries_under windows)
+alike_within events writes others windows wide alike within w m = by (within w m)
+  where
+    by : (has_number writes w.written ≡ has_number others w.written)
+        ⊎ ((k : PayloadType) (t : ℤ) → any_covers_at (entries_of k w) t ≡ true → any_covers_at (entries_under wide k) t ≡ true)
+        → (has_number writes w.written ≡ has_number others w.written)
+        ⊎ ((k : PayloadType) (t : ℤ) → any_covers_at (entries_of k w) t ≡ true → any_covers_at (entries_under windows k) t ≡ true)
+    by (inl e) = inl e
+    by (inr f) = inr (λ k t c. alike.covers k t ∙ f k t c)
+
+-- what was made of a group's draft is right of what the group was, where the windows hold what its old and new writes differ on
+pub made_right : (indexes : Indexes) (g h : Lines) (d : Draft) (writes : List ℕ) (windows : List TypeEntries)
+    → d.group ≡ g → d.writes ≡ writes → AreAlike d.windows.items windows → IsMadeOf indexes d h
+    → (tie : Tie) (events : List Written) → IsIndexOf tie events indexes → AreWindowsOf events g.writes writes (entries_under windows)
+    → IsRightOf tie events g → IsRightOf tie events h
+made_right indexes g h d writes windows group own alike made tie events index within right =
+    made.right tie events index
+    (subst (λ (x : Lines). AreWindowsOf events x.writes d.writes (entries_under d.windows.items)) (sym group)
+    (subst (λ ws. AreWindowsOf events g.writes ws (entries_under d.windows.items)) (sym own) (alike_within events g.writes writes d.windows.items windows alike within)))
+    (subst (λ x. IsRightOf tie events x) (sym group) right)
 
 -- ---- what becomes of the groups
 

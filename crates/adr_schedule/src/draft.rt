@@ -145,6 +145,30 @@ fn drafted(
     }))
 }
 
+/// The draft of the group in the slot, for it to have those writes: it is repaired inside these windows. `NoMemory` where
+/// there is no room for it. Cost: a copy of the writes, and one of the windows.
+pub(crate) fn draft_with(
+    alloc: Global,
+    slot: u64,
+    group: &Group,
+    writes: &Writes,
+    windows: &[TypeEntries],
+) -> Result<Draft, Refusal>
+    ensures group { IfOk result (λ draft. draft.group ≡ group.now) }
+    ensures writes { IfOk result (λ draft. draft.writes ≡ writes.now) }
+    ensures windows { IfOk result (λ draft. AreAlike draft.windows.items windows.now) }
+    ensures refusal { OnlyNoMemory result }
+{
+    let windows = shared_list(alloc, &[], windows)?;
+    let writes = Shared::new(alloc, writes.copy()?)?;
+    Ok(Draft {
+        slot,
+        group: group.copy()?,
+        writes,
+        windows,
+    })
+}
+
 /// The drafts of some slots, and those slots: each stands under its own number.
 #[derive(Drop)]
 struct Drafts {

@@ -4,7 +4,8 @@ ghost use Rattle.std.specs.List.{AllZip};
 ghost use Rattle.adr_value.specs.Answer.{OnlyNoMemory};
 ghost use Rattle.adr_shared.specs.Map.{put};
 ghost use Rattle.adr_lines.specs.declared.indexes.Indexes.{Indexes as AllIndexes};
-ghost use Rattle.adr_group.specs.Jobs.{jobs_for, most_done, AreDone, IsCrew, IsDone};
+ghost use Rattle.adr_group.specs.Jobs.{most_done, AreDone, IsCrew, IsDone};
+ghost use Rattle.adr_group.specs.Repair.{most_repaired};
 ghost use Rattle.adr_schedule.specs.Draft.{jobs_of as the_jobs_of, most_drafted, AreMadeOf, IsMadeOf};
 
 use crate::draft::Draft;
@@ -125,6 +126,28 @@ fn done_by<C: Fn(&Indexes, &[Job]) -> Result<Vec<Done>, Refusal>>(
     ensures refusal { OnlyNoMemory result }
 {
     crew(indexes, jobs)
+}
+
+/// The group of one draft: the crew does its jobs, one for each payload type. `NoMemory` where there is no room.
+pub(crate) fn one_made_by<C: Fn(&Indexes, &[Job]) -> Result<Vec<Done>, Refusal>>(
+    alloc: Global,
+    indexes: &Indexes,
+    crew: &C,
+    draft: &Draft,
+    meter: &mut Meter,
+) -> Result<Group, Refusal>
+    requires room { meter.old + most_repaired draft.now.windows.items draft.now.writes indexes.now < 2 ^ 128 }
+    requires crew { IsCrew (λ v. v.items) (C.pre crew.now) (C.post crew.now) }
+    ensures made { IfOk result (IsMadeOf indexes.now draft.now) }
+    ensures compared { meter.new ≤ meter.old + most_repaired draft.now.windows.items draft.now.writes indexes.now }
+    ensures refusal { OnlyNoMemory result }
+{
+    let mut jobs = Vec::new(alloc);
+    add_jobs(&mut jobs, draft)?;
+    let done = done_by(indexes, crew, jobs.as_slice())?;
+    count(meter, done.as_slice());
+    let made = made_of(alloc, draft, done.as_slice())?;
+    Ok(made)
 }
 
 /// The groups of the drafts, each in its slot: the crew does their jobs. `NoMemory` where there is no room.

@@ -7,14 +7,17 @@ ghost use Rattle.adr_shared.specs.Map.{without};
 ghost use Rattle.adr_stretch.specs.Grouped.{entries_under};
 ghost use Rattle.adr_lines.specs.Exchange.{IsIndexOf};
 ghost use Rattle.adr_group.specs.Group.{AreWindowsOf, IsRightOf, Lines};
+ghost use Rattle.adr_group.specs.Jobs.{IsCrew};
 ghost use Rattle.adr_group.specs.Repair.{most_possible, most_repaired};
 ghost use Rattle.adr_schedule.specs.Place.{HasPlace, HasValue, IsPlaced, IsRewritten, IsSlotWith, LacksPlace, StaysRight, StaysRightInside};
 ghost use Rattle.adr_schedule.specs.Seating.{group_at};
 ghost use Rattle.adr_schedule.specs.Slots.{in_slot, is_taken};
 
+use crate::draft::draft_with;
+use crate::made::one_made_by;
 use crate::moves::{Moves, sit};
 use crate::schedule::Schedule;
-use adr_group::{Group, Writes, repairs_compare_little};
+use adr_group::{Done, Group, Job, Writes, repairs_compare_little};
 use adr_lines::Indexes;
 use adr_rule::Meter;
 use adr_seats::Seats;
@@ -40,15 +43,18 @@ fn without_unused(
     }
 }
 
-/// The group of those writes, made of the old one.
-fn remade(
+/// The group of those writes, made of the old one, which is in the slot: the crew does its jobs.
+fn remade<C: Fn(&Indexes, &[Job]) -> Result<Vec<Done>, Refusal>>(
     alloc: Global,
     indexes: &Indexes,
+    crew: &C,
+    slot: u64,
     group: &Group,
     writes: &Writes,
     windows: &[TypeEntries],
     meter: &mut Meter,
 ) -> Result<Group, Refusal>
+    requires crew { IsCrew (λ v. v.items) (C.pre crew.now) (C.post crew.now) }
     requires room { meter.old + most_possible windows.now indexes.now < 2 ^ 128 }
     ensures writes { IfOk result (λ made. made.writes ≡ writes.now) }
     ensures right { IfOk result (λ made. (tie : Tie) (events : List Written) → IsIndexOf tie events indexes.now → AreWindowsOf events group.now.writes writes.now (entries_under windows.now) → IsRightOf tie events group.now → IsRightOf tie events made) }
@@ -57,8 +63,9 @@ fn remade(
     ensures refusal { OnlyNoMemory result }
 {
     repairs_compare_little();
-    let writes = writes.copy()?;
-    group.repaired(alloc, indexes, windows, &[], writes, meter)
+    let draft = draft_with(alloc, slot, group, writes, windows)?;
+    let made = one_made_by(alloc, indexes, crew, &draft, meter)?;
+    Ok(made)
 }
 
 impl Schedule {
@@ -193,20 +200,22 @@ impl Schedule {
     }
 
     /// Gives the place these writes: a group is made of the old one by repair inside the windows, which must hold the
-    /// entries of each event on which the writes differ. [`Schedule::shared`] may spare that. `NoMemory` where there is no
-    /// room.
+    /// entries of each event on which the writes differ. The crew does that, one job a payload type.
+    /// [`Schedule::shared`] may spare it. `NoMemory` where there is no room.
     ///
-    /// Cost: a copy of the table of seats, and that of `Group::repaired`.
-    pub fn rewritten(
+    /// Cost: a copy of the table of seats, one of the windows, and that of the jobs.
+    pub fn rewritten<C: Fn(&Indexes, &[Job]) -> Result<Vec<Done>, Refusal>>(
         &self,
         alloc: Global,
         indexes: &Indexes,
+        crew: &C,
         place: usize,
         writes: &Writes,
         windows: &[TypeEntries],
         meter: &mut Meter,
     ) -> Result<Schedule, Refusal>
         requires within { place < length self.now.seats }
+        requires crew { IsCrew (λ v. v.items) (C.pre crew.now) (C.post crew.now) }
         requires room { meter.old + most_possible windows.now indexes.now < 2 ^ 128 }
         ensures writes { IfOk result (λ after. IsRewritten place writes.now self.now after) }
         ensures right { IfOk result (λ after. StaysRightInside indexes.now windows.now place writes.now self.now after) }
@@ -220,7 +229,7 @@ impl Schedule {
         let Some(group) = self.groups.get(&slot) else {
             unreachable!();
         };
-        let made = remade(alloc, indexes, group, writes, windows, meter)?;
+        let made = remade(alloc, indexes, crew, slot, group, writes, windows, meter)?;
         self.apart(alloc, place, slot, made)
     }
 }

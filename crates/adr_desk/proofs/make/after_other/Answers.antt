@@ -7,7 +7,7 @@ use Rattle.adr_desk.proofs.LastKind.{other_events}
 use Rattle.adr_desk.proofs.make.after_other.Goals as goal
 
 pub returns-clause-ok : goal.returns-clause-ok
-returns-clause-ok c =
+returns-clause-ok g c =
     let old = c.args.old.now.objects in
     let new = c.args.new.now.objects in
     let edit = c.args.edit.now in

@@ -18,32 +18,32 @@ fits meter n count e h l =
     omega (arith, e, few)
 
 pub reseated_all-requires-clause-places : goal.reseated_all-requires-clause-places
-reseated_all-requires-clause-places c =
+reseated_all-requires-clause-places g c =
     subst (λ (ps : List ℕ). (p : ℕ) → is_among ps p ≡ true → p < length c.args.new.now.objects.resources) (sym c.deref.ensures.value)
     (ven_places c.args.old.now.objects c.args.new.now.objects c.args.edit.now c.in_ok-places.places.items c.requires.ven c.requires.accepted c.in_ok-places.ensures.places)
 
 pub reseated_all-requires-clause-kept : goal.reseated_all-requires-clause-kept
-reseated_all-requires-clause-kept c = ven_keeps c.args.old.now.objects c.args.new.now.objects c.args.edit.now c.requires.ven c.requires.accepted
+reseated_all-requires-clause-kept g c = ven_keeps c.args.old.now.objects c.args.new.now.objects c.args.edit.now c.requires.ven c.requires.accepted
 
 pub reseated_all-requires-clause-indexed : goal.reseated_all-requires-clause-indexed
-reseated_all-requires-clause-indexed c =
+reseated_all-requires-clause-indexed g c =
     subst (λ (es : List Written). IsIndexOf c.args.tie es c.args.indexes.now)
     (sym (ven_keeps c.args.old.now.objects c.args.new.now.objects c.args.edit.now c.requires.ven c.requires.accepted).events) c.requires.indexed
 
 pub reseated_all-requires-clause-seated : goal.reseated_all-requires-clause-seated
-reseated_all-requires-clause-seated c =
+reseated_all-requires-clause-seated g c =
     let new = c.args.new.now.objects in
     subst (λ (ps : List ℕ). AreSeatedBut c.args.tie new ps c.in_ok-same.same) (sym c.deref.ensures.value)
     (subst (λ (s : Seating). AreSeatedBut c.args.tie new c.in_ok-places.places.items s) (sym c.in_ok-same.ensures)
     (ven_starts c.args.tie c.args.old.now.objects new c.args.edit.now c.in_ok-places.places.items c.args.schedule.now c.requires.ven c.requires.accepted c.in_ok-places.ensures.places c.requires.seated))
 
 pub reseated_all-requires-clause-room : goal.reseated_all-requires-clause-room
-reseated_all-requires-clause-room c =
+reseated_all-requires-clause-room g c =
     subst (λ (ps : List ℕ). c.args.meter.now + length ps * most_reseated < 2 ^ 128) (sym c.deref.ensures.value)
     (fits c.args.meter.now (length c.in_ok-places.places.items) (length c.args.old.now.objects.resources) c.requires.begun c.in_ok-places.ensures.places.few c.book_laws.ensures.within.resources)
 
 pub returns-clause-least : goal.returns-clause-least
-returns-clause-least c =
+returns-clause-least g c =
     let old = c.args.old.now.objects in
     let new = c.args.new.now.objects in
     let places = c.in_ok-places.places.items in

@@ -8,15 +8,15 @@ use Rattle.adr_regroup.specs.Compared.{cost_but}
 use Rattle.adr_regroup.proofs.party.with_writes.Goals as goal
 
 pub unreachable-requires : goal.unreachable-requires
-unreachable-requires c =
-    let g = c.schedule_laws.ensures c.args.place c.requires.within in
-    none_is_some g.0 (c.in_default-group.ensures.value ∙ g.1)
+unreachable-requires g c =
+    let held = c.schedule_laws.ensures c.args.place c.requires.within in
+    none_is_some held.0 (c.in_default-group.ensures.value ∙ held.1)
 
 fits : (a p q l limit : ℕ) → q ≡ p → p ≤ l → a + l < limit → a + q < limit
 fits a p q l limit e f g = omega (arith, e, f, g)
 
 pub rewritten-requires-clause-room : goal.rewritten-requires-clause-room
-rewritten-requires-clause-room c =
+rewritten-requires-clause-room g c =
     let group : Lines = c.in-Some-group.group.now in
     let indexes = c.args.indexes.now in
     let windows = c.in_ok-windows.windows.items in
@@ -27,7 +27,7 @@ rewritten-requires-clause-room c =
     (ap (λ gs. most_possible gs indexes) c.deref.ensures.value) few (c.requires.room.2 group (sym c.in-Some-group.ensures.value))
 
 pub returns-clause-right : goal.returns-clause-right
-returns-clause-right c =
+returns-clause-right g c =
     let events = c.args.book.now.objects.events in
     let group : Lines = c.in-Some-group.group.now in
     let new = c.args.writes.now in
@@ -39,10 +39,10 @@ returns-clause-right c =
     c.rewritten.ensures.right
 
 pub returns-clause-least : goal.returns-clause-least
-returns-clause-least c g cost at bound =
+returns-clause-least g c lines cost at bound =
     let events = c.args.book.now.objects.events in
     let new = c.args.writes.now in
-    let same : c.writes.result.now ≡ g.writes = c.writes.ensures ∙ ap (λ (x : Lines). x.writes) (some_same c.in-Some-group.group.now g (c.in-Some-group.ensures.value ∙ at)) in
+    let same : c.writes.result.now ≡ lines.writes = c.writes.ensures ∙ ap (λ (x : Lines). x.writes) (some_same c.in-Some-group.group.now lines (c.in-Some-group.ensures.value ∙ at)) in
     let least = c.in_ok-windows.ensures.least c.args.indexes.now new cost bound in
     let first = ap (λ ns. cost_but cost events ns new) same in
     let second = ap (λ ns. cost_but cost events new ns) same in

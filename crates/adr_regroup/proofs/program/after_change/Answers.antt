@@ -9,7 +9,7 @@ use Rattle.adr_regroup.proofs.Turned.{left_to_reseat}
 use Rattle.adr_regroup.proofs.program.after_change.Goals as goal
 
 pub reseated-requires-clause-seated : goal.reseated-requires-clause-seated
-reseated-requires-clause-seated c =
+reseated-requires-clause-seated g c =
     let old = c.args.old.now.objects in
     let marks = c.in_ok-marks.marks.items in
     let places = c.in_ok-places.places.items in
@@ -20,7 +20,7 @@ reseated-requires-clause-seated c =
     (left_to_reseat old c.args.program.now c.args.tie marks places c.args.schedule.now c.in_ok-marks.ensures.marked those c.requires.seated))
 
 pub returns-clause-least : goal.returns-clause-least
-returns-clause-least c =
+returns-clause-least g c =
     let old = c.args.old.now.objects in
     let new = c.args.new.now.objects in
     let marks = c.in_ok-marks.marks.items in

@@ -8,7 +8,7 @@ use Rattle.adr_regroup.proofs.Programs.{program_there}
 use Rattle.adr_regroup.proofs.program.after_object.Goals as goal
 
 pub after_change-requires-clause-there : goal.after_change-requires-clause-there
-after_change-requires-clause-there c =
+after_change-requires-clause-there g c =
     let old = c.args.old.now.objects in
     let new = c.args.new.now.objects in
     let program = c.in-Program.program in
@@ -17,7 +17,7 @@ after_change-requires-clause-there c =
     (accepted old new (Change (program_object program)) (subst (λ (o : Object). step old (Change o) ≡ Ok new) c.in-Program.is c.requires.accepted)).0)
 
 pub after_change-requires-clause-made : goal.after_change-requires-clause-made
-after_change-requires-clause-made c =
+after_change-requires-clause-made g c =
     let old = c.args.old.now.objects in
     let new = c.args.new.now.objects in
     let program = c.in-Program.program in

@@ -6,7 +6,7 @@ use Rattle.adr_regroup.proofs.reseat.reseated_all.Given as goal
 
 -- the places so far are seen to, and the rest may compare what is left, none more than at first
 abbrev pub invariant-rest : goal.invariant-rest
-invariant-rest l = record {
+invariant-rest g l = record {
   within : (p : ℕ) → is_among l.rest p ≡ true → p < length l.new.objects.resources;
   seated : AreSeatedBut l.tie l.new.objects l.rest l.after;
   compared : l.meter + length l.rest * most_reseated ≤ l.fn.meter + length l.places * most_reseated;
@@ -15,4 +15,4 @@ invariant-rest l = record {
 }
 
 abbrev pub decreases-rest : goal.decreases-rest
-decreases-rest l = length l.rest
+decreases-rest g l = length l.rest

@@ -1,37 +1,49 @@
-use Rattle.std.proofs.Common.{[], ◌++◌, sym, ap, arith, subst, append-nil}
-use Rattle.std.proofs.lemmas.Result.{IfOk-weaker}
-use Rattle.adr_stretch.specs.Grouped.{entries_under}
-use Rattle.adr_group.specs.Group.{AreWindowsOf}
-use Rattle.adr_group.specs.Repair.{most_possible, most_repaired}
+use Rattle.std.proofs.Common.{ap, arith}
+use Rattle.adr_group.specs.Repair.{most_repaired}
+use Rattle.adr_schedule.proofs.Drafts.{made_right}
 use Rattle.adr_schedule.proofs.place.remade.Goals as goal
 
-pub repaired-requires : goal.repaired-requires
-repaired-requires c =
-    let windows = c.args.windows.now in
-    let few = c.repairs_compare_little.ensures.possible (windows ++ []) c.in_ok-writes.writes c.args.indexes.now in
-    let same = ap (λ xs. most_possible xs c.args.indexes.now) (append-nil windows) in
-    record { room = omega (arith, few, same, c.requires.room) }
+pub one_made_by-requires-clause-room : goal.one_made_by-requires-clause-room
+one_made_by-requires-clause-room g c =
+    let indexes = c.args.indexes.now in
+    let draft = c.in_ok-draft.draft in
+    let same = c.in_ok-draft.ensures.windows.cost draft.writes indexes in
+    let few = c.repairs_compare_little.ensures.possible c.args.windows.now draft.writes indexes in
+    omega (arith, same, few, c.requires.room)
 
-pub returns-clause-compared : goal.returns-clause-compared
-returns-clause-compared c =
-    let windows = c.args.windows.now in
-    let few = c.repairs_compare_little.ensures.possible (windows ++ []) c.in_ok-writes.writes c.args.indexes.now in
-    let same = ap (λ xs. most_possible xs c.args.indexes.now) (append-nil windows) in
-    omega (arith, few, same, c.repaired.ensures.compared)
+pub returns-in_err-made-clause-compared : goal.returns-in_err-made-clause-compared
+returns-in_err-made-clause-compared g c =
+    let indexes = c.args.indexes.now in
+    let draft = c.in_ok-draft.draft in
+    let same = c.in_ok-draft.ensures.windows.cost draft.writes indexes in
+    let few = c.repairs_compare_little.ensures.possible c.args.windows.now draft.writes indexes in
+    omega (arith, same, few, c.one_made_by.ensures.compared)
+
+pub returns-in_err-made-clause-least : goal.returns-in_err-made-clause-least
+returns-in_err-made-clause-least g c =
+    let indexes = c.args.indexes.now in
+    let draft = c.in_ok-draft.draft in
+    let same = c.in_ok-draft.ensures.windows.cost draft.writes indexes in
+    let own = ap (λ ws. most_repaired c.args.windows.now ws indexes) c.in_ok-draft.ensures.writes in
+    omega (arith, same, own, c.one_made_by.ensures.compared)
 
 pub returns-clause-right : goal.returns-clause-right
-returns-clause-right c =
-    let was = c.args.group.now.writes in
-    let windows = c.args.windows.now in
-    IfOk-weaker c.repaired.result _ _
-    (λ made right tie events indexed within before. right tie events indexed
-    (subst (λ ws. AreWindowsOf events was ws (entries_under (windows ++ []))) (sym c.in_ok-writes.ensures)
-    (subst (λ xs. AreWindowsOf events was c.args.writes.now (entries_under xs)) (sym (append-nil windows)) within)) before)
-    c.repaired.ensures.right
+returns-clause-right g c =
+    let made = c.in_ok-draft.ensures in
+    made_right c.args.indexes.now c.args.group.now c.in_ok-made.made c.in_ok-draft.draft c.args.writes.now c.args.windows.now made.group made.writes made.windows c.in_ok-made.ensures.made
+
+pub returns-clause-compared : goal.returns-clause-compared
+returns-clause-compared g c =
+    let indexes = c.args.indexes.now in
+    let draft = c.in_ok-draft.draft in
+    let same = c.in_ok-draft.ensures.windows.cost draft.writes indexes in
+    let few = c.repairs_compare_little.ensures.possible c.args.windows.now draft.writes indexes in
+    omega (arith, same, few, c.one_made_by.ensures.compared)
 
 pub returns-clause-least : goal.returns-clause-least
-returns-clause-least c =
-    let windows = c.args.windows.now in
-    let copied = ap (λ ws. most_repaired (windows ++ []) ws c.args.indexes.now) c.in_ok-writes.ensures in
-    let same = ap (λ xs. most_repaired xs c.args.writes.now c.args.indexes.now) (append-nil windows) in
-    omega (arith, copied, same, c.repaired.ensures.compared)
+returns-clause-least g c =
+    let indexes = c.args.indexes.now in
+    let draft = c.in_ok-draft.draft in
+    let same = c.in_ok-draft.ensures.windows.cost draft.writes indexes in
+    let own = ap (λ ws. most_repaired c.args.windows.now ws indexes) c.in_ok-draft.ensures.writes in
+    omega (arith, same, own, c.one_made_by.ensures.compared)

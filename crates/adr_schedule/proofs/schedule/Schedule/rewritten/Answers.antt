@@ -7,7 +7,7 @@ use Rattle.adr_schedule.proofs.Seated.{at_slot}
 use Rattle.adr_schedule.proofs.schedule.Schedule.rewritten.Goals as goal
 
 pub returns-clause-right : goal.returns-clause-right
-returns-clause-right c =
+returns-clause-right g c =
     let s = c.args.self.now in
     let place = c.args.place in
     let group = c.in-Some-get.group.now in
