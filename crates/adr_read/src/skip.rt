@@ -14,6 +14,7 @@ use std::alloc::Global;
 
 /// Passes over the value that begins with this token. `BadJson` where none does.
 #[cycle(skip)]
+#[inline(always)]
 pub(crate) fn skip(
     alloc: Global,
     depth: usize,
@@ -38,6 +39,7 @@ pub(crate) fn skip(
 
 /// Passes over the value that comes next.
 #[cycle(skip)]
+#[inline(always)]
 fn skip_next(alloc: Global, depth: usize, reader: &mut Tokens<'_>) -> Result<(), Refusal>
     ensures ok { OnOk result (Comes depth reader.old reader.new) }
     ensures bad { IfErr result (λ f. f ≢ Refusal.NoMemory
@@ -49,6 +51,7 @@ fn skip_next(alloc: Global, depth: usize, reader: &mut Tokens<'_>) -> Result<(),
 
 /// Passes over the rest of an array.
 #[cycle(skip)]
+#[inline(never)]
 fn skip_items(alloc: Global, depth: usize, reader: &mut Tokens<'_>) -> Result<(), Refusal>
     ensures ok { OnOk result ((ds : Items)
         × (coming_items depth reader.old ≡ Some (ds, reader.new))) }
@@ -63,6 +66,7 @@ fn skip_items(alloc: Global, depth: usize, reader: &mut Tokens<'_>) -> Result<()
 
 /// Passes over the rest of an object.
 #[cycle(skip)]
+#[inline(never)]
 fn skip_members(alloc: Global, depth: usize, reader: &mut Tokens<'_>) -> Result<(), Refusal>
     ensures ok { OnOk result ((ms : Members)
         × (coming_members depth reader.old ≡ Some (ms, reader.new))) }

@@ -14,6 +14,7 @@ pub mod Refusals
 pub mod ScalingLemmas
 pub mod SettleLemmas
 pub mod ShieldLemmas
+pub mod ShortLemmas
 pub mod SpellingLemmas
 pub mod TextLemmas
 pub mod ValueLemmas

@@ -229,11 +229,14 @@ impl PayloadType {
         requires { IsTrue (is_name text.now) }
         ensures { IsCopyOf result (type_of text.now) }
     {
-        match signal_of_name(text)
-            .or(capacity_of_name(text))
-            .or(alert_of_name(text))
-        {
-            Some(payload_type) => Ok(payload_type),
+        if let Some(signal) = signal_of_name(text) {
+            return Ok(signal);
+        }
+        if let Some(capacity) = capacity_of_name(text) {
+            return Ok(capacity);
+        }
+        match alert_of_name(text) {
+            Some(alert) => Ok(alert),
             None => private(alloc, text),
         }
     }
