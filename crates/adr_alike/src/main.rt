@@ -39,7 +39,7 @@ fn name(tie: Tie) -> &'static str {
 }
 
 /// Runs the scripts under a rule for ties, and tells what came of it.
-fn print_alike<R: AllocGlobal + Print + Threads + Wait>(
+fn print_alike<R: AllocGlobal + Print + Threads + Wait + Sync>(
     rt: &R,
     tie: Tie,
     workers: usize,
@@ -61,7 +61,10 @@ fn print_alike<R: AllocGlobal + Print + Threads + Wait>(
 }
 
 /// Runs the scripts under both rules for ties, by one worker and by three.
-fn print_all<R: AllocGlobal + Print + Threads + Wait>(rt: &R, scripts: Scripts) -> io::Result<()> {
+fn print_all<R: AllocGlobal + Print + Threads + Wait + Sync>(
+    rt: &R,
+    scripts: Scripts,
+) -> io::Result<()> {
     for tie in [Tie::Newest, Tie::LatestStart] {
         print_alike(rt, tie, 1, scripts)?;
         print_alike(rt, tie, 3, scripts)?;

@@ -62,7 +62,7 @@ fn add_script(
 }
 
 /// Whether a run by so many workers answers the random script of that seed as the plain machine does.
-fn is_alike<R: AllocGlobal + Threads + Wait>(
+fn is_alike<R: AllocGlobal + Threads + Wait + Sync>(
     rt: &R,
     tie: Tie,
     workers: usize,
@@ -81,7 +81,7 @@ fn is_alike<R: AllocGlobal + Threads + Wait>(
 }
 
 /// The first seed whose script is answered otherwise, if there is one.
-pub(crate) fn first_unlike<R: AllocGlobal + Threads + Wait>(
+pub(crate) fn first_unlike<R: AllocGlobal + Threads + Wait + Sync>(
     rt: &R,
     tie: Tie,
     workers: usize,

@@ -1,4 +1,5 @@
 //! The editor of a board, as what a script asks.
+use crate::hands::Hands;
 use crate::resolver::Resolver;
 use adr_board::{Board, Editor, Naming, NewBoard};
 use adr_model::Tie;
@@ -7,51 +8,71 @@ use adr_plain::Published;
 use adr_time::Moment;
 use adr_value::{PayloadType, Refusal};
 use std::alloc::Global;
+use std::marker::Model;
 use std::sync::Wait;
 
 /// The editor of a board: edits repair its timelines, and queries are answered from its last publication. It is not
 /// `Drop`: end it by `close`.
-pub(crate) struct Edited<J: Naming> {
+pub(crate) struct Edited<J: Naming, C: Hands> {
     editor: Editor<J>,
+    hands: C,
     alloc: Global,
 }
 
-impl<J: Naming> Edited<J> {
+impl<J: Naming, C: Hands> Model for Edited<J, C> {
+    ghost use Rattle.adr_plain.specs.Kept.{Kept};
+    ghost use Rattle.adr_server.specs.Shown.{kept_of};
+
+    ghost Value = { Kept };
+
+    ghost view = { λ e. kept_of e.editor };
+
+    ghost invariant = { λ e. C.ready };
+}
+
+impl<J: Naming, C: Hands> Edited<J, C> {
     ghost use Rattle.std.specs.Prelude.{◌≡◌, IfOk};
     ghost use Rattle.adr_plain.specs.Kept.{kept_start};
-    ghost use Rattle.adr_server.specs.Shown.{kept_of};
 
     /// The editor of a board of its own, with no objects, published as number 0. The place of its one reader is given
     /// back. `NoMemory` or `NoRuntime` where the board can't be opened.
     pub(crate) fn open<H: Wait>(
         alloc: Global,
         rt: &H,
+        hands: C,
         board: NewBoard,
         tie: Tie,
-    ) -> Result<Edited<J>, Refusal>
-        requires { board.diary.page.book ≡ J.history }
-        ensures { IfOk result (λ edited. kept_of edited.editor ≡ kept_start tie) }
+    ) -> Result<Edited<J, C>, Refusal>
+        requires ready { C.ready }
+        requires history { board.diary.page.book ≡ J.history }
+        ensures { IfOk result (λ edited. edited ≡ kept_start tie) }
     {
         let (editor, readers) = Board::open::<J, H>(alloc, rt, board, tie, 1)?;
         drop(readers);
-        Ok(Edited { editor, alloc })
+        Ok(Edited {
+            editor,
+            hands,
+            alloc,
+        })
     }
 
     /// Ends the board.
     pub(crate) fn close<H: Wait>(self, rt: &H) {
-        let Edited { editor, alloc: _ } = self;
+        let Edited {
+            editor,
+            hands,
+            alloc: _,
+        } = self;
+        drop(hands);
         editor.close(rt);
     }
 }
 
-impl<J: Naming> Resolver for Edited<J> {
-    ghost use Rattle.adr_server.specs.Shown.{kept_of};
-
-    ghost kept = { λ e. kept_of e.editor };
+impl<J: Naming, C: Hands> Resolver for Edited<J, C> {
+    ghost kept = { λ e. e };
 
     fn edit(&mut self, edit: Edit) -> Result<u64, Refusal> {
-        let _receipt = self.editor.apply(edit)?;
-        Ok(self.editor.desk().book().version())
+        self.hands.edit(&mut self.editor, edit)
     }
 
     fn publish<H: Wait>(&mut self, rt: &H) -> Result<Published, Refusal> {

@@ -4,6 +4,7 @@
 mod command;
 mod edited;
 mod fields;
+mod hands;
 mod laws;
 mod line;
 mod machine;

@@ -8,6 +8,7 @@ ghost use Rattle.adr_script.specs.Text.{IsText, IsTextInPart};
 ghost use Rattle.adr_server.specs.Text.{script_reply, script_next, script_start};
 
 use crate::edited::Edited;
+use crate::hands::{Hands, Workers};
 use crate::machine::ScriptOf;
 use adr_board::{Naming, NewBoard};
 use adr_model::Tie;
@@ -21,15 +22,15 @@ use std::thread::Threads;
 ///
 /// What is written is the text of what is read: the machine of edits and publications run over the lines, each query
 /// answered from the objects that were published last. Any line may be refused for want of memory in its place, and
-/// then changes nothing. `workers` is 1 to 64; it changes nothing that is written. `tie` says which of two intervals of
-/// one priority governs.
+/// then changes nothing. `workers`, 1 to 64, share out the repairs of each edit; how many there are changes nothing that
+/// is written. `tie` says which of two intervals of one priority governs.
 ///
 /// # Errors
 ///
 /// `Reading` and `Writing` where the reader or writer failed or took no byte, `Reads` after 4,294,967,296 reads,
 /// `Runtime` where a board could not be opened, for want of memory or of a reader's place.
 pub fn run<R: Read, W: Write>(
-    rt: &(impl AllocGlobal + Threads + Wait),
+    rt: &(impl AllocGlobal + Threads + Wait + Sync),
     reader: &mut R,
     writer: &mut W,
     workers: usize,
@@ -67,7 +68,7 @@ pub fn run<R: Read, W: Write>(
 ///
 /// As of [`run`].
 pub fn run_logged<R: Read, W: Write>(
-    rt: &(impl AllocGlobal + Threads + Wait),
+    rt: &(impl AllocGlobal + Threads + Wait + Sync),
     reader: &mut R,
     reads: &mut ReadLog,
     writer: &mut W,
@@ -108,13 +109,23 @@ pub fn run_logged<R: Read, W: Write>(
     ensures no_more_reads { IsErrOf result Fault.Reads → reads_made reads.new ≡ 2 ^ 32 }
     ensures write_failed { IsErrOf result Fault.Writing → has_write_failed writes.new ≡ true }
 {
-    let _ = workers;
-    run_on::<Brand, _, R, W>(rt, NewBoard::new(), reader, reads, writer, writes, tie)
+    let hands = Workers { rt, count: workers };
+    run_on::<Brand, _, _, R, W>(
+        rt,
+        hands,
+        NewBoard::new(),
+        reader,
+        reads,
+        writer,
+        writes,
+        tie,
+    )
 }
 
-/// The same on this board, which is ended before it answers.
-fn run_on<J: Naming, H: AllocGlobal + Threads + Wait, R: Read, W: Write>(
+/// The same by these hands on this board, which is ended before it answers.
+fn run_on<J: Naming, C: Hands, H: AllocGlobal + Threads + Wait, R: Read, W: Write>(
     rt: &H,
+    hands: C,
     board: NewBoard,
     reader: &mut R,
     reads: &mut ReadLog,
@@ -122,6 +133,7 @@ fn run_on<J: Naming, H: AllocGlobal + Threads + Wait, R: Read, W: Write>(
     writes: &mut WriteLog,
     tie: Tie,
 ) -> Result<(), Fault>
+    requires ready { C.ready }
     requires history { board.diary.page.book ≡ J.history }
     requires made { reads_made reads.old ≡ 0 }
     requires no_read { has_read_failed reads.old ≡ false }
@@ -155,7 +167,7 @@ fn run_on<J: Naming, H: AllocGlobal + Threads + Wait, R: Read, W: Write>(
     ensures no_more_reads { IsErrOf result Fault.Reads → reads_made reads.new ≡ 2 ^ 32 }
     ensures write_failed { IsErrOf result Fault.Writing → has_write_failed writes.new ≡ true }
 {
-    let Ok(edited) = Edited::<J>::open(rt.alloc(), rt, board, tie) else {
+    let Ok(edited) = Edited::<J, C>::open(rt.alloc(), rt, hands, board, tie) else {
         return Err(Fault::Runtime);
     };
     let mut machine = ScriptOf::new(edited);

@@ -21,7 +21,18 @@ const BAD_COMMAND_LINE: u8 = 2;
 /// fault, 2 for a bad command line. What standard output and standard error take changes no status, but that a help
 /// text which can't be written is a fault.
 pub fn start_program<
-    R: AllocGlobal + Env + Input + Print + Eprint + Threads + Wait + Clone + Drop + Send + 'static,
+    R: AllocGlobal
+        + Env
+        + Input
+        + Print
+        + Eprint
+        + Threads
+        + Wait
+        + Clone
+        + Drop
+        + Send
+        + Sync
+        + 'static,
 >(rt: &R) -> ExitCode {
     match words(rt) {
         Ok(words) => match job(rt.alloc(), words) {
@@ -45,7 +56,7 @@ fn words<R: AllocGlobal + Env>(rt: &R) -> io::Result<Vec<String>> {
 }
 
 /// Answers standard input on standard output.
-fn run_script<R: AllocGlobal + Input + Print + Eprint + Threads + Wait>(
+fn run_script<R: AllocGlobal + Input + Print + Eprint + Threads + Wait + Sync>(
     rt: &R,
     workers: usize,
     tie: Tie,

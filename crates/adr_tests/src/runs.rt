@@ -21,7 +21,7 @@ version 4 event e1 interval 0 until 2024-01-01T01:00:00Z values 17\n";
 
 /// Whether the script alone has those replies.
 fn answers(
-    rt: &(impl AllocGlobal + Threads + Wait),
+    rt: &(impl AllocGlobal + Threads + Wait + Sync),
     script: &[u8],
     replies: &[u8],
 ) -> Result<bool, Fail> {

@@ -8,11 +8,11 @@ pub returns-clause-ok : goal.returns-clause-ok
 returns-clause-ok g c =
     let last = c.last-last.ensures.last in
     let made = c.in_ok-published.ensures in
-    (has_room _ _ _ last.numbered made.number made.most, published_kept _ _ _ last.numbered made.board)
+    rw (← c.self.view_is) (has_room _ _ _ last.numbered made.number made.most, published_kept _ _ _ last.numbered made.board)
 
 pub returns-clause-answer : goal.returns-clause-answer
 returns-clause-answer g c =
     let last = c.last-last.ensures.last in
     let made = c.in_ok-published.ensures in
     let same = c.book.ensures ∙ c.desk.ensures.book ∙ ap (λ (b : Board). b.book) made.board in
-    (next_number _ _ _ last.numbered made.number, c.version.ensures.value ∙ ap (λ (b : Ledger). b.objects.version) same)
+    rw (← c.self.view_is) (next_number _ _ _ last.numbered made.number, c.version.ensures.value ∙ ap (λ (b : Ledger). b.objects.version) same)
