@@ -22,8 +22,17 @@ create event e1 {"programID":"p1","targets":[{"type":"RESOURCE_NAME","values":["
 create event e2 {"programID":"p1","priority":1,"intervalPeriod":{"start":"1970-01-01T01:00:00Z","duration":"PT3H"},"intervals":[{"payloads":[{"type":"PRICE","values":[1]}]},{"payloads":[{"type":"SIMPLE","values":[1]},{"type":"X_LOAD","values":[1]}]}]}
 change event e1 {"programID":"p1","intervalPeriod":{"start":"1970-01-01T00:00:00Z","duration":"PT5H"},"intervals":[{"payloads":[{"type":"PRICE","values":[1]},{"type":"X_LOAD","values":[1]},{"type":"X_OTHER","values":[1]}]}]}
 create event e3 {"programID":"p1","targets":[{"type":"RESOURCE_NAME","values":["Q"]}],"priority":0,"intervalPeriod":{"start":"1970-01-01T03:00:00Z","duration":"PT1H"},"intervals":[{"payloads":[{"type":"PRICE","values":[1]}]}]}
+create event e4 {"programID":"p1","targets":[{"type":"VEN_NAME","values":["V2"]}],"intervalPeriod":{"start":"1970-01-01T02:00:00Z","duration":"PT6H"},"intervals":[{"payloads":[{"type":"PRICE","values":[1]},{"type":"X_OTHER","values":[1]}]}]}
 change ven v1 {"venName":"V2"}
+change resource r2 {"resourceName":"Q","venID":"v1"}
+change program p1 {"programName":"P","targets":[{"type":"RESOURCE_NAME","values":["R"]}]}
+change resource r1 {"resourceName":"R","venID":"v2"}
+change ven v2 {"venName":"V2"}
+change program p1 {"programName":"P"}
 delete event e2 -"#;
+
+/// How many lines go before one whose edit has two jobs or more: of an event, of a ven, of a resource and of a program.
+const MEETINGS: [usize; 4] = [5, 10, 11, 12];
 
 /// Who governs at an instant.
 fn winner(line: Option<&Timeline>, at: Moment) -> Option<(u64, u32)> {
@@ -145,18 +154,19 @@ impl<R: Clock> Gate for Meeting<R> {
     }
 }
 
-/// Makes all but the last of the lines by one thread, and the last by two workers.
+/// Makes the edits of so many lines by one thread, and that of the next by two workers.
 fn meet<G: Gate + Sync>(
     alloc: Global,
     rt: &(impl Threads + Sync),
     gate: &G,
     desk: &mut Desk,
+    count: usize,
 ) -> Result<(), Refusal> {
-    for line in EDITS.lines().take(5) {
+    for line in EDITS.lines().take(count) {
         let receipt = desk.apply(edit(alloc, line)?)?;
         drop(receipt);
     }
-    if let Some(line) = EDITS.lines().nth(5) {
+    if let Some(line) = EDITS.lines().nth(count) {
         let receipt = desk.apply_with(rt, 2, gate, edit(alloc, line)?)?;
         drop(receipt);
     }
@@ -165,17 +175,22 @@ fn meet<G: Gate + Sync>(
 
 #[test]
 fn two_workers_run_at_once(rt: HostRuntime) -> Result<(), Fail> {
-    let meeting = Meeting {
-        rt: rt.clone()?,
-        first: AtomicBool::new(false),
-        second: AtomicBool::new(false),
-        missed: AtomicBool::new(false),
-    };
-    let mut desk = Desk::new(rt.alloc(), Tie::Newest)?;
-    let met = meet(rt.alloc(), &rt, &meeting, &mut desk);
-    drop(desk);
-    met?;
-    assert!(rt; meeting.first.load(Ordering::SeqCst) && meeting.second.load(Ordering::SeqCst));
-    assert!(rt; !meeting.missed.load(Ordering::SeqCst));
+    for count in MEETINGS {
+        let meeting = Meeting {
+            rt: rt.clone()?,
+            first: AtomicBool::new(false),
+            second: AtomicBool::new(false),
+            missed: AtomicBool::new(false),
+        };
+        let mut desk = Desk::new(rt.alloc(), Tie::Newest)?;
+        let met = meet(rt.alloc(), &rt, &meeting, &mut desk, count);
+        drop(desk);
+        met?;
+        assert!(rt;
+            meeting.first.load(Ordering::SeqCst) && meeting.second.load(Ordering::SeqCst),
+            "{count}"
+        );
+        assert!(rt; !meeting.missed.load(Ordering::SeqCst), "{count}");
+    }
     Ok(())
 }
