@@ -1,7 +1,9 @@
 //! Answers a script from standard input on standard output: `adr run < script`.
 #![tactic(auto)]
 
-use adr_start::start_program;
+mod start;
+
+use start::start_program;
 use std::process::ExitCode;
 
 fn main(rt: HostRuntime) -> ExitCode {

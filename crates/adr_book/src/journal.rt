@@ -11,9 +11,16 @@ use std::marker::Model;
 use std::mem;
 
 /// A closed list of accepted edits, whose copies share its memory.
-#[derive(Drop)]
 pub struct Batch {
     edits: SharedList<Edit>,
+}
+
+// A function of its own, so that callers that let a value go need not look into it.
+impl Drop for Batch {
+    fn drop(self) {
+        let Batch { edits } = self;
+        drop(edits);
+    }
 }
 
 impl Model for Batch {

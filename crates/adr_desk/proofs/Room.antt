@@ -1,5 +1,5 @@
 -- That a meter has room for the repairs of an edit.
-use Rattle.std.proofs.Common.{◌≡◌, inl, inr, ◌*◌, ◌≤◌, List, [], ◌∷◌, ◌++◌, length, Option, Some, None, refl, ap, arith}
+use Rattle.std.proofs.Common.{◌≡◌, ◌*◌, ◌≤◌, List, [], ◌∷◌, ◌++◌, length, Option, Some, None, refl, ap, arith}
 use Rattle.std.specs.Prelude.{option_to_list, sum_by}
 use Rattle.std.proofs.lemmas.List.Sums.{sum_by-append, sum_by-cons}
 use Rattle.adr_value.specs.Limits.{limits}
@@ -8,7 +8,6 @@ use Rattle.adr_model.specs.declared.entry.Tie.{Tie}
 use Rattle.adr_model.specs.declared.written.Written.{Written}
 use Rattle.adr_model.specs.Book.{Book}
 use Rattle.adr_model.specs.Edits.{entry_count}
-use Rattle.adr_model.specs.Lists.{In}
 use Rattle.adr_model.specs.Within.{IsWithin}
 use Rattle.adr_stretch.specs.declared.grouped.TypeEntries.{TypeEntries}
 use Rattle.adr_stretch.specs.Counted.{entries_in_groups}

@@ -13,6 +13,7 @@ mod receipt;
 mod side;
 
 pub use adr_crew::{Gate, NoGate};
+pub use adr_touches::EditTouches;
 pub use desk::Desk;
 pub use laws::edits_have_room;
 pub use receipt::{Receipt, Touched};

@@ -215,7 +215,7 @@ pub(crate) fn make<C: Fn(&Indexes, &[Job]) -> Result<Vec<Done>, Refusal>>(
     edit_laws();
     let book = old.book();
     let after = committed(book, edit)?;
-    let touched = Touched::between(book.copy()?, after.copy()?);
+    let touched = Touched::between(book.copy()?, after.copy()?, edit.copy()?);
     let mut meter = Meter::new();
     let schedule = grouped(
         alloc,

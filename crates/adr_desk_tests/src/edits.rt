@@ -61,8 +61,9 @@ const TARGETS: &str = r#"[]
 [{"type":"PROGRAM_NAME","values":["P1"]},{"type":"VEN_NAME","values":["V1","V2"]}]"#;
 
 /// The next of some numbers that look random, below a limit that is not 0.
-fn next(seed: &mut u64, limit: u64) -> u64
+pub(crate) fn next(seed: &mut u64, limit: u64) -> u64
     requires { 0 < limit }
+    ensures { result < limit }
 {
     *seed = seed
         .wrapping_mul(6_364_136_223_846_793_005)

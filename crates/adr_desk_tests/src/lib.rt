@@ -1,6 +1,7 @@
 #![tactic(auto)]
 //! Tests of what edits do: whom each event is for and which events a resource has, by the vectors of targets and by many
-//! edits, each compared with a scan of all objects; and what the receipts of a desk's edits tell.
+//! edits, each compared with a scan of all objects; what the receipts of a desk's edits tell; and what a desk is that is
+//! loaded.
 
 #[cfg(test)]
 mod edits;
@@ -8,6 +9,8 @@ mod edits;
 mod kept;
 #[cfg(test)]
 mod loading;
+#[cfg(test)]
+mod many_loads;
 #[cfg(test)]
 mod reading;
 #[cfg(test)]

@@ -17,17 +17,32 @@ use adr_value::{PayloadType, Refusal};
 use std::alloc::Global;
 
 /// One group's line of one payload type with its windows: what the writes show inside them is to be built.
-#[derive(Drop)]
 pub struct Job {
     pub writes: Shared<Writes>,
     pub windows: Shared<TypeEntries>,
 }
 
+// A function of its own, so that callers that let a value go need not look into it.
+impl Drop for Job {
+    fn drop(self) {
+        let Job { writes, windows } = self;
+        drop(writes);
+        drop(windows);
+    }
+}
+
 /// What a job built, and how often it compared.
-#[derive(Drop)]
 pub struct Done {
     pub inner: Timeline,
     pub compared: u128,
+}
+
+// A function of its own, so that callers that let a value go need not look into it.
+impl Drop for Done {
+    fn drop(self) {
+        let Done { inner, compared: _ } = self;
+        drop(inner);
+    }
 }
 
 impl Job {

@@ -11,9 +11,16 @@ use std::alloc::Global;
 use std::marker::Model;
 
 /// The numbers of the writes of the events that apply to some resources, ascending, each once.
-#[derive(Drop)]
 pub struct Writes {
     numbers: Vec<u64>,
+}
+
+// A function of its own, so that callers that let a value go need not look into it.
+impl Drop for Writes {
+    fn drop(self) {
+        let Writes { numbers } = self;
+        drop(numbers);
+    }
 }
 
 impl Model for Writes {

@@ -1,28 +1,37 @@
-//! Makes each call of a book that may take memory, for a test that refuses growths of memory from outside.
+//! Makes each call of a book, a desk and a board that may take memory, for a test that refuses growths of memory from
+//! outside.
 //!
-//! Each line of standard input is an edit, `seal`, `copy` or `condense`. Before a call stands a line that names it, by
-//! which the test knows where to count growths. Where the call is refused for want of memory, the book is compared with
-//! another that the same calls made, and the call is made again.
+//! Standard input has parts, with an empty line between two. The first line of a part is `book`, `desk` or `board`, and
+//! what the others may be stands with each. Before a call stands a line that names it, by which the test knows where to
+//! count growths. Where the call is refused for want of memory, what is there is compared with another that the same
+//! calls made, or with what was there before, and the call is made again.
 #![tactic(auto)]
 
-mod calls;
+mod board;
+mod book;
+mod desk;
+mod same;
 
-use crate::calls::{Books, try_condense, try_copy, try_edit, try_seal};
+use crate::board::try_board;
+use crate::book::try_book;
+use crate::desk::try_desk;
 use std::io;
+use std::sync::Wait;
+use std::thread::Threads;
 
-fn try_line<R: AllocGlobal + Print>(rt: &R, books: &mut Books, line: &str) -> io::Result<()> {
-    match line {
-        "seal" => try_seal(rt, books),
-        "copy" => try_copy(rt, books),
-        "condense" => try_condense(rt, books),
-        _ => try_edit(rt, rt.alloc(), books, line),
+fn try_part<R: AllocGlobal + Print + Wait + Threads + Sync>(rt: &R, part: &str) -> io::Result<()> {
+    let (name, lines) = part.split_once('\n').unwrap_or((part, ""));
+    match name {
+        "book" => try_book(rt, lines),
+        "desk" => try_desk(rt, lines),
+        _ => try_board(rt, lines),
     }
 }
 
 fn main(rt: HostRuntime) -> io::Result<()> {
-    let mut books = Books::new(rt.alloc());
-    for line in rt.lines(rt.alloc()) {
-        try_line(&rt, &mut books, line?.as_str())?;
+    let text = io::read_to_string(rt.alloc(), rt.reader())?;
+    for part in text.split("\n\n") {
+        try_part(&rt, part)?;
     }
     Ok(())
 }

@@ -30,10 +30,18 @@ use std::marker::Model;
 /// They lie in chunks of at most 64. An edit goes to one chunk, found by halving, and writes what the tree of greatest
 /// ends has over that chunk. Where a chunk is parted or emptied, all of the tree is written anew: with n entries a step
 /// for each of some n/48 chunks.
-#[derive(Drop)]
 pub struct Index {
     table: Table,
     tops: Vec<Option<End>>,
+}
+
+// A function of its own, so that callers that let a value go need not look into it.
+impl Drop for Index {
+    fn drop(self) {
+        let Index { table, tops } = self;
+        drop(table);
+        drop(tops);
+    }
 }
 
 impl Model for Index {

@@ -7,7 +7,6 @@ use adr_value::{Datum, Name, Refusal, Text};
 use std::hash::{Hash, Hasher};
 
 /// What a resource offers, and what an event asks for: a name, or a value under a type that is no word for a name.
-#[derive(Drop)]
 pub enum Key {
     /// What is asked for by an event that asks for none of the others, and offered by every resource.
     Anyone,
@@ -17,6 +16,20 @@ pub enum Key {
     Ven(Text),
     /// A value under another type.
     Value(Name, Datum),
+}
+
+// A function of its own, so that callers that let a value go need not look into it.
+impl Drop for Key {
+    fn drop(self) {
+        match self {
+            Key::Anyone => {},
+            Key::Resource(name) | Key::Ven(name) => drop(name),
+            Key::Value(kind, value) => {
+                drop(kind);
+                drop(value);
+            },
+        }
+    }
 }
 
 impl Key {

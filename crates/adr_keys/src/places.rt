@@ -12,9 +12,16 @@ use std::alloc::Global;
 use std::marker::Model;
 
 /// A set of places, a bit for each. Contracts see its words.
-#[derive(Drop)]
 pub struct Places {
     words: Vec<u64>,
+}
+
+// A function of its own, so that callers that let a value go need not look into it.
+impl Drop for Places {
+    fn drop(self) {
+        let Places { words } = self;
+        drop(words);
+    }
 }
 
 impl Model for Places {

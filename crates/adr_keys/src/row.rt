@@ -5,9 +5,16 @@ use crate::key::Key;
 use std::marker::Model;
 
 /// The keys of one place. Contracts see their list.
-#[derive(Drop)]
 pub struct Row {
     keys: Vec<Key>,
+}
+
+// A function of its own, so that callers that let a value go need not look into it.
+impl Drop for Row {
+    fn drop(self) {
+        let Row { keys } = self;
+        drop(keys);
+    }
 }
 
 impl Model for Row {

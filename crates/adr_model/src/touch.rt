@@ -4,9 +4,21 @@ use adr_time::Span;
 use adr_value::PayloadType;
 
 /// A stretch of time in which an edit may have changed what governs a resource and a payload type.
-#[derive(Drop)]
 pub struct Touch {
     pub resource: Id,
     pub kind: PayloadType,
     pub window: Span,
+}
+
+// A function of its own, so that callers that let a value go need not look into it.
+impl Drop for Touch {
+    fn drop(self) {
+        let Touch {
+            resource,
+            kind,
+            window: _,
+        } = self;
+        drop(resource);
+        drop(kind);
+    }
 }

@@ -5,10 +5,17 @@ use adr_object::Event;
 use adr_value::{Refusal, TryClone};
 
 /// An event, and the number of the accepted edit that last wrote it.
-#[derive(Drop)]
 pub struct Written {
     pub event: Event,
     pub written: u64,
+}
+
+// A function of its own, so that callers that let a value go need not look into it.
+impl Drop for Written {
+    fn drop(self) {
+        let Written { event, written: _ } = self;
+        drop(event);
+    }
 }
 
 impl Written {

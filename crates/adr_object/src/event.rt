@@ -9,17 +9,33 @@ use adr_value::{BoundedVec, Datum, Name, PayloadType, Refusal, Text, TryClone};
 
 /// Values under one type, which a resource or its ven has, or which an event or its program asks for (OpenADR 3.0
 /// Definition, valuesMap).
-#[derive(Drop)]
 pub struct Target {
     pub kind: Name,
     pub values: BoundedVec<Datum, 256>,
 }
 
+// A function of its own, so that callers that let a value go need not look into it.
+impl Drop for Target {
+    fn drop(self) {
+        let Target { kind, values } = self;
+        drop(kind);
+        drop(values);
+    }
+}
+
 /// What an interval says of one payload type (OpenADR 3.0 Definition, valuesMap).
-#[derive(Drop)]
 pub struct Payload {
     pub kind: PayloadType,
     pub values: BoundedVec<Datum, 256>,
+}
+
+// A function of its own, so that callers that let a value go need not look into it.
+impl Drop for Payload {
+    fn drop(self) {
+        let Payload { kind, values } = self;
+        drop(kind);
+        drop(values);
+    }
 }
 
 /// When an interval starts, and how long it lasts (OpenADR 3.0 Definition, intervalPeriod). `randomize` is kept for
@@ -35,16 +51,27 @@ pub struct Period {
 /// `id`.
 ///
 /// Its period stands apart, since an event has many intervals and most have none.
-#[derive(Drop)]
 pub struct Interval {
     pub id: i64,
     pub period: Option<Shared<Period>>,
     pub payloads: BoundedVec<Payload, 64>,
 }
 
+// A function of its own, so that callers that let a value go need not look into it.
+impl Drop for Interval {
+    fn drop(self) {
+        let Interval {
+            id: _,
+            period,
+            payloads,
+        } = self;
+        drop(period);
+        drop(payloads);
+    }
+}
+
 /// Intervals for the resources that the targets match (OpenADR 3.0 Definition, event). A lower `priority` goes first;
 /// none goes last. An interval without a period of its own takes the event's.
-#[derive(Drop)]
 pub struct Event {
     pub id: Id,
     pub program_id: Id,
@@ -53,6 +80,26 @@ pub struct Event {
     pub targets: BoundedVec<Target, 64>,
     pub interval_period: Option<Period>,
     pub intervals: BoundedVec<Interval, MOST_INTERVALS>,
+}
+
+// A function of its own, so that callers that let a value go need not look into it.
+impl Drop for Event {
+    fn drop(self) {
+        let Event {
+            id,
+            program_id,
+            event_name,
+            priority: _,
+            targets,
+            interval_period: _,
+            intervals,
+        } = self;
+        drop(id);
+        drop(program_id);
+        drop(event_name);
+        drop(targets);
+        drop(intervals);
+    }
 }
 
 impl Target {

@@ -13,9 +13,17 @@ use std::marker::Model;
 
 /// What an object is known by among those of its kind: 1 to 128 of `a-z A-Z 0-9 _ -` (OpenADR 3.0 Definition,
 /// objectID). Its copies share one memory.
-#[derive(Drop, Debug)]
+#[derive(Debug)]
 pub struct Id {
     text: Text,
+}
+
+// A function of its own, so that callers that let a value go need not look into it.
+impl Drop for Id {
+    fn drop(self) {
+        let Id { text } = self;
+        drop(text);
+    }
 }
 
 impl Model for Id {

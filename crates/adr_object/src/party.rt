@@ -6,28 +6,69 @@ use crate::id::Id;
 use adr_value::{BoundedVec, Name, Refusal, TryClone};
 
 /// What a group of events belongs to (OpenADR 3.0 Definition, program). Its targets bind all of its events.
-#[derive(Drop)]
 pub struct Program {
     pub id: Id,
     pub program_name: Name,
     pub targets: BoundedVec<Target, 64>,
 }
 
+// A function of its own, so that callers that let a value go need not look into it.
+impl Drop for Program {
+    fn drop(self) {
+        let Program {
+            id,
+            program_name,
+            targets,
+        } = self;
+        drop(id);
+        drop(program_name);
+        drop(targets);
+    }
+}
+
 /// A client of the server (OpenADR 3.0 Definition, ven). Its targets count for all of its resources.
-#[derive(Drop)]
 pub struct Ven {
     pub id: Id,
     pub ven_name: Name,
     pub targets: BoundedVec<Target, 64>,
 }
 
+// A function of its own, so that callers that let a value go need not look into it.
+impl Drop for Ven {
+    fn drop(self) {
+        let Ven {
+            id,
+            ven_name,
+            targets,
+        } = self;
+        drop(id);
+        drop(ven_name);
+        drop(targets);
+    }
+}
+
 /// A device or site of a ven (OpenADR 3.0 Definition, resource).
-#[derive(Drop)]
 pub struct Resource {
     pub id: Id,
     pub resource_name: Name,
     pub ven_id: Id,
     pub targets: BoundedVec<Target, 64>,
+}
+
+// A function of its own, so that callers that let a value go need not look into it.
+impl Drop for Resource {
+    fn drop(self) {
+        let Resource {
+            id,
+            resource_name,
+            ven_id,
+            targets,
+        } = self;
+        drop(id);
+        drop(resource_name);
+        drop(ven_id);
+        drop(targets);
+    }
 }
 
 impl Program {

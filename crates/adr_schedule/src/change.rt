@@ -2,15 +2,33 @@
 use adr_stretch::TypeEntries;
 
 /// An event as it was written: the number of the edit that wrote it, and its entries under each of its payload types.
-#[derive(Drop)]
 pub struct Side {
     pub written: u64,
     pub entries: Vec<TypeEntries>,
 }
 
+// A function of its own, so that callers that let a value go need not look into it.
+impl Drop for Side {
+    fn drop(self) {
+        let Side {
+            written: _,
+            entries,
+        } = self;
+        drop(entries);
+    }
+}
+
 /// The event that goes and the one that comes, for the resources to which they apply.
-#[derive(Drop)]
 pub struct Change {
     pub gone: Option<Side>,
     pub come: Option<Side>,
+}
+
+// A function of its own, so that callers that let a value go need not look into it.
+impl Drop for Change {
+    fn drop(self) {
+        let Change { gone, come } = self;
+        drop(gone);
+        drop(come);
+    }
 }

@@ -10,10 +10,17 @@ use std::marker::Model;
 
 /// A list that no edit changes: one with a value more shares with the old one all but a path of nodes, 41 at most at a
 /// million values.
-#[derive(Drop)]
 pub struct SharedList<T: TryClone> {
     values: SharedMap<u64, T>,
     next: u64,
+}
+
+// A function of its own, so that callers that let a value go need not look into it.
+impl<T: TryClone> Drop for SharedList<T> {
+    fn drop(self) {
+        let SharedList { values, next: _ } = self;
+        drop(values);
+    }
 }
 
 impl<T: TryClone> Model for SharedList<T> {

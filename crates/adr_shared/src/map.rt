@@ -17,9 +17,16 @@ use std::marker::Model;
 /// Contracts see it as its entries, each the code of its key and its value, in the order of the codes. With `n`
 /// entries a path has at most `2 log2 (n + 1) + 1` nodes, 29 at 16,384: see `height`. There are at most 4,294,967,295
 /// entries.
-#[derive(Drop)]
 pub struct SharedMap<K: Key, V: TryClone> {
     tree: Tree<K, V>,
+}
+
+// A function of its own, so that callers that let a value go need not look into it.
+impl<K: Key, V: TryClone> Drop for SharedMap<K, V> {
+    fn drop(self) {
+        let SharedMap { tree } = self;
+        drop(tree);
+    }
 }
 
 impl<K: Key, V: TryClone> Model for SharedMap<K, V> {

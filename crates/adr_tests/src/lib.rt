@@ -1,6 +1,6 @@
 #![tactic(auto)]
-//! Tests that cross crates, of what no transcript can say: streams that fail, hostile bytes and command lines; and of a
-//! board, what runs of its steps show and what a reader keeps.
+//! Tests that cross crates, of what no transcript can say: streams that fail, hostile bytes and command lines; of a
+//! board, what runs of its steps show and what a reader keeps; and of scripts that many readers answer.
 
 #[cfg(test)]
 mod alone;
@@ -8,6 +8,10 @@ mod alone;
 mod beside;
 #[cfg(test)]
 mod bodies;
+#[cfg(test)]
+mod fan_runs;
+#[cfg(test)]
+mod meeting;
 #[cfg(test)]
 mod replayed;
 #[cfg(test)]

@@ -3,6 +3,7 @@ ghost use Rattle.std.specs.Prelude.{◌≡◌, ◌↔◌, ◌&&◌, IsTrue, fals
 ghost use Rattle.adr_time.specs.Calendar.{is_in_range_sum, is_moment, sum_in_utc};
 ghost use Rattle.adr_time.specs.Ends.{NeedsOnlyItsSum, NeedsOnlyItsYearAndSum, end_after, is_on_calendar, moment_after};
 ghost use Rattle.adr_time.specs.Spans.{Covers, Meets, covers, meets};
+ghost use Rattle.adr_time.specs.declared.span.End.TheVariants.{At as EndsAt};
 
 use crate::{Length, Moment};
 use adr_value::Refusal;
@@ -29,6 +30,7 @@ pub struct Span {
 }
 
 impl Moment {
+    ghost use Rattle.std.specs.Int.{int_max, int_min};
     ghost use Rattle.adr_time.specs.Spans.{IsBefore, is_before};
 
     /// Whether the moment comes before the end.
@@ -39,6 +41,83 @@ impl Moment {
         match end {
             End::At(end) => self < end,
             End::Endless => true,
+        }
+    }
+
+    /// The earlier of two moments.
+    pub fn earlier(self, other: Moment) -> Moment
+        ensures { result ≡ int_min self other }
+    {
+        if other < self { other } else { self }
+    }
+
+    /// The later of two moments.
+    pub fn later(self, other: Moment) -> Moment
+        ensures { result ≡ int_max self other }
+    {
+        if other < self { self } else { other }
+    }
+}
+
+impl End {
+    ghost use Rattle.adr_time.specs.Spans.{earlier_end, ends_at, later_end};
+
+    /// Whether the end is that moment.
+    pub fn is_at(self, moment: Moment) -> bool
+        ensures test { result ≡ ends_at self moment }
+        ensures meaning { IsTrue result ↔ (self ≡ EndsAt moment) }
+    {
+        match self {
+            End::At(end) => end == moment,
+            End::Endless => false,
+        }
+    }
+
+    /// The earlier of two ends.
+    pub fn earlier(self, other: End) -> End
+        ensures { result ≡ earlier_end self other }
+    {
+        let End::At(first) = self else {
+            return other;
+        };
+        let End::At(second) = other else {
+            return self;
+        };
+        End::At(first.earlier(second))
+    }
+
+    /// The later of two ends.
+    pub fn later(self, other: End) -> End
+        ensures { result ≡ later_end self other }
+    {
+        let End::At(first) = self else {
+            return self;
+        };
+        let End::At(second) = other else {
+            return other;
+        };
+        End::At(first.later(second))
+    }
+}
+
+impl Span {
+    ghost use Rattle.adr_time.specs.Spans.{Lasts, lasts, spanned};
+
+    /// Whether the span covers some moment.
+    pub fn lasts(&self) -> bool
+        ensures test { result ≡ lasts self.now }
+        ensures meaning { IsTrue result ↔ Lasts self.now }
+    {
+        self.start.is_before(self.end)
+    }
+
+    /// The span from the earlier start to the later end.
+    pub fn hull(&self, other: &Span) -> Span
+        ensures { result ≡ spanned self.now other.now }
+    {
+        Span {
+            start: self.start.earlier(other.start),
+            end: self.end.later(other.end),
         }
     }
 }
@@ -57,10 +136,7 @@ pub fn meets(a: &Span, b: &Span) -> bool
     ensures test { result ≡ meets a.now b.now }
     ensures meaning { IsTrue result ↔ Meets a.now b.now }
 {
-    a.start.is_before(a.end)
-        && b.start.is_before(b.end)
-        && a.start.is_before(b.end)
-        && b.start.is_before(a.end)
+    a.lasts() && b.lasts() && a.start.is_before(b.end) && b.start.is_before(a.end)
 }
 
 // The moment that lies a span after another, on the calendar of UTC.

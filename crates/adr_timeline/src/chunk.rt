@@ -8,9 +8,16 @@ use std::marker::Model;
 use std::sync::Arc;
 
 /// Segments in order, at least one, in memory that several timelines may share. Contracts see their list.
-#[derive(Drop)]
 pub struct Chunk {
     segments: Arc<Vec<PackedSegment>>,
+}
+
+// A function of its own, so that callers that let a value go need not look into it.
+impl Drop for Chunk {
+    fn drop(self) {
+        let Chunk { segments } = self;
+        drop(segments);
+    }
 }
 
 impl Model for Chunk {

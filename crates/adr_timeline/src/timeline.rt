@@ -36,10 +36,17 @@ const MOST_IN_CHUNK: usize = 128;
 ///
 /// The segments lie in chunks, which timelines share: a repair copies the table of the chunks, and the segments of those
 /// alone that its windows reach into.
-#[derive(Drop)]
 pub struct Timeline {
     most: usize,
     chunks: Vec<Chunk>,
+}
+
+// A function of its own, so that callers that let a value go need not look into it.
+impl Drop for Timeline {
+    fn drop(self) {
+        let Timeline { most: _, chunks } = self;
+        drop(chunks);
+    }
 }
 
 impl Model for Timeline {

@@ -1,3 +1,5 @@
+mod Added
+mod Concerned
 mod Laid
 mod Listed
 mod Places

@@ -16,10 +16,3 @@ pub listed_touches : (old new : Book) (resources events : List (List ℕ))
 unfolding touches
 listed_touches old new resources events rs es =
     ap (λ (ids : List (List ℕ)). flat_map (touches_on old new events) ids) rs ∙ ap (λ (ids : List (List ℕ)). flat_map (touches_on old new ids) (ids_of_both (resource_ids old) (resource_ids new))) es
-
-both_equal : (old new old' new' : List (List ℕ)) → old ≡ old' → new ≡ new' → ids_of_both old new ≡ ids_of_both old' new'
-both_equal old new old' new' a b = ap (λ (ids : List (List ℕ)). ids_of_both ids new) a ∙ ap (λ (ids : List (List ℕ)). ids_of_both old' ids) b
-
--- through what each call answered
-pub from_calls : (ids slice old new old' new' : List (List ℕ)) → slice ≡ ids → ids ≡ ids_of_both old new → old ≡ old' → new ≡ new' → slice ≡ ids_of_both old' new'
-from_calls ids slice old new old' new' s i a b = s ∙ i ∙ both_equal old new old' new' a b

@@ -6,7 +6,7 @@ ghost use Rattle.adr_model.specs.Touches.{touches as touches_of_books, touches_b
 ghost use Rattle.adr_touches.specs.Applied.{written_event};
 ghost use Rattle.adr_touches.specs.Windows.{touches_on};
 
-use crate::ids::{event_ids, joined_ids, resource_ids};
+use crate::ids::{all_event_ids, all_resource_ids};
 use crate::matching::{Applied, applied_event};
 use crate::windows::add_event;
 use adr_book::Book;
@@ -88,7 +88,7 @@ pub fn touches(alloc: Global, old: &Book, new: &Book) -> Result<Vec<Touch>, Refu
     ensures ok { IfOk result (λ touches. touches.items ≡ touches_of_books old.now.objects new.now.objects) }
     ensures memory { OnlyNoMemory result }
 {
-    let resources = joined_ids(alloc, resource_ids(alloc, old)?, resource_ids(alloc, new)?)?;
-    let events = joined_ids(alloc, event_ids(alloc, old)?, event_ids(alloc, new)?)?;
+    let resources = all_resource_ids(alloc, old, new)?;
+    let events = all_event_ids(alloc, old, new)?;
     list_touches(alloc, old, new, resources.as_slice(), events.as_slice())
 }

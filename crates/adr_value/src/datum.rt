@@ -13,7 +13,7 @@ use crate::text::Text;
 use crate::try_clone::TryClone;
 
 /// One value of a payload or a target.
-#[derive(Drop, Debug)]
+#[derive(Debug)]
 pub enum Datum {
     /// A number, by its exact value.
     Number(Decimal),
@@ -23,6 +23,16 @@ pub enum Datum {
     Truth(bool),
     /// A point of a curve: x, then y.
     Point(Decimal, Decimal),
+}
+
+// A function of its own, so that callers that let a value go need not look into it.
+impl Drop for Datum {
+    fn drop(self) {
+        match self {
+            Datum::Number(_) | Datum::Truth(_) | Datum::Point(_, _) => {},
+            Datum::Text(text) => drop(text),
+        }
+    }
 }
 
 impl Datum {

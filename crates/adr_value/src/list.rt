@@ -18,9 +18,17 @@ pub(crate) enum Items<T> {
 
 /// A list of at most `LIMIT` elements, which contracts see as its elements in order. A list of one takes no memory of its
 /// own.
-#[derive(Drop, Debug)]
+#[derive(Debug)]
 pub struct BoundedVec<T, const LIMIT: usize> {
     items: Items<T>,
+}
+
+// A function of its own, so that callers that let a value go need not look into it.
+impl<T: Drop, const LIMIT: usize> Drop for BoundedVec<T, LIMIT> {
+    fn drop(self) {
+        let BoundedVec { items } = self;
+        drop(items);
+    }
 }
 
 impl<T, const LIMIT: usize> Model for BoundedVec<T, LIMIT> {

@@ -27,9 +27,17 @@ pub enum Shape {
 }
 
 /// The name of a private type: 1 to 128 characters, and none of the table's names.
-#[derive(Drop, Debug)]
+#[derive(Debug)]
 pub struct PrivateName {
     name: Name,
+}
+
+// A function of its own, so that callers that let a value go need not look into it.
+impl Drop for PrivateName {
+    fn drop(self) {
+        let PrivateName { name } = self;
+        drop(name);
+    }
 }
 
 impl Model for PrivateName {

@@ -11,9 +11,17 @@ use std::marker::Model;
 use std::sync::ArcStr;
 
 /// A text of any length, which contracts see as its UTF-8 bytes. Its copies share one memory.
-#[derive(Drop, Debug)]
+#[derive(Debug)]
 pub struct Text {
     text: ArcStr,
+}
+
+// A function of its own, so that callers that let a value go need not look into it.
+impl Drop for Text {
+    fn drop(self) {
+        let Text { text } = self;
+        drop(text);
+    }
 }
 
 impl Model for Text {
@@ -66,9 +74,17 @@ fn char_count(text: &str) -> usize
 }
 
 /// A text of 1 to 128 characters (Unicode scalar values). Its copies share one memory.
-#[derive(Drop, Debug)]
+#[derive(Debug)]
 pub struct Name {
     text: Text,
+}
+
+// A function of its own, so that callers that let a value go need not look into it.
+impl Drop for Name {
+    fn drop(self) {
+        let Name { text } = self;
+        drop(text);
+    }
 }
 
 impl Model for Name {

@@ -1,6 +1,6 @@
 use Rattle.std.proofs.Common.{◌∙◌}
 use Rattle.std.proofs.lemmas.Result.{IfOk-weaker}
-use Rattle.adr_touches.proofs.Listed.{listed_touches, from_calls}
+use Rattle.adr_touches.proofs.Listed.{listed_touches}
 use Rattle.adr_touches.proofs.listing.touches.Goals as goal
 
 pub returns-clause-ok : goal.returns-clause-ok
@@ -8,6 +8,6 @@ returns-clause-ok c =
     IfOk-weaker c.list_touches.result _ _
     (λ touches is. is
     ∙ listed_touches c.args.old.now.objects c.args.new.now.objects c.as_slice.result.now c.as_slice-2.result.now
-    (from_calls _ _ _ _ _ _ c.as_slice.ensures.value c.in_ok-resources.ensures.ok c.in_ok-resource_ids.ensures.ok c.in_ok-resource_ids-2.ensures.ok)
-    (from_calls _ _ _ _ _ _ c.as_slice-2.ensures.value c.in_ok-events.ensures.ok c.in_ok-event_ids.ensures.ok c.in_ok-event_ids-2.ensures.ok))
+    (c.as_slice.ensures.value ∙ c.in_ok-resources.ensures.ok)
+    (c.as_slice-2.ensures.value ∙ c.in_ok-events.ensures.ok))
     c.list_touches.ensures.ok

@@ -1,0 +1,71 @@
+//! What bodies hold as they are read and, where it is timed, how long that takes.
+mod contents;
+mod measure;
+
+use crate::bodies::contents::{CONTENTS, Contents, body_of};
+use crate::bodies::measure::{fastest_read, read, told};
+use adr_object::Id;
+use std::alloc::Global;
+use std::io;
+use std::rt::Clock;
+
+/// How many intervals and values the event of a body has.
+fn counts_of(alloc: Global, body: &str, id: &Id) -> io::Result<(usize, u64)> {
+    let event = read(alloc, body, id)?;
+    let mut values: u64 = 0;
+    for interval in event.intervals.as_slice() {
+        for payload in interval.payloads.as_slice() {
+            values = values.wrapping_add(payload.values.len() as u64);
+        }
+    }
+    let intervals = event.intervals.len();
+    drop(event);
+    Ok((intervals, values))
+}
+
+/// The row of a body: its bytes, and the intervals and values of its event; and where it is timed the microseconds of a
+/// reading.
+fn print_row<R: AllocGlobal + Print + Clock>(
+    rt: &R,
+    contents: Contents,
+    id: &Id,
+    is_timed: bool,
+) -> io::Result<()> {
+    let body = told(body_of(rt.alloc(), contents))?;
+    let (intervals, values) = counts_of(rt.alloc(), body.as_str(), id)?;
+    print!(rt;
+        "| {} | {} | {intervals} | {values} |",
+        contents.name(),
+        body.len()
+    )?;
+    if is_timed {
+        let time = fastest_read(rt, rt.alloc(), body.as_str(), id)?;
+        print!(rt; " {} |", time / 1000)?;
+    }
+    println!(rt)
+}
+
+fn print_rows<R: AllocGlobal + Print + Clock>(rt: &R, id: &Id, is_timed: bool) -> io::Result<()> {
+    println!(rt;
+        "{}",
+        if is_timed {
+            "| Contents | Bytes | Intervals | Values | µs a reading |\n|---|---|---|---|---|"
+        } else {
+            "| Contents | Bytes | Intervals | Values |\n|---|---|---|---|"
+        }
+    )?;
+    for contents in CONTENTS {
+        print_row(rt, contents, id, is_timed)?;
+    }
+    Ok(())
+}
+
+pub(crate) fn print_bodies<R: AllocGlobal + Print + Clock>(
+    rt: &R,
+    is_timed: bool,
+) -> io::Result<()> {
+    let id = told(Id::read(rt.alloc(), "e"))?;
+    let rows = print_rows(rt, &id, is_timed);
+    drop(id);
+    rows
+}

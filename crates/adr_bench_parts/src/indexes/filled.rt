@@ -1,0 +1,120 @@
+//! What an index takes: to be filled at once, and to have an event's entries written again.
+ghost use Rattle.std.specs.Prelude.{◌≡◌, ◌+◌, ◌*◌, ◌≤◌, IfOk, OnOk, length};
+ghost use Rattle.std.specs.List.Sorted.{IsPermutation};
+ghost use Rattle.adr_index.specs.Index.{AreDistinct};
+ghost use Rattle.adr_bench_parts.specs.Numbers.{AreBelow, AreRising};
+
+use crate::indexes::shape::{entries, event};
+use adr_index::{Entry, Index};
+use adr_time::Span;
+use adr_value::Refusal;
+use std::alloc::Global;
+use std::io;
+use std::rt::Clock;
+use std::time::Instant;
+
+/// How often the event is written again.
+pub(crate) const EDITS: u32 = 301;
+
+/// How often each other time is taken, of which the least is told.
+pub(crate) const ROUNDS: u32 = 15;
+
+fn no_memory() -> io::Error {
+    io::ErrorKind::OutOfMemory.into()
+}
+
+/// An index of the entries.
+fn filled(alloc: Global, entries: Vec<Entry>) -> io::Result<Index>
+    requires { AreDistinct entries.items }
+    ensures { IfOk result (λ index. IsPermutation entries.items index.entries) }
+{
+    match Index::of(alloc, entries) {
+        Ok(index) => Ok(index),
+        Err(_) => Err(no_memory()),
+    }
+}
+
+/// An index of a copy of the entries.
+pub(crate) fn index_of(alloc: Global, entries: &[Entry]) -> io::Result<Index>
+    requires { AreRising 0 entries.now }
+    ensures { IfOk result (λ index. AreBelow (length entries.now) index.entries) }
+{
+    let copy = Vec::from_slice(alloc, entries)?;
+    let index = filled(alloc, copy)?;
+    Ok(index)
+}
+
+/// How many entries meet the window.
+pub(crate) fn met(index: &Index, window: Span) -> io::Result<usize> {
+    match index.overlapping(window) {
+        Ok(found) => Ok(found.len()),
+        Err(_) => Err(no_memory()),
+    }
+}
+
+/// Makes room for that many more entries.
+fn make_room(index: &mut Index, more: usize) -> io::Result<()>
+    ensures entries { index.new.entries ≡ index.old.entries }
+    ensures spare { OnOk result (more ≤ index.new.spare) }
+{
+    match index.reserve(more) {
+        Ok(()) => Ok(()),
+        Err(_) => Err(no_memory()),
+    }
+}
+
+/// Writes the event again, for that time, and answers its entries.
+fn write_again(
+    alloc: Global,
+    index: &mut Index,
+    old: &[Entry],
+    count: u32,
+    time: u32,
+) -> io::Result<Vec<Entry>>
+    requires { AreBelow (count + 16 * time) index.old.entries }
+    ensures { OnOk result (AreBelow (count + 16 * (time + 1)) index.new.entries) }
+{
+    let new = event(alloc, count, time)?;
+    make_room(index, new.len())?;
+    index.replace(old, &new);
+    Ok(new)
+}
+
+/// The nanoseconds in which the event is written again: the least of some times.
+pub(crate) fn fastest_edit<R: AllocGlobal + Clock>(
+    rt: &R,
+    index: &mut Index,
+    count: u32,
+) -> io::Result<u128>
+    requires { AreBelow count index.old.entries }
+{
+    let mut least = u128::MAX;
+    let mut old = write_again(rt.alloc(), index, &[], count, 0)?;
+    for time in 1..EDITS {
+        let start = Instant::now(rt)?;
+        old = write_again(rt.alloc(), index, &old, count, time)?;
+        let passed = start.elapsed(rt)?;
+        least = least.min(passed.as_nanos());
+    }
+    Ok(least)
+}
+
+fn fill_time<R: AllocGlobal + Clock>(rt: &R, entries: &[Entry]) -> io::Result<u128>
+    requires { AreRising 0 entries.now }
+{
+    let start = Instant::now(rt)?;
+    let index = index_of(rt.alloc(), entries)?;
+    let passed = start.elapsed(rt)?;
+    drop(index);
+    Ok(passed.as_nanos())
+}
+
+/// The nanoseconds in which an index is filled at once with a copy of so many entries: the least of some times.
+pub(crate) fn fastest_fill<R: AllocGlobal + Clock>(rt: &R, count: u32) -> io::Result<u128> {
+    let entries = entries(rt.alloc(), 0, count, count)?;
+    let mut least = u128::MAX;
+    for _ in 0..ROUNDS {
+        least = least.min(fill_time(rt, &entries)?);
+    }
+    Ok(least)
+}

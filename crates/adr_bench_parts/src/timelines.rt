@@ -1,0 +1,113 @@
+//! How much the building of a timeline compares and, where it is timed, how long it takes, as a table over how many
+//! entries there are and how they lie.
+ghost use Rattle.std.specs.Prelude.{◌<◌, ◌≤◌};
+
+mod measure;
+mod repair;
+mod shape;
+mod sweep;
+
+use crate::print_microseconds;
+use crate::timelines::measure::{fastest_build, fastest_pass, fastest_sweep, measured};
+use crate::timelines::repair::Repair;
+use crate::timelines::shape::{Shape, entries};
+use std::io;
+use std::rt::Clock;
+
+/// A ratio, with two places.
+fn print_ratio(rt: &impl Print, time: u128, other: u128) -> io::Result<()> {
+    let parts = time.saturating_mul(100) / other.max(1);
+    print!(rt; " {}.{:02} |", parts / 100, parts % 100)
+}
+
+/// A row of the table: how the entries lie, their number, the segments and the comparisons of a build, and where it is
+/// timed the microseconds of a build, of a plain sweep with a heap and of a plain pass over the entries, and the ratios
+/// of the build to both.
+fn print_row<R: AllocGlobal + Print + Clock>(
+    rt: &R,
+    shape: Shape,
+    count: u32,
+    is_timed: bool,
+) -> io::Result<()>
+    requires { (0 < count) × (count ≤ 65536) }
+{
+    let entries = entries(rt.alloc(), shape, count)?;
+    let (segments, compares) = measured(rt.alloc(), &entries)?;
+    print!(rt; "| {} | {count} | {segments} | {compares} |", shape.name())?;
+    if is_timed {
+        let build = fastest_build(rt, &entries)?;
+        let sweep = fastest_sweep(rt, &entries)?;
+        let pass = fastest_pass(rt, &entries)?;
+        print_microseconds(rt, build)?;
+        print_microseconds(rt, sweep)?;
+        print_ratio(rt, build, sweep)?;
+        print_microseconds(rt, pass)?;
+        print!(rt; " {} |", build / pass.max(1))?;
+    }
+    println!(rt)
+}
+
+fn print_heading(rt: &impl Print, is_timed: bool) -> io::Result<()> {
+    if is_timed {
+        println!(rt;
+            "| Entries lie | Entries | Segments | Comparisons | µs a build | µs a sweep | Ratio | µs a pass | Ratio |"
+        )?;
+        println!(rt; "|---|---|---|---|---|---|---|---|---|")
+    } else {
+        println!(rt; "| Entries lie | Entries | Segments | Comparisons |")?;
+        println!(rt; "|---|---|---|---|")
+    }
+}
+
+fn print_table<R: AllocGlobal + Print + Clock>(rt: &R, is_timed: bool) -> io::Result<()> {
+    print_heading(rt, is_timed)?;
+    for shape in [Shape::Disjoint, Shape::Nested, Shape::EndlessBelow] {
+        for count in [256, 4096, 65_536] {
+            print_row(rt, shape, count, is_timed)?;
+        }
+    }
+    Ok(())
+}
+
+/// A row of the table of repairs: the segments of the line, those of the repaired one, and where it is timed the
+/// microseconds of a repair.
+fn print_repair<R: AllocGlobal + Print + Clock>(
+    rt: &R,
+    count: u32,
+    is_timed: bool,
+) -> io::Result<()>
+    requires { (64 ≤ count) × (count ≤ 65536) }
+{
+    let repair = Repair::of(rt.alloc(), count)?;
+    let segments = repair.segments()?;
+    print!(rt; "| {count} | {segments} |")?;
+    if is_timed {
+        let time = repair.fastest(rt)?;
+        print_microseconds(rt, time)?;
+    }
+    println!(rt)
+}
+
+fn print_repairs<R: AllocGlobal + Print + Clock>(rt: &R, is_timed: bool) -> io::Result<()> {
+    if is_timed {
+        println!(rt; "| Segments | Repaired | µs a repair |")?;
+        println!(rt; "|---|---|---|")?;
+    } else {
+        println!(rt; "| Segments | Repaired |")?;
+        println!(rt; "|---|---|")?;
+    }
+    for count in [256, 4096, 65_536] {
+        print_repair(rt, count, is_timed)?;
+    }
+    Ok(())
+}
+
+/// How builds compare, and how many segments repairs leave.
+pub(crate) fn print_timelines<R: AllocGlobal + Print + Clock>(
+    rt: &R,
+    is_timed: bool,
+) -> io::Result<()> {
+    print_table(rt, is_timed)?;
+    println!(rt)?;
+    print_repairs(rt, is_timed)
+}

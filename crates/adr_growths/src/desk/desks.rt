@@ -1,0 +1,43 @@
+//! Two desks that the same calls make.
+use crate::same::{are_same, same_of_id};
+use adr_desk::Desk;
+use adr_model::Tie;
+use adr_object::Edit;
+use adr_same::{edited_id, same_by_id};
+use adr_value::Refusal;
+use std::alloc::Global;
+
+/// A desk, its twin, for which the same calls are made once those of the desk have answered, and the edits so far.
+#[derive(Drop)]
+pub(crate) struct Desks {
+    pub(crate) desk: Desk,
+    pub(crate) twin: Desk,
+    pub(crate) made: Vec<Edit>,
+}
+
+/// Whether both have the same book and the same timelines, under one rule for ties.
+pub(crate) fn same_desk(a: &Desk, b: &Desk) -> bool {
+    are_same(a, b) && a.tie() == b.tie()
+}
+
+impl Desks {
+    pub(crate) fn new(alloc: Global) -> Result<Desks, Refusal> {
+        Ok(Desks {
+            desk: Desk::new(alloc, Tie::Newest)?,
+            twin: Desk::new(alloc, Tie::Newest)?,
+            made: Vec::new(alloc),
+        })
+    }
+
+    pub(crate) fn are_same(&self) -> bool {
+        same_desk(&self.desk, &self.twin)
+    }
+
+    /// Whether they are the same also where the edit's id is not there.
+    pub(crate) fn are_same_beside(&self, edit: &Edit) -> bool {
+        let id = edited_id(edit);
+        self.are_same()
+            && same_by_id(self.desk.book().objects(), self.twin.book().objects(), id)
+            && same_of_id(&self.desk, &self.twin, id)
+    }
+}

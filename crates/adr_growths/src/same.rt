@@ -1,0 +1,91 @@
+//! Desks and publications by what they show.
+use adr_book::Book;
+use adr_desk::Desk;
+use adr_object::{Id, Kind, Resource};
+use adr_same::{same_book, same_store, same_timeline};
+use adr_snapshot::Snapshot;
+use adr_timeline::Timeline;
+use adr_value::PayloadType;
+
+/// How many payload types have a code of their own.
+const CODES: u8 = 34;
+
+/// What has a book and timelines.
+pub(crate) trait Shows {
+    fn book_of(&self) -> &Book;
+
+    fn timeline_of(&self, id: &Id, payload_type: &PayloadType) -> Option<&Timeline>;
+}
+
+impl Shows for Desk {
+    fn book_of(&self) -> &Book {
+        self.book()
+    }
+
+    fn timeline_of(&self, id: &Id, payload_type: &PayloadType) -> Option<&Timeline> {
+        self.timeline(id, payload_type)
+    }
+}
+
+impl Shows for Snapshot {
+    fn book_of(&self) -> &Book {
+        self.book()
+    }
+
+    fn timeline_of(&self, id: &Id, payload_type: &PayloadType) -> Option<&Timeline> {
+        self.timeline(id, payload_type)
+    }
+}
+
+fn same_of_type<A: Shows, B: Shows>(a: &A, b: &B, id: &Id, payload_type: &PayloadType) -> bool {
+    same_timeline(
+        a.timeline_of(id, payload_type),
+        b.timeline_of(id, payload_type),
+    )
+}
+
+fn same_of_code<A: Shows, B: Shows>(a: &A, b: &B, id: &Id, code: u8) -> bool {
+    let Some(payload_type) = PayloadType::of_code(code) else {
+        return true;
+    };
+    let is_same = same_of_type(a, b, id, &payload_type);
+    drop(payload_type);
+    is_same
+}
+
+/// Whether the timelines of the resource show the same for each payload type.
+pub(crate) fn same_of_id<A: Shows, B: Shows>(a: &A, b: &B, id: &Id) -> bool {
+    for code in 0..CODES {
+        if !same_of_code(a, b, id, code) {
+            return false;
+        }
+    }
+    true
+}
+
+fn same_of_resource<A: Shows, B: Shows>(a: &A, b: &B, resource: Option<&Resource>) -> bool {
+    match resource {
+        Some(resource) => same_of_id(a, b, &resource.id),
+        None => false,
+    }
+}
+
+/// Whether both show the same for each of their resources.
+fn same_timelines<A: Shows, B: Shows>(a: &A, b: &B) -> bool {
+    for place in 0..a.book_of().count(Kind::Resource) {
+        if !same_of_resource(a, b, a.book_of().resource_at(place)) {
+            return false;
+        }
+    }
+    true
+}
+
+/// Whether both have the same objects and the same timelines.
+pub(crate) fn show_same<A: Shows, B: Shows>(a: &A, b: &B) -> bool {
+    same_store(a.book_of().objects(), b.book_of().objects()) && same_timelines(a, b)
+}
+
+/// Whether both have the same book and the same timelines.
+pub(crate) fn are_same<A: Shows, B: Shows>(a: &A, b: &B) -> bool {
+    same_book(a.book_of(), b.book_of()) && same_timelines(a, b)
+}
