@@ -20,6 +20,7 @@ pub(crate) fn try_board<R: AllocGlobal + Print + Wait + Threads + Sync>(
     rt: &R,
     lines: &str,
 ) -> io::Result<()> {
+    let lines = String::from_str(rt.alloc(), lines)?;
     try_open(rt)?;
     try_over(rt)?;
     try_replay(rt)?;

@@ -62,11 +62,12 @@ fn try_each<J: Naming, R: AllocGlobal + Print + Wait + Threads + Sync>(
     Ok(())
 }
 
-/// Does what the lines say on the board, and closes it.
+/// Does what the lines say on the board, and closes it. The lines are owned, as the history of a board can't be named at a
+/// call that is given a `&str`.
 fn on_board<J: Naming, R: AllocGlobal + Print + Wait + Threads + Sync>(
     rt: &R,
     board: NewBoard,
-    lines: &str,
+    lines: String,
 ) -> Result<io::Result<()>, Refusal>
     requires { board.diary.page.book ≡ J.history }
 {
@@ -77,7 +78,7 @@ fn on_board<J: Naming, R: AllocGlobal + Print + Wait + Threads + Sync>(
         Tie::Newest,
         READERS,
     )?;
-    let tried = try_each(rt, &mut editor, readers.as_mut_slice(), lines);
+    let tried = try_each(rt, &mut editor, readers.as_mut_slice(), lines.as_str());
     drop(readers);
     editor.close(rt);
     Ok(tried)
@@ -86,7 +87,7 @@ fn on_board<J: Naming, R: AllocGlobal + Print + Wait + Threads + Sync>(
 /// Does what the lines say on a new board.
 pub(crate) fn try_lines<R: AllocGlobal + Print + Wait + Threads + Sync>(
     rt: &R,
-    lines: &str,
+    lines: String,
 ) -> io::Result<()> {
     told(on_board::<Brand, R>(rt, NewBoard::new(), lines))?
 }
