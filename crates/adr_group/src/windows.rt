@@ -1,8 +1,6 @@
 //! The spans of windows.
 ghost use Rattle.std.specs.Prelude.{◌≡◌, ◌≤◌, ◌||◌, ℕ, ℤ, List, true, IfOk, IsTrue, OnOk};
 ghost use Rattle.adr_value.specs.Answer.{OnlyNoMemory};
-ghost use Rattle.adr_time.specs.Spans.{covers, is_before};
-ghost use Rattle.adr_time.specs.declared.span.End.TheVariants.{At as EndsAt};
 ghost use Rattle.adr_model.specs.declared.entry.Entry.{Entry as AnyEntry};
 ghost use Rattle.adr_timeline.specs.Build.{most_compared_all};
 ghost use Rattle.adr_timeline.specs.Windows.{all_last, any_covers};
@@ -11,7 +9,7 @@ ghost use Rattle.adr_stretch.specs.Right.{written_in};
 ghost use Rattle.adr_group.specs.Repair.{most_inside};
 
 use adr_model::Entry;
-use adr_time::{End, Moment, Span};
+use adr_time::Span;
 use adr_value::Refusal;
 use std::alloc::Global;
 
@@ -58,7 +56,7 @@ fn lasting_spans(alloc: Global, windows: &[Entry]) -> Result<Vec<Span>, Refusal>
     let mut spans = Vec::with_capacity(alloc, windows.len())?;
     let mut rest = windows;
     'rest: while let Some((window, more)) = rest.split_first() {
-        if window.span.start.is_before(window.span.end) {
+        if window.span.lasts() {
             spans.push(window.span)?;
         }
         rest = more;
@@ -78,16 +76,6 @@ pub(crate) fn spans_of(alloc: Global, windows: &[Entry]) -> Result<Vec<Span>, Re
     Ok(spans)
 }
 
-/// Whether the end is that moment.
-fn is_at(end: End, moment: Moment) -> bool
-    ensures { result ≡ true → end ≡ EndsAt moment }
-{
-    match end {
-        End::At(end) => end == moment,
-        End::Endless => false,
-    }
-}
-
 /// Spans that cover what the spans cover, one for those that touch. `NoMemory` where there is no room for them.
 pub(crate) fn put_together(alloc: Global, spans: &[Span]) -> Result<Vec<Span>, Refusal>
     requires last { IsTrue (all_last spans.now) }
@@ -103,7 +91,7 @@ pub(crate) fn put_together(alloc: Global, spans: &[Span]) -> Result<Vec<Span>, R
     let mut rest = others;
     'rest: while let Some((span, more)) = rest.split_first() {
         rest = more;
-        if is_at(current.end, span.start) {
+        if current.end.is_at(span.start) {
             current.end = span.end;
         } else {
             wide.push(current)?;

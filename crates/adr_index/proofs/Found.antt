@@ -9,7 +9,7 @@ use Rattle.adr_model.specs.declared.entry.Entry.{Entry}
 use Rattle.adr_model.specs.Entries.{is_listed_before}
 use Rattle.adr_index.specs.Index.{is_entry, others, without}
 use Rattle.adr_index.specs.Tables.{IsFound}
-use Rattle.adr_index.proofs.Ordered.{listed_asym, listed_total}
+use Rattle.adr_index.proofs.Ordered.{listed_asym, listed_total, or_grouped}
 use Rattle.adr_index.proofs.Placed.{others_fewer}
 
 not_before_itself : (e : Entry) → is_listed_before e e ≡ false
@@ -41,11 +41,7 @@ found_at written place es i e lt read h = record { named = h; any = any_at (is_e
 
 any_append : (p : Entry → Bool) (xs ys : List Entry) → list_any p (xs ++ ys) ≡ (list_any p xs || list_any p ys)
 any_append p [] ys = refl
-any_append p (x ∷ xs) ys = ap (λ (b : Bool). p x || b) (any_append p xs ys) ∙ grouped (p x) (list_any p xs) (list_any p ys)
-  where
-    grouped : (a b c : Bool) → (a || (b || c)) ≡ ((a || b) || c)
-    grouped true b c = refl
-    grouped false b c = refl
+any_append p (x ∷ xs) ys = ap (λ (b : Bool). p x || b) (any_append p xs ys) ∙ or_grouped (p x) (list_any p xs) (list_any p ys)
 
 -- what is found in a part is found in all
 pub found_around : (written place : ℕ) (e : Entry) (front middle back : List Entry) → IsFound written place e middle → IsFound written place e (front ++ (middle ++ back))

@@ -8,10 +8,11 @@ use Rattle.std.proofs.lemmas.List.Concat.{flat_map-append}
 use Rattle.adr_time.specs.declared.span.End.{End}
 use Rattle.adr_time.specs.declared.span.End.TheVariants.{At, Endless}
 use Rattle.adr_model.specs.declared.entry.Entry.{Entry}
-use Rattle.adr_time.specs.Spans.{is_before}
+use Rattle.adr_time.specs.Spans.{is_before, later_end}
 use Rattle.adr_index.specs.Index.{digits}
-use Rattle.adr_index.specs.Tree.{any_lasts, comes_after, only, IsGreatest, IsTree, end_max, later_end, own_end}
-use Rattle.adr_index.specs.Query.{lasts}
+use Rattle.adr_index.specs.Tree.{any_lasts, comes_after, only, IsGreatest, IsTree, greater_end, own_end}
+use Rattle.adr_index.specs.Query.{lasts_past}
+use Rattle.adr_index.proofs.Ordered.{or_grouped}
 
 -- ---- numbers
 
@@ -46,17 +47,17 @@ or_true : (x : Bool) → true ≡ (x || true)
 or_true true = refl
 or_true false = refl
 
-max_after : (e f : End) (t : ℤ) → is_before t (end_max e f) ≡ (is_before t e || is_before t f)
+max_after : (e f : End) (t : ℤ) → is_before t (later_end e f) ≡ (is_before t e || is_before t f)
 max_after (At u) (At v) t = grind (arith, ints)
 max_after (At u) Endless t = or_true (int_lt t u)
 max_after Endless f t = refl
 
-pub later_after : (g h : Option End) (t : ℤ) → comes_after (later_end g h) t ≡ (comes_after g t || comes_after h t)
+pub later_after : (g h : Option End) (t : ℤ) → comes_after (greater_end g h) t ≡ (comes_after g t || comes_after h t)
 later_after None h t = refl
 later_after (Some e) None t = or_false (is_before t e)
 later_after (Some e) (Some f) t = max_after e f t
 
-pub own_after : (e : Entry) (t : ℤ) → comes_after (own_end e) t ≡ lasts e t
+pub own_after : (e : Entry) (t : ℤ) → comes_after (own_end e) t ≡ lasts_past e t
 own_after e t = either (is_before e.span.start e.span.end)
   where
     either : (x : Bool) → comes_after (if x then Some e.span.end else None) t ≡ (x && is_before t e.span.end)
@@ -65,13 +66,9 @@ own_after e t = either (is_before e.span.start e.span.end)
 
 pub lasts_append : (xs ys : List Entry) (t : ℤ) → any_lasts (xs ++ ys) t ≡ (any_lasts xs t || any_lasts ys t)
 lasts_append [] ys t = refl
-lasts_append (x ∷ xs) ys t = ap (λ (b : Bool). lasts x t || b) (lasts_append xs ys t) ∙ grouped (lasts x t) (any_lasts xs t) (any_lasts ys t)
-  where
-    grouped : (a b c : Bool) → (a || (b || c)) ≡ ((a || b) || c)
-    grouped true b c = refl
-    grouped false b c = refl
+lasts_append (x ∷ xs) ys t = ap (λ (b : Bool). lasts_past x t || b) (lasts_append xs ys t) ∙ or_grouped (lasts_past x t) (any_lasts xs t) (any_lasts ys t)
 
-pub greatest_both : (l r : Option End) (xs ys : List Entry) → IsGreatest l xs → IsGreatest r ys → IsGreatest (later_end l r) (xs ++ ys)
+pub greatest_both : (l r : Option End) (xs ys : List Entry) → IsGreatest l xs → IsGreatest r ys → IsGreatest (greater_end l r) (xs ++ ys)
 greatest_both l r xs ys g h t = rw (later_after l r t, g t, h t) (sym (lasts_append xs ys t))
 
 -- ---- parts
@@ -116,10 +113,10 @@ module _ {A : Type 0} (f : A → List Entry) where
       past : drop (length xs / 2) (front ++ x ∷ back) ≡ back
       past = ap (drop (length xs / 2)) (sym (append_assoc front (x ∷ []) back)) ∙ drop_at (front ++ x ∷ []) back (length xs / 2) (length-append front (x ∷ []) ∙ (omega arith))
 
-  pub greatest_halves : (xs left right : List A) (x l r : Option End) → left ≡ take (length xs / 2) xs → right ≡ drop (length xs / 2) xs → x ≡ later_end l r → IsGreatest l (flat_map f left) → IsGreatest r (flat_map f right) → IsGreatest x (flat_map f xs)
+  pub greatest_halves : (xs left right : List A) (x l r : Option End) → left ≡ take (length xs / 2) xs → right ≡ drop (length xs / 2) xs → x ≡ greater_end l r → IsGreatest l (flat_map f left) → IsGreatest r (flat_map f right) → IsGreatest x (flat_map f xs)
   greatest_halves xs left right x l r s t k gl gr = rw (k, parted (length xs / 2) xs, ← s, ← t) (greatest_both l r (flat_map f left) (flat_map f right) gl gr)
 
-  pub tree_written : (n : ℕ) (xs left right : List A) (front here back : List (Option End)) (x l r : Option End) → 0 < n → 1 < length xs → left ≡ take (length xs / 2) xs → right ≡ drop (length xs / 2) xs → length front ≡ length xs / 2 - 1 → length here ≡ 1 → x ≡ later_end l r → IsGreatest l (flat_map f left) → IsGreatest r (flat_map f right) → IsTree f (n - 1) left front → IsTree f (n - 1) right back → IsTree f n xs (front ++ (set here 0 x ++ back))
+  pub tree_written : (n : ℕ) (xs left right : List A) (front here back : List (Option End)) (x l r : Option End) → 0 < n → 1 < length xs → left ≡ take (length xs / 2) xs → right ≡ drop (length xs / 2) xs → length front ≡ length xs / 2 - 1 → length here ≡ 1 → x ≡ greater_end l r → IsGreatest l (flat_map f left) → IsGreatest r (flat_map f right) → IsTree f (n - 1) left front → IsTree f (n - 1) right back → IsTree f n xs (front ++ (set here 0 x ++ back))
   tree_written n xs left right front here back x l r p two s t h o k gl gr tl tr = rw (set_one here x o) (tree_made n xs front back x p two h (greatest_halves xs left right x l r s t k gl gr) (rw s at tl) (rw t at tr))
 
   -- a tree serves for as many levels as its length needs

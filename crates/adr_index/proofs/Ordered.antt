@@ -5,7 +5,7 @@ use Rattle.std.specs.List.{AllByRecursion, insert, list_any}
 use Rattle.std.proofs.lemmas.Int.{ints}
 use Rattle.std.proofs.lemmas.List.{append-nil, append_assoc, length-append}
 use Rattle.std.proofs.lemmas.List.Elements.{filter-append}
-use Rattle.std.proofs.lemmas.Bool.{cases_Bool, or_cases, or_parts, and_parts, false≢true}
+use Rattle.std.proofs.lemmas.Bool.{cases_Bool, or_cases, or_parts, and_parts, false≢true, not-true}
 use Rattle.std.proofs.lemmas.Bool.Decides.{nat_tests, Decides-int_eq}
 use Rattle.adr_model.specs.declared.entry.Entry.{Entry}
 use Rattle.adr_model.specs.Entries.{is_listed_before, IsListed}
@@ -13,6 +13,14 @@ use Rattle.adr_index.specs.Tree.{IsByStart}
 use Rattle.adr_index.specs.Index.{inserted, is_entry, others, IsOrdered}
 
 -- ---- the order
+
+or_true : (x : Bool) → (x || true) ≡ true
+or_true true = refl
+or_true false = refl
+
+pub or_grouped : (a b c : Bool) → (a || (b || c)) ≡ ((a || b) || c)
+or_grouped true b c = refl
+or_grouped false b c = refl
 
 -- the order of the numbers where the starts are equal
 abbrev later_write : Entry → Entry → Bool
@@ -43,10 +51,6 @@ starts_trans s t u x y z f h k = elim (or_cases (int_lt s t) (int_eq s t && x) h
     below : (s t u : ℤ) (z : Bool) → int_lt s t ≡ true → int_lt t u ≡ true → (int_lt s u || (int_eq s u && z)) ≡ true
     below s t u z h k = let early : int_lt s u ≡ true = grind (arith, ints) in rw early
 
-    or_true : (x : Bool) → (x || true) ≡ true
-    or_true true = refl
-    or_true false = refl
-
 pub listed_trans : (a b c : Entry) → is_listed_before a b ≡ true → is_listed_before b c ≡ true → is_listed_before a c ≡ true
 listed_trans a b c h k = starts_trans a.span.start b.span.start c.span.start (later_write a b) (later_write b c) (later_write a c) (writes_trans a b c) h k
 
@@ -63,10 +67,6 @@ starts_total s t x y f h =
   where
     after : (s t : ℤ) → int_lt s t ≡ false → int_eq s t ≡ false → int_lt t s ≡ true
     after s t h k = grind (arith, ints, Decides-int_eq)
-
-    or_true : (x : Bool) → (x || true) ≡ true
-    or_true true = refl
-    or_true false = refl
 
 pub listed_total : (a b : Entry) → is_listed_before a b ≡ false → is_entry b.rank.written b.rank.place a ≡ false → is_listed_before b a ≡ true
 listed_total a b h k = starts_total a.span.start b.span.start (later_write a b) (later_write b a) (λ q. writes_total a b q k) h
@@ -144,17 +144,13 @@ none_such : (p : Entry → Bool) (es : List Entry) → list_any p es ≡ false �
 none_such p [] h = tt
 none_such p (e ∷ es) h = let parts = or_parts (p e) (list_any p es) h in (parts.0, none_such p es parts.1)
 
-not_true : (x : Bool) → not x ≡ true → x ≡ false
-not_true false h = refl
-not_true true h = sym h
-
 pub ordered_inserted : (e : Entry) (es : List Entry) → IsOrdered es → list_any (is_entry e.rank.written e.rank.place) es ≡ false → IsOrdered (inserted e es)
 ordered_inserted e es o new =
     ordered_middle (filter (λ x. is_listed_before x e) es) e (filter (λ x. not (is_listed_before x e)) es)
     (ordered_filter (λ x. is_listed_before x e) es o)
     (all_kept (λ x. is_listed_before x e) (λ f. is_listed_before f e ≡ true) es (λ f h. h))
     (all_both (λ f. is_listed_before f e ≡ false) (λ f. is_entry e.rank.written e.rank.place f ≡ false) (λ f. is_listed_before e f ≡ true) (λ f h k. listed_total f e h k) (filter (λ x. not (is_listed_before x e)) es)
-    (all_kept (λ x. not (is_listed_before x e)) (λ f. is_listed_before f e ≡ false) es (λ f h. not_true (is_listed_before f e) h))
+    (all_kept (λ x. not (is_listed_before x e)) (λ f. is_listed_before f e ≡ false) es (λ f h. not-true (is_listed_before f e) h))
     (all_filter (λ f. is_entry e.rank.written e.rank.place f ≡ false) (λ x. not (is_listed_before x e)) es (none_such (is_entry e.rank.written e.rank.place) es new)))
     (ordered_filter (λ x. not (is_listed_before x e)) es o)
 
@@ -217,10 +213,6 @@ starts_after s t u x y w f h k =
       ]
     ]
   where
-    or_true : (x : Bool) → (x || true) ≡ true
-    or_true true = refl
-    or_true false = refl
-
     over : (s t u : ℤ) → int_lt s t ≡ false → int_lt s u ≡ true → int_lt t u ≡ true
     over s t u h k = grind (arith, ints)
 
@@ -240,11 +232,11 @@ listed_asym a b h = starts_asym a.span.start b.span.start (later_write a b) (lat
 pub listed_after : (a b c : Entry) → is_listed_before a b ≡ false → is_listed_before a c ≡ true → is_listed_before b c ≡ true
 listed_after a b c h k = starts_after a.span.start b.span.start c.span.start (later_write a b) (later_write a c) (later_write b c) (writes_after a b c) h k
 
-all_right : (P : Entry → Type 0) (xs ys : List Entry) → AllByRecursion P (xs ++ ys) → AllByRecursion P ys
+pub all_right : (P : Entry → Type 0) (xs ys : List Entry) → AllByRecursion P (xs ++ ys) → AllByRecursion P ys
 all_right P [] ys h = h
 all_right P (x ∷ xs) ys h = all_right P xs ys h.1
 
-all_left : (P : Entry → Type 0) (xs ys : List Entry) → AllByRecursion P (xs ++ ys) → AllByRecursion P xs
+pub all_left : (P : Entry → Type 0) (xs ys : List Entry) → AllByRecursion P (xs ++ ys) → AllByRecursion P xs
 all_left P [] ys h = tt
 all_left P (x ∷ xs) ys h = (h.0, all_left P xs ys h.1)
 

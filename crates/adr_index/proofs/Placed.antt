@@ -1,7 +1,7 @@
 -- A chunk between those before it and those after it.
 use Rattle.std.proofs.Common.{◌≡◌, ℕ, zero, suc, ◌+◌, ◌-◌, ◌<◌, ◌≤◌, true, false, ◌||◌, List, [], ◌∷◌, ◌++◌, length, take, drop, get_or, set, refl, sym, ◌∙◌, ap, arith}
 use Rattle.std.specs.List.{AllByRecursion, insert, remove}
-use Rattle.std.proofs.lemmas.List.{append-nil, append_assoc, drop_more, take_more, take-append-drop, length-append}
+use Rattle.std.proofs.lemmas.List.{append-nil, append_assoc, drop_more, take_more, take-append-drop}
 use Rattle.std.proofs.lemmas.List.Sums.{length-filter, count_by-le-length}
 use Rattle.std.proofs.lemmas.List.Concat.{flat_map-append}
 use Rattle.adr_model.specs.declared.entry.Entry.{Entry}
@@ -9,12 +9,17 @@ use Rattle.adr_model.specs.Entries.{is_listed_before}
 use Rattle.adr_index.specs.declared.chunk.Chunk.{Chunk}
 use Rattle.adr_index.specs.Chunks.{all_listed, listed, AreChunks, IsChunk, EndsBefore}
 use Rattle.adr_index.specs.Index.{inserted, others, IsOrdered}
-use Rattle.adr_index.proofs.Ordered.{all_after, all_before, inserted_between, others_between, ordered_left, ordered_right}
+use Rattle.adr_index.proofs.Ordered.{all_after, all_before, inserted_between, ordered_left, ordered_right}
 
 pub chunk_at : (cs : List Chunk) (k : ℕ) (c : Chunk) → AreChunks cs → k < length cs → c ≡ get_or cs k c → IsChunk c
 chunk_at [] k c h lt read = absurd (omega arith)
 chunk_at (d ∷ cs) zero c h lt read = rw read h.0
 chunk_at (d ∷ cs) (suc k) c h lt read = chunk_at cs k c h.1 (omega arith) read
+
+last_read : (es : List Entry) (i : ℕ) (d : Entry) → i < length es → get_or es i d ≡ get_or es i (get_or es i d)
+last_read [] i d lt = absurd (omega arith)
+last_read (x ∷ xs) zero d lt = refl
+last_read (x ∷ xs) (suc i) d lt = last_read xs i d (omega arith)
 
 module _ (cs : List Chunk) (k : ℕ) (c : Chunk) (inside : k < length cs) (read : c ≡ get_or cs k c) where
   pub around : all_listed cs ≡ all_listed (take k cs) ++ (listed c ++ all_listed (drop (k + 1) cs))
@@ -34,21 +39,11 @@ module _ (cs : List Chunk) (k : ℕ) (c : Chunk) (inside : k < length cs) (read 
     goes_right ends =
         let x = get_or (listed c) (length (listed c) - 1) e in
         rw up_to (all_before (all_listed (take k cs)) (listed c) (all_listed (drop (k + 1) cs)) x e (rw around at order) some (last_read (listed c) (length (listed c) - 1) e (omega arith)) (ends e))
-      where
-        last_read : (es : List Entry) (i : ℕ) (d : Entry) → i < length es → get_or es i d ≡ get_or es i (get_or es i d)
-        last_read [] i d lt = absurd (omega arith)
-        last_read (x ∷ xs) zero d lt = refl
-        last_read (x ∷ xs) (suc i) d lt = last_read xs i d (omega arith)
 
     pub goes_left : EndsBefore c e false → AllByRecursion (λ x. is_listed_before e x ≡ true) (all_listed (drop (k + 1) cs))
     goes_left ends =
         let x = get_or (listed c) (length (listed c) - 1) e in
         all_after (all_listed (take k cs)) (listed c) (all_listed (drop (k + 1) cs)) x e (rw around at order) some (last_read (listed c) (length (listed c) - 1) e (omega arith)) (ends e)
-      where
-        last_read : (es : List Entry) (i : ℕ) (d : Entry) → i < length es → get_or es i d ≡ get_or es i (get_or es i d)
-        last_read [] i d lt = absurd (omega arith)
-        last_read (x ∷ xs) zero d lt = refl
-        last_read (x ∷ xs) (suc i) d lt = last_read xs i d (omega arith)
 
 pub all_set : (cs : List Chunk) (k : ℕ) (c : Chunk) → k < length cs → all_listed (set cs k c) ≡ all_listed (take k cs) ++ (listed c ++ all_listed (drop (k + 1) cs))
 all_set [] k c lt = absurd (omega arith)

@@ -1,5 +1,5 @@
 -- One chunk after the other.
-use Rattle.std.proofs.Common.{◌≡◌, ℕ, zero, suc, ◌+◌, ◌-◌, ◌*◌, ◌<◌, ◌≤◌, Bool, true, false, ◌||◌, List, [], ◌∷◌, ◌++◌, length, take, drop, get_or, Option, refl, sym, ◌∙◌, ap, arith, ℤ}
+use Rattle.std.proofs.Common.{◌≡◌, ℕ, zero, suc, ◌+◌, ◌-◌, ◌*◌, ◌<◌, ◌≤◌, Bool, true, false, ◌||◌, List, [], ◌∷◌, ◌++◌, length, take, drop, get_or, Option, sym, ◌∙◌, ap, arith, ℤ}
 use Rattle.std.specs.List.{AllByRecursion}
 use Rattle.std.proofs.Math.Nat.{mul-le-mul_left}
 use Rattle.std.proofs.lemmas.List.{append_assoc, drop_more}
@@ -9,9 +9,10 @@ use Rattle.adr_index.specs.declared.chunk.Chunk.{Chunk}
 use Rattle.adr_index.specs.declared.query.Query.{Query}
 use Rattle.adr_index.specs.Chunks.{all_listed, listed}
 use Rattle.adr_index.specs.Query.{any_late, hits, looks, reached}
-use Rattle.adr_index.specs.Tree.{any_lasts, comes_after, later_end, IsByStart}
+use Rattle.adr_index.specs.Tree.{any_lasts, comes_after, greater_end, IsByStart}
 use Rattle.adr_index.proofs.Grown.{lasts_append, later_after, parted}
 use Rattle.adr_index.proofs.Searched.{found_left, grows, hits_append, late_append, looks_both, looks_left, reached_left, reached_parts, starts_left, starts_right}
+use Rattle.adr_index.proofs.Ordered.{or_grouped}
 
 pub each_taken : (P : Chunk → Type 0) (m : ℕ) (cs : List Chunk) → AllByRecursion P cs → AllByRecursion P (take m cs)
 each_taken P zero cs h = tt
@@ -72,13 +73,9 @@ module _ (cs : List Chunk) (i : ℕ) (c : Chunk) (inside : i < length cs) (read 
         first : (any_late (listed c) q || any_late (all_listed (drop (i + 1) cs)) q) ≡ all
         first = sym (late_append (listed c) (all_listed (drop (i + 1) cs)) q) ∙ (ap (λ (es : List Entry). any_late es q) (sym whole) ∙ h)
 
-  pub lasts_rest : (t : ℤ) (g : Option End) (all : Bool) → (comes_after g t || any_lasts (all_listed (drop i cs)) t) ≡ all → comes_after c.end t ≡ any_lasts (listed c) t → (comes_after (later_end g c.end) t || any_lasts (all_listed (drop (i + 1) cs)) t) ≡ all
+  pub lasts_rest : (t : ℤ) (g : Option End) (all : Bool) → (comes_after g t || any_lasts (all_listed (drop i cs)) t) ≡ all → comes_after c.end t ≡ any_lasts (listed c) t → (comes_after (greater_end g c.end) t || any_lasts (all_listed (drop (i + 1) cs)) t) ≡ all
   lasts_rest t g all h end =
-      rw (later_after g c.end t, end) (grouped (comes_after g t) (any_lasts (listed c) t) (any_lasts (all_listed (drop (i + 1) cs)) t) ∙ (ap (λ (b : Bool). comes_after g t || b) (sym (lasts_append (listed c) (all_listed (drop (i + 1) cs)) t) ∙ ap (λ (es : List Entry). any_lasts es t) (sym whole)) ∙ h))
-    where
-      grouped : (x y z : Bool) → ((x || y) || z) ≡ (x || (y || z))
-      grouped true y z = refl
-      grouped false y z = refl
+      rw (later_after g c.end t, end) (sym (or_grouped (comes_after g t) (any_lasts (listed c) t) (any_lasts (all_listed (drop (i + 1) cs)) t)) ∙ (ap (λ (b : Bool). comes_after g t || b) (sym (lasts_append (listed c) (all_listed (drop (i + 1) cs)) t) ∙ ap (λ (es : List Entry). any_lasts es t) (sym whole)) ∙ h))
 
 -- ---- looks at all levels
 

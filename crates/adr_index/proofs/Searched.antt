@@ -5,25 +5,26 @@ use Rattle.std.proofs.Math.Nat.{mul-le-mul_left}
 use Rattle.std.proofs.lemmas.Int.{ints}
 use Rattle.std.proofs.lemmas.List.{append-nil, append_assoc, drop_more, length-append}
 use Rattle.std.proofs.lemmas.List.Elements.{filter-append}
-use Rattle.std.proofs.lemmas.Bool.{cases_Bool, or_parts, and_parts, false≢true}
+use Rattle.std.proofs.lemmas.Bool.{cases_Bool, or_parts, and_parts, false≢true, not-true}
 use Rattle.adr_time.specs.declared.span.End.TheVariants.{At, Endless}
 use Rattle.adr_model.specs.declared.entry.Entry.{Entry}
 use Rattle.adr_index.specs.declared.query.Query.{Query}
 use Rattle.adr_index.specs.declared.query.Latest.{Latest}
 use Rattle.adr_index.specs.declared.query.Latest.TheVariants.{Before, By}
-use Rattle.adr_index.specs.Query.{any_late, begins, lasts, is_hit, is_late, hits, if_hit, looks, reached}
+use Rattle.adr_index.specs.Query.{any_late, begins, lasts_past, is_hit, is_late, hits, if_hit, looks, reached}
 use Rattle.adr_index.specs.Tree.{IsByStart, any_lasts}
+use Rattle.adr_index.proofs.Ordered.{all_left, all_right, or_grouped}
 
 -- ---- what is found
 
-ended_missed : (e : Entry) (q : Query) → lasts e q.from ≡ false → is_hit q e ≡ false
+ended_missed : (e : Entry) (q : Query) → lasts_past e q.from ≡ false → is_hit q e ≡ false
 ended_missed e q h = rw h
 
-ended_early : (e : Entry) (q : Query) → lasts e q.from ≡ false → is_late q e ≡ false
+ended_early : (e : Entry) (q : Query) → lasts_past e q.from ≡ false → is_late q e ≡ false
 ended_early e q h = rw h
 
 late_missed : (e : Entry) (q : Query) → begins q.latest e.span.start ≡ false → is_hit q e ≡ false
-late_missed e q h = rw h (neither (lasts e q.from))
+late_missed e q h = rw h (neither (lasts_past e q.from))
   where
     neither : (x : Bool) → (x && false) ≡ false
     neither true = refl
@@ -32,13 +33,13 @@ late_missed e q h = rw h (neither (lasts e q.from))
 pub none_last : (es : List Entry) (q : Query) → any_lasts es q.from ≡ false → hits es q ≡ []
 none_last [] q h = refl
 none_last (e ∷ es) q h =
-    let parts = or_parts (lasts e q.from) (any_lasts es q.from) h in
+    let parts = or_parts (lasts_past e q.from) (any_lasts es q.from) h in
     rw (ended_missed e q parts.0) (none_last es q parts.1)
 
 pub none_late_last : (es : List Entry) (q : Query) → any_lasts es q.from ≡ false → any_late es q ≡ false
 none_late_last [] q h = refl
 none_late_last (e ∷ es) q h =
-    let parts = or_parts (lasts e q.from) (any_lasts es q.from) h in
+    let parts = or_parts (lasts_past e q.from) (any_lasts es q.from) h in
     rw (ended_early e q parts.0) (none_late_last es q parts.1)
 
 still_late : (l : Latest) (a b : ℤ) → a ≤ℤ b → begins l a ≡ false → begins l b ≡ false
@@ -50,14 +51,6 @@ none_begin : (es : List Entry) (a : ℤ) (q : Query) → AllByRecursion (λ f. a
 none_begin [] a q h k = refl
 none_begin (e ∷ es) a q h k = rw (late_missed e q (still_late q.latest a e.span.start h.0 k)) (none_begin es a q h.1 k)
 
-all_right : (P : Entry → Type 0) (xs ys : List Entry) → AllByRecursion P (xs ++ ys) → AllByRecursion P ys
-all_right P [] ys h = h
-all_right P (x ∷ xs) ys h = all_right P xs ys h.1
-
-all_left : (P : Entry → Type 0) (xs ys : List Entry) → AllByRecursion P (xs ++ ys) → AllByRecursion P xs
-all_left P [] ys h = tt
-all_left P (x ∷ xs) ys h = (h.0, all_left P xs ys h.1)
-
 pub starts_left : (xs ys : List Entry) → IsByStart (xs ++ ys) → IsByStart xs
 starts_left [] ys h = tt
 starts_left (x ∷ xs) ys h = (all_left (λ f. x.span.start ≤ℤ f.span.start) xs ys h.0, starts_left xs ys h.1)
@@ -66,15 +59,11 @@ pub starts_right : (xs ys : List Entry) → IsByStart (xs ++ ys) → IsByStart y
 starts_right [] ys h = h
 starts_right (x ∷ xs) ys h = starts_right xs ys h.1
 
-not_begun : (x : Bool) → not x ≡ true → x ≡ false
-not_begun false h = refl
-not_begun true h = sym h
-
 -- after one that starts too late nothing is found
 pub late_rest : (xs ys : List Entry) (q : Query) → IsByStart (xs ++ ys) → any_late xs q ≡ true → hits ys q ≡ []
 late_rest [] ys q o h = absurd (false≢true h)
 late_rest (x ∷ xs) ys q o h = elim (cases_Bool (is_late q x)) [
-  | inl late ↦ none_begin ys x.span.start q (all_right (λ f. x.span.start ≤ℤ f.span.start) xs ys o.0) (not_begun (begins q.latest x.span.start) (and_parts (lasts x q.from) (not (begins q.latest x.span.start)) late).1)
+  | inl late ↦ none_begin ys x.span.start q (all_right (λ f. x.span.start ≤ℤ f.span.start) xs ys o.0) (not-true (begins q.latest x.span.start) (and_parts (lasts_past x q.from) (not (begins q.latest x.span.start)) late).1)
   | inr early ↦ late_rest xs ys q o.1 (rw early at h)
 ]
 
@@ -83,17 +72,13 @@ hits_append xs ys q = filter-append (λ (e : Entry). is_hit q e) xs ys
 
 pub late_append : (xs ys : List Entry) (q : Query) → any_late (xs ++ ys) q ≡ (any_late xs q || any_late ys q)
 late_append [] ys q = refl
-late_append (x ∷ xs) ys q = ap (λ (b : Bool). is_late q x || b) (late_append xs ys q) ∙ grouped (is_late q x) (any_late xs q) (any_late ys q)
-  where
-    grouped : (a b c : Bool) → (a || (b || c)) ≡ ((a || b) || c)
-    grouped true b c = refl
-    grouped false b c = refl
+late_append (x ∷ xs) ys q = ap (λ (b : Bool). is_late q x || b) (late_append xs ys q) ∙ or_grouped (is_late q x) (any_late xs q) (any_late ys q)
 
 -- ---- how many a search comes to
 
 pub reached_some : (es : List Entry) (q : Query) → any_lasts es q.from ≡ true → 1 ≤ reached es q
 reached_some [] q h = absurd (false≢true h)
-reached_some (e ∷ es) q h = either (lasts e q.from) (begins q.latest e.span.start) h (reached_some es q)
+reached_some (e ∷ es) q h = either (lasts_past e q.from) (begins q.latest e.span.start) h (reached_some es q)
   where
     either : (l b : Bool) → (l || any_lasts es q.from) ≡ true → (any_lasts es q.from ≡ true → 1 ≤ reached es q) → 1 ≤ length (if l && b then e ∷ hits es q else hits es q) + (if (l && not b) || any_late es q then 1 else 0)
     either true true h f = omega arith
@@ -152,7 +137,7 @@ module _ (es : List Entry) (i : ℕ) (x : Entry) (q : Query) (inside : i < lengt
 
   pub stopped : IsByStart (drop i es) → is_late q x ≡ true → hits (drop i es) q ≡ []
   stopped o late =
-      let begun = not_begun (begins q.latest x.span.start) (and_parts (lasts x q.from) (not (begins q.latest x.span.start)) late).1 in
+      let begun = not-true (begins q.latest x.span.start) (and_parts (lasts_past x q.from) (not (begins q.latest x.span.start)) late).1 in
       rw (here, late_missed x q begun) (none_begin (drop (i + 1) es) x.span.start q (rw here at o).0 begun)
 
   pub stepped_found : (found new all : List Entry) → found ++ hits (drop i es) q ≡ all → new ≡ found ++ if_hit x q → new ++ hits (drop (i + 1) es) q ≡ all

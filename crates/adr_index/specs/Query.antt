@@ -1,7 +1,7 @@
 -- Entries that are asked for.
 use Rattle.std.specs.Prelude.{ℤ, int_le, ℕ, ◌+◌, ◌*◌, Bool, not, ◌&&◌, List, [], ◌∷◌, filter, length, if◌then◌else◌}
 use Rattle.std.specs.List.{list_any}
-use Rattle.adr_time.specs.Spans.{is_before}
+use Rattle.adr_time.specs.Spans.{is_before, lasts}
 use Rattle.adr_model.specs.declared.entry.Entry.{Entry}
 use Rattle.adr_index.specs.declared.query.Query.{Query}
 use Rattle.adr_index.specs.declared.query.Latest.{Latest}
@@ -13,16 +13,16 @@ begins (Before end) t = is_before t end
 begins (By u) t = int_le t u
 
 -- the entry covers some instant, and ends after the instant t
-abbrev pub lasts : Entry → ℤ → Bool
-lasts e t = is_before e.span.start e.span.end && is_before t e.span.end
+abbrev pub lasts_past : Entry → ℤ → Bool
+lasts_past e t = lasts e.span && is_before t e.span.end
 
 -- the entry lasts and starts in time
 abbrev pub is_hit : Query → Entry → Bool
-is_hit q e = lasts e q.from && begins q.latest e.span.start
+is_hit q e = lasts_past e q.from && begins q.latest e.span.start
 
 -- the entry lasts and starts too late
 abbrev pub is_late : Query → Entry → Bool
-is_late q e = lasts e q.from && not (begins q.latest e.span.start)
+is_late q e = lasts_past e q.from && not (begins q.latest e.span.start)
 
 -- the entries that are asked for
 abbrev pub hits : List Entry → Query → List Entry

@@ -1,12 +1,10 @@
 -- A tree of greatest ends over parts of a list of entries in order of their starts.
 use Rattle.std.specs.Prelude.{◌≡◌, ℕ, zero, suc, ◌-◌, ◌<◌, ◌≤◌, ◌/◌, ◌^◌, min, ⊤, Bool, false, ◌||◌, List, [], ◌∷◌, length, take, drop, Option, Some, None, if◌then◌else◌, ℤ, ◌≤ℤ◌, slice_index_or}
 use Rattle.std.specs.List.{AllByRecursion, flat_map}
-use Rattle.std.specs.Int.{int_max}
-use Rattle.adr_time.specs.Spans.{is_before}
+use Rattle.adr_time.specs.Spans.{is_before, lasts, later_end}
 use Rattle.adr_time.specs.declared.span.End.{End}
-use Rattle.adr_time.specs.declared.span.End.TheVariants.{At, Endless}
 use Rattle.adr_model.specs.declared.entry.Entry.{Entry}
-use Rattle.adr_index.specs.Query.{lasts}
+use Rattle.adr_index.specs.Query.{lasts_past}
 
 -- in order of their starts
 abbrev pub IsByStart : List Entry → Type 0
@@ -16,7 +14,7 @@ IsByStart (e ∷ es) = AllByRecursion (λ f. e.span.start ≤ℤ f.span.start) e
 -- some entry covers an instant and ends after the instant t
 abbrev pub any_lasts : List Entry → ℤ → Bool
 any_lasts [] t = false
-any_lasts (e ∷ es) t = lasts e t || any_lasts es t
+any_lasts (e ∷ es) t = lasts_past e t || any_lasts es t
 
 -- the end, if there is one, comes after the instant
 abbrev pub comes_after : Option End → ℤ → Bool
@@ -53,18 +51,12 @@ IsTreeBut f (suc h) from to xs gs =
     (to ≤ from → IsTree f (suc h) xs gs)
     × (4 < length xs → IsTreeBut f h (min from (length xs / 2)) (min to (length xs / 2)) (take (length xs / 2) xs) (take (length xs / 2 - 1) gs) × IsTreeBut f h (from - length xs / 2) (to - length xs / 2) (drop (length xs / 2) xs) (drop (length xs / 2) gs))
 
--- the later of two ends
-abbrev pub end_max : End → End → End
-end_max (At u) (At v) = At (int_max u v)
-end_max (At u) Endless = Endless
-end_max Endless e = Endless
-
--- the same, where there is one
-abbrev pub later_end : Option End → Option End → Option End
-later_end None g = g
-later_end (Some e) None = Some e
-later_end (Some e) (Some f) = Some (end_max e f)
+-- the later of two ends, where there is one
+abbrev pub greater_end : Option End → Option End → Option End
+greater_end None g = g
+greater_end (Some e) None = Some e
+greater_end (Some e) (Some f) = Some (later_end e f)
 
 -- the entry's end, where the entry covers some instant
 abbrev pub own_end : Entry → Option End
-own_end e = if is_before e.span.start e.span.end then Some e.span.end else None
+own_end e = if lasts e.span then Some e.span.end else None

@@ -351,7 +351,7 @@ impl Index {
         ensures found { IfOk result (λ found. found.items ≡ meeting self.now.entries window) }
         ensures refused { OnlyNoMemory result }
     {
-        if !window.start.is_before(window.end) {
+        if !window.lasts() {
             return Ok(Vec::new(*self.tops.allocator()));
         }
         let query = query_of(&window);
@@ -383,7 +383,7 @@ impl Index {
         ensures probes { meter.new ≤ meter.old + most_probes self.now.entries (length (meeting self.now.entries window)) }
         ensures refused { OnlyNoMemory result }
     {
-        if !window.start.is_before(window.end) {
+        if !window.lasts() {
             return Ok(Vec::new(*self.tops.allocator()));
         }
         let query = query_of(&window);

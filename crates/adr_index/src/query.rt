@@ -1,6 +1,6 @@
 //! What an entry is asked for.
 ghost use Rattle.std.specs.Prelude.{◌≡◌};
-ghost use Rattle.adr_index.specs.Query.{begins, is_hit as is_a_hit, is_late as is_too_late, lasts as lasts_after};
+ghost use Rattle.adr_index.specs.Query.{begins, is_hit as is_a_hit, is_late as is_too_late, lasts_past as is_past_end};
 
 use adr_model::Entry;
 use adr_time::{End, Moment};
@@ -32,22 +32,22 @@ fn starts_in_time(entry: &Entry, query: &Query) -> bool
 }
 
 /// Whether the entry covers some moment, and ends after what is asked for begins.
-fn lasts(entry: &Entry, query: &Query) -> bool
-    ensures { result ≡ lasts_after entry.now query.now.from }
+fn lasts_past(entry: &Entry, query: &Query) -> bool
+    ensures { result ≡ is_past_end entry.now query.now.from }
 {
-    entry.span.start.is_before(entry.span.end) && query.from.is_before(entry.span.end)
+    entry.span.lasts() && query.from.is_before(entry.span.end)
 }
 
 /// Whether the entry is asked for.
 pub(crate) fn is_hit(entry: &Entry, query: &Query) -> bool
     ensures { result ≡ is_a_hit query.now entry.now }
 {
-    lasts(entry, query) && starts_in_time(entry, query)
+    lasts_past(entry, query) && starts_in_time(entry, query)
 }
 
 /// Whether the entry lasts and starts too late.
 pub(crate) fn is_late(entry: &Entry, query: &Query) -> bool
     ensures { result ≡ is_too_late query.now entry.now }
 {
-    lasts(entry, query) && !starts_in_time(entry, query)
+    lasts_past(entry, query) && !starts_in_time(entry, query)
 }

@@ -8,7 +8,7 @@ ghost use Rattle.adr_index.specs.Tree.{any_lasts, IsByStart, IsGreatest, IsTree,
 
 use crate::chunk::Chunk;
 use crate::query::Query;
-use crate::tree::{later, reaches};
+use crate::tree::{greater, reaches};
 use adr_model::Entry;
 use adr_rule::Meter;
 use adr_time::End;
@@ -100,7 +100,7 @@ fn greatest_of_chunks(chunks: &[Chunk]) -> Option<End>
 {
     let mut greatest = None;
     for chunk in chunks {
-        greatest = later(greatest, chunk.end);
+        greatest = greater(greatest, chunk.end);
     }
     greatest
 }
@@ -153,6 +153,6 @@ pub(crate) fn rebuild_chunks(
     let left_greatest = rebuild_chunks(levels - 1, from.min(middle), to.min(middle), left, front);
     let (from, to) = (from.saturating_sub(middle), to.saturating_sub(middle));
     let right_greatest = rebuild_chunks(levels - 1, from, to, right, back);
-    here[0] = later(left_greatest, right_greatest);
+    here[0] = greater(left_greatest, right_greatest);
     here[0]
 }

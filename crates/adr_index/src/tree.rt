@@ -3,7 +3,7 @@
 ghost use Rattle.std.specs.Prelude.{◌≡◌, ◌+◌, ◌*◌, ◌<◌, ◌≤◌, ◌^◌, ◌++◌, IfOk, OnOk, length};
 ghost use Rattle.adr_index.specs.Index.{digits as digits_of};
 ghost use Rattle.adr_index.specs.Query.{any_late, hits, if_hit, looks};
-ghost use Rattle.adr_index.specs.Tree.{any_lasts, comes_after, end_max, later_end, only, own_end as end_of, IsByStart, HasTree, IsGreatest, IsTree};
+ghost use Rattle.adr_index.specs.Tree.{any_lasts, comes_after, greater_end, only, own_end as end_of, IsByStart, HasTree, IsGreatest, IsTree};
 
 use crate::query::{Query, is_hit, is_late};
 use adr_model::Entry;
@@ -125,25 +125,12 @@ pub(crate) fn search(
     search(levels - 1, right, back, query, found, meter)
 }
 
-/// The later of two ends.
-fn later_of(first: End, second: End) -> End
-    ensures { result ≡ end_max first second }
-{
-    let End::At(one) = first else {
-        return first;
-    };
-    let End::At(other) = second else {
-        return second;
-    };
-    if one < other { second } else { first }
-}
-
 /// The later of two ends, where there is one.
-pub(crate) fn later(first: Option<End>, second: Option<End>) -> Option<End>
-    ensures { result ≡ later_end first second }
+pub(crate) fn greater(first: Option<End>, second: Option<End>) -> Option<End>
+    ensures { result ≡ greater_end first second }
 {
     match (first, second) {
-        (Some(one), Some(other)) => Some(later_of(one, other)),
+        (Some(one), Some(other)) => Some(one.later(other)),
         (None, _) => second,
         (_, None) => first,
     }
@@ -153,7 +140,7 @@ pub(crate) fn later(first: Option<End>, second: Option<End>) -> Option<End>
 fn own_end(entry: &Entry) -> Option<End>
     ensures { result ≡ end_of entry.now }
 {
-    if entry.span.start.is_before(entry.span.end) {
+    if entry.span.lasts() {
         Some(entry.span.end)
     } else {
         None
@@ -166,7 +153,7 @@ fn greatest_of(entries: &[Entry]) -> Option<End>
 {
     let mut greatest = None;
     for entry in entries {
-        greatest = later(greatest, own_end(entry));
+        greatest = greater(greatest, own_end(entry));
     }
     greatest
 }
@@ -192,6 +179,6 @@ pub(crate) fn rebuild(levels: u32, entries: &[Entry], greatest: &mut [Option<End
     let (here, back) = back.split_at_mut(1);
     let left_greatest = rebuild(levels - 1, left, front);
     let right_greatest = rebuild(levels - 1, right, back);
-    here[0] = later(left_greatest, right_greatest);
+    here[0] = greater(left_greatest, right_greatest);
     here[0]
 }

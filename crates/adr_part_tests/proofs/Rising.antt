@@ -12,7 +12,7 @@ rising_more n (x ∷ xs) e r h = (r.0, rising_more (suc n) xs e r.1 (omega (arit
 not_it : (w p : ℕ) (e : Entry) → w < e.rank.written → is_entry w p e ≡ false
 not_it w p e lt = grind (arith, nat_tests)
 
-not_it_yet : (w p : ℕ) (e : Entry) → e.rank.written < w → is_entry w p e ≡ false
+pub not_it_yet : (w p : ℕ) (e : Entry) → e.rank.written < w → is_entry w p e ≡ false
 not_it_yet w p e lt = grind (arith, nat_tests)
 
 none_earlier : (n w p : ℕ) (es : List Entry) → w < n → AreRising n es → filter (is_entry w p) es ≡ []

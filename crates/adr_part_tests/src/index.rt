@@ -3,6 +3,7 @@ ghost use Rattle.std.specs.Prelude.{◌≡◌, length, IfOk};
 ghost use Rattle.adr_part_tests.specs.Numbers.{AreRising};
 
 use crate::moments::at;
+use crate::random::next;
 use crate::spans::{endless, entry, span, tell_span};
 use adr_index::{Entry, Index};
 use adr_rule::Meter;
@@ -225,14 +226,6 @@ fn few_of_many_entries_are_looked_at(rt: HostRuntime) -> Result<(), Fail> {
     drop(index);
     assert!(rt; looks?);
     Ok(())
-}
-
-/// The next of some numbers that look random.
-fn next(seed: &mut u64) -> u64 {
-    *seed = seed
-        .wrapping_mul(6_364_136_223_846_793_005)
-        .wrapping_add(1_442_695_040_888_963_407);
-    *seed >> 33
 }
 
 fn comes_before(first: &Entry, second: &Entry) -> bool {

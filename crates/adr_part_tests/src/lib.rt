@@ -4,6 +4,8 @@
 #[cfg(test)]
 mod decimals;
 #[cfg(test)]
+mod exchanges;
+#[cfg(test)]
 mod faults;
 #[cfg(test)]
 mod index;
@@ -14,7 +16,11 @@ mod moments;
 #[cfg(test)]
 mod payloads;
 #[cfg(test)]
+mod random;
+#[cfg(test)]
 mod ranks;
+#[cfg(test)]
+mod repairs;
 #[cfg(test)]
 mod rows;
 #[cfg(test)]

@@ -20,9 +20,9 @@ use Rattle.adr_timeline.specs.Windows.{any_covers, are_apart}
 use Rattle.adr_timeline.proofs.Segments.{winner_in, EndsBy, IsLinked}
 use Rattle.adr_timeline.proofs.Shown.{IsBehind}
 use Rattle.adr_timeline.proofs.Words.{shows_is, linked_canonical}
-use Rattle.adr_timeline.proofs.Pieces.{or_else, behind_le, joined_all_is, behind_joined_all, part_shows, ordered_part, behind_part, ready_part}
+use Rattle.adr_timeline.proofs.Pieces.{or_else, behind_le, joined_all_is, behind_joined_all, part_shows, ordered_part, behind_part, ready_part, or_none}
 use Rattle.adr_timeline.proofs.Stepped.{pieces_show, pieces_spread, winner_meeting}
-use Rattle.adr_timeline.proofs.Spliced.{AreFrom, apart_parts}
+use Rattle.adr_timeline.proofs.Spliced.{AreFrom, apart_parts, lasts_le}
 use Rattle.adr_timeline.proofs.Least.{winner_rank}
 
 -- the list ends where the first of the windows begins, or before
@@ -56,9 +56,6 @@ behind_none (s ∷ ss) u t b h = rw (over_by s.start s.end u t b.0 h) (behind_no
 starts_le : (u a : ℤ) → (if int_lt a u then false else true) ≡ true → u ≤ℤ a
 starts_le u a h = grind (arith, ints)
 
-lasts_le : (a u : ℤ) → int_lt a u ≡ true → a ≤ℤ u
-lasts_le a u h = grind (arith, ints)
-
 -- the list with a window's part ends where the next one begins, or before
 ready_next : (a : ℤ) (e : End) (out ss : List Segment) (ws : List Span) → is_before a e ≡ true → IsBehind out (At a) → AreFrom (Some e) ws → IsReadyFor (joined_all out (part (Some a) e ss)) ws
 ready_next a e out ss [] n b f = tt
@@ -74,10 +71,6 @@ one_window : (m c : Bool) (win shown inside out : Option Winner) → (if c then 
 one_window true true win shown inside out s i n = refl
 one_window true false win shown inside out s i n = refl
 one_window false true win shown inside out s i n = i ∙ (rw (s, n refl) (or_none win))
-  where
-    or_none : (o : Option Winner) → or_else o None ≡ o
-    or_none None = refl
-    or_none (Some w) = refl
 one_window false false win shown inside out s i n = i
 
 module _ (es : List Entry) (all : List Span) (w : Span) (ws : List Span) (old new : List Segment) where

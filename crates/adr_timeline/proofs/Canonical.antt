@@ -17,7 +17,7 @@ use Rattle.adr_timeline.proofs.Segments.{winner_in, EndsBy, IsApart, IsLinked}
 use Rattle.adr_timeline.specs.Open.{change_at, open_in, winner_at_open}
 use Rattle.adr_model.specs.Answer.{IsUntil}
 use Rattle.adr_model.specs.Timeline.{shows, CanonicalIsUnique}
-use Rattle.adr_timeline.proofs.Words.{shows_is, canonical_linked}
+use Rattle.adr_timeline.proofs.Words.{shows_is, canonical_linked, and_true}
 
 -- the first instant after t where a segment starts or ends
 abbrev pub change_after : List Segment → ℤ → End
@@ -210,10 +210,6 @@ canonical_unique (s ∷ ss) (r ∷ rs) c d h =
 -- what follows the first segment that has not ended says it all
 open_covered : (a : ℤ) (e : End) (t : ℤ) → is_before t e ≡ true → (int_le a t && is_before t e) ≡ int_le a t
 open_covered a e t h = rw h (and_true (int_le a t))
-  where
-    and_true : (x : Bool) → (x && true) ≡ x
-    and_true true = refl
-    and_true false = refl
 
 ended_covered : (a : ℤ) (e : End) (t : ℤ) → is_before t e ≡ false → (int_le a t && is_before t e) ≡ false
 ended_covered a e t h = rw h (and_false (int_le a t))

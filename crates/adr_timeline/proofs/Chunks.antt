@@ -6,11 +6,11 @@ use Rattle.std.proofs.lemmas.List.{append_assoc, append-nil}
 use Rattle.std.proofs.lemmas.Bool.{false≢true, and_parts, false_from_ne_true}
 use Rattle.adr_time.specs.declared.span.End.{End}
 use Rattle.adr_time.specs.declared.span.End.TheVariants.{At, Endless}
-use Rattle.adr_time.specs.Spans.{is_before}
+use Rattle.adr_time.specs.Spans.{earlier_end, is_before}
 use Rattle.adr_model.specs.declared.timeline.Segment.{Segment}
 use Rattle.adr_model.specs.declared.timeline.Winner.{Winner}
 use Rattle.adr_model.specs.Timeline.{IsCanonical}
-use Rattle.adr_timeline.specs.Parts.{start_from, earlier, trimmed, put, part, leads_to, joined, joined_all}
+use Rattle.adr_timeline.specs.Parts.{start_from, trimmed, put, part, leads_to, joined, joined_all}
 use Rattle.adr_timeline.specs.Chunks.{listed, AreFilled, first_of, last_of, goes_on, is_from, is_over_by, is_within, starts_late}
 use Rattle.adr_timeline.proofs.Segments.{EndsBy, IsApart, IsLinked}
 use Rattle.adr_timeline.proofs.Shown.{leads_same}
@@ -197,7 +197,7 @@ abbrev pub is_over : End → End → Bool
 is_over e Endless = true
 is_over e (At t) = not (is_before t e)
 
-end_kept : (until e : End) → is_over e until ≡ true → earlier until e ≡ e
+end_kept : (until e : End) → is_over e until ≡ true → earlier_end until e ≡ e
 end_kept Endless e h = refl
 end_kept (At u) Endless h = absurd (false≢true h)
 end_kept (At u) (At v) h = ap At (kept u v h)
@@ -254,7 +254,7 @@ put_kept p ps h = rw h refl
 inside : (from : Option ℤ) (until : End) (ss : List Segment) → IsLinked ss → IsFromFirst from ss → is_over_by ss until ≡ true → part from until ss ≡ ss
 inside from until [] l f o = refl
 inside from until (s ∷ ss) l f o =
-    let same : trimmed from until s ≡ s = segment_ext (start_from from s.start) s.start (earlier until s.end) s.end s.winner (start_kept from s.start f) (end_kept until s.end (over_first until s ss l o)) in
+    let same : trimmed from until s ≡ s = segment_ext (start_from from s.start) s.start (earlier_end until s.end) s.end s.winner (start_kept from s.start f) (end_kept until s.end (over_first until s ss l o)) in
     ap (λ (p : Segment). put p (part from until ss)) same
     ∙ (put_kept s (part from until ss) l.0 ∙ ap (λ (xs : List Segment). s ∷ xs) (inside from until ss l.2 (from_rest from s ss l f) (over_more until s ss o)))
 
@@ -265,7 +265,7 @@ part_within from until (s ∷ ss) k h =
     inside from until (s ∷ ss) (canonical_linked (s ∷ ss) k) parts.0 parts.1
 
 -- nothing is left of a segment that starts after the end
-late_gone : (from : Option ℤ) (a : ℤ) (until e : End) → not (is_before a until) ≡ true → is_before (start_from from a) (earlier until e) ≡ false
+late_gone : (from : Option ℤ) (a : ℤ) (until e : End) → not (is_before a until) ≡ true → is_before (start_from from a) (earlier_end until e) ≡ false
 late_gone None a (At u) (At v) h = grind (arith, ints)
 late_gone None a (At u) Endless h = grind (arith, ints)
 late_gone (Some b) a (At u) (At v) h = grind (arith, ints)

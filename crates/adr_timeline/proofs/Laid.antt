@@ -5,7 +5,7 @@ use Rattle.std.specs.Int.{int_max, int_min}
 use Rattle.std.proofs.lemmas.Int.{ints}
 use Rattle.std.proofs.lemmas.Bool.{false≢true, and_parts, cases_Bool}
 use Rattle.std.proofs.lemmas.List.{append_assoc, drop_more}
-use Rattle.adr_time.specs.Spans.{covers, is_before, meets}
+use Rattle.adr_time.specs.Spans.{covers, earlier_end, is_before, later_end, meets, spanned}
 use Rattle.adr_time.specs.declared.span.End.{End}
 use Rattle.adr_time.specs.declared.span.End.TheVariants.{At, Endless}
 use Rattle.adr_time.specs.declared.span.Span.{Span}
@@ -16,9 +16,9 @@ use Rattle.adr_model.specs.declared.timeline.Segment.{Segment}
 use Rattle.adr_model.specs.Governor.{winner_at}
 use Rattle.adr_model.specs.Timeline.{shows, span_of, IsCanonical}
 use Rattle.adr_timeline.specs.declared.step.Step.{Step}
-use Rattle.adr_timeline.specs.Parts.{part, joined, joined_all, earlier, leads_to, trimmed}
+use Rattle.adr_timeline.specs.Parts.{part, joined, joined_all, leads_to, trimmed}
 use Rattle.adr_timeline.specs.Chunks.{listed}
-use Rattle.adr_timeline.specs.Overlay.{hull_with, hull, later_end, most_laid, most_merged, segments_in, shown_entry, spanned}
+use Rattle.adr_timeline.specs.Overlay.{hull_with, hull, most_laid, most_merged, segments_in, shown_entry}
 use Rattle.adr_timeline.specs.Steps.{Adds, IsInOrder, IsMergeOf, is_run, starts_from, steps_of, steps_in_turn, lesser, pieces, rank_at, rank_from, winner_of_rank}
 use Rattle.adr_timeline.proofs.Canonical.{none_before, starts_end, after_endless, canonical_is_unique}
 use Rattle.adr_timeline.proofs.Pieces.{clip_made, clipped_as}
@@ -208,7 +208,7 @@ length_joined_all : (ps out : List Segment) → length (joined_all out ps) ≤ l
 length_joined_all [] out = omega arith
 length_joined_all (p ∷ ps) out = omega (arith, length_joined out p, length_joined_all ps (joined out p))
 
-trimmed_meets : (a b : ℤ) (e f : End) → is_before (int_max a b) (earlier e f) ≡ true → (is_before b f && is_before a e && is_before b e && is_before a f) ≡ true
+trimmed_meets : (a b : ℤ) (e f : End) → is_before (int_max a b) (earlier_end e f) ≡ true → (is_before b f && is_before a e && is_before b e && is_before a f) ≡ true
 trimmed_meets a b (At u) (At v) h = grind (arith, ints)
 trimmed_meets a b (At u) Endless h = grind (arith, ints)
 trimmed_meets a b Endless (At v) h = grind (arith, ints)

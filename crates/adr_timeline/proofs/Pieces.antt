@@ -8,10 +8,10 @@ use Rattle.adr_time.specs.declared.span.End.TheVariants.{At, Endless}
 use Rattle.adr_time.specs.declared.span.Span.{Span}
 use Rattle.adr_model.specs.declared.timeline.Segment.{Segment}
 use Rattle.adr_model.specs.declared.timeline.Winner.{Winner}
-use Rattle.adr_time.specs.Spans.{covers, is_before}
+use Rattle.adr_time.specs.Spans.{covers, earlier_end, is_before}
 use Rattle.adr_model.specs.Timeline.{span_of}
 use Rattle.adr_timeline.proofs.Segments.{winner_in, EndsBy, IsLinked}
-use Rattle.adr_timeline.specs.Parts.{start_from, earlier, trimmed, put, part, after, after_end, leads_to, joined, joined_part, joined_all}
+use Rattle.adr_timeline.specs.Parts.{start_from, trimmed, put, part, after, after_end, leads_to, joined, joined_part, joined_all}
 use Rattle.adr_model.specs.Timeline.{shows, IsCanonical}
 use Rattle.adr_timeline.proofs.Words.{shows_is, canonical_linked, linked_canonical}
 use Rattle.adr_timeline.proofs.Shown.{IsBehind, shows_joined, canonical_joined, behind_joined}
@@ -126,7 +126,7 @@ behind_joined_all (p ∷ ps) out t b h = behind_joined_all ps (joined out p) t (
 
 -- ---- parts
 
-trimmed_covers : (from : Option ℤ) (until : End) (a : ℤ) (e : End) (t : ℤ) → (int_le (start_from from a) t && is_before t (earlier until e)) ≡ ((is_from from t && is_before t until) && (int_le a t && is_before t e))
+trimmed_covers : (from : Option ℤ) (until : End) (a : ℤ) (e : End) (t : ℤ) → (int_le (start_from from a) t && is_before t (earlier_end until e)) ≡ ((is_from from t && is_before t until) && (int_le a t && is_before t e))
 trimmed_covers None (At u) a (At v) t = grind (arith, ints)
 trimmed_covers None (At u) a Endless t = grind (arith, ints)
 trimmed_covers None Endless a (At v) t = grind (arith, ints)
@@ -151,7 +151,7 @@ both_tests : (x y : Bool) (a b : Option Winner) → (if x && y then a else (if x
 both_tests true y a b = refl
 both_tests false y a b = refl
 
-none_there : (x : Bool) → ◌≡◌ {A = Option Winner} None (if x then None else None)
+pub none_there : (x : Bool) → ◌≡◌ {A = Option Winner} None (if x then None else None)
 none_there true = refl
 none_there false = refl
 
@@ -165,7 +165,7 @@ start_le : (from : Option ℤ) (a : ℤ) → a ≤ℤ start_from from a
 start_le None a = omega (arith, ints)
 start_le (Some b) a = grind (arith, ints)
 
-end_le : (until e : End) (t : ℤ) → EndsBy e t → EndsBy (earlier until e) t
+end_le : (until e : End) (t : ℤ) → EndsBy e t → EndsBy (earlier_end until e) t
 end_le (At u) (At v) t h = grind (arith, ints)
 end_le Endless e t h = h
 end_le until Endless t h = absurd h
@@ -179,7 +179,7 @@ starts_part from until (s ∷ ss) e o a = put_both (trimmed from until s) (part 
     (λ _. ends_le e s.start (start_from from s.start) a (start_le from s.start))
     (starts_part from until ss e o.2 (after_through s ss e a o.0 o.1))
 
-after_sooner : (until e : End) (ps : List Segment) → StartsAfter e ps → StartsAfter (earlier until e) ps
+after_sooner : (until e : End) (ps : List Segment) → StartsAfter e ps → StartsAfter (earlier_end until e) ps
 after_sooner until e [] h = tt
 after_sooner until e (r ∷ rs) h = end_le until e r.start h
 
@@ -189,7 +189,7 @@ ordered_part from until (s ∷ ss) o = put_both (trimmed from until s) (part fro
     (λ n. (n, after_sooner until s.end (part from until ss) (starts_part from until ss s.end o.2 o.1), ordered_part from until ss o.2))
     (ordered_part from until ss o.2)
 
-end_within : (u : ℤ) (e : End) → EndsBy (earlier (At u) e) u
+end_within : (u : ℤ) (e : End) → EndsBy (earlier_end (At u) e) u
 end_within u (At v) = grind (arith, ints)
 end_within u Endless = let r : u ≤ℤ u = omega (arith, ints) in r
 
@@ -253,7 +253,7 @@ ended_case x true true p i o h k = rw (h, k) (or_none i)
 ended_case x true false p i o h k = rw (h, k) (or_none o)
 ended_case x false z p i o h k = rw (h, k)
 
-not_yet : (a t : ℤ) → int_lt t a ≡ not (int_le a t)
+pub not_yet : (a t : ℤ) → int_lt t a ≡ not (int_le a t)
 not_yet a t = grind (arith, ints)
 
 over : (a e b t : ℤ) → b ≡ int_max e a → int_le b t ≡ (int_le a t && not (int_lt t e))

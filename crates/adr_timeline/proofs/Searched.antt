@@ -6,11 +6,11 @@ use Rattle.std.proofs.lemmas.Bool.{false≢true}
 use Rattle.std.proofs.lemmas.List.{append_assoc, take-append-drop}
 use Rattle.adr_time.specs.declared.span.End.{End}
 use Rattle.adr_time.specs.declared.span.End.TheVariants.{At, Endless}
-use Rattle.adr_time.specs.Spans.{is_before}
+use Rattle.adr_time.specs.Spans.{earlier_end, is_before}
 use Rattle.adr_model.specs.declared.timeline.Segment.{Segment}
 use Rattle.adr_model.specs.Timeline.{shows, IsCanonical}
 use Rattle.adr_model.specs.Answer.{IsUntil}
-use Rattle.adr_timeline.specs.Parts.{start_from, earlier, part, joined_all}
+use Rattle.adr_timeline.specs.Parts.{start_from, part, joined_all}
 use Rattle.adr_timeline.specs.Chunks.{listed, AreFilled, lasts_past, is_over_by, is_past, starts_late, open_chunks, chunks_from}
 use Rattle.adr_timeline.specs.Open.{change_at, open_in, open_in_first, winner_at_open}
 use Rattle.adr_timeline.proofs.Segments.{IsLinked}
@@ -93,7 +93,7 @@ from_canonical None cs k = k
 from_canonical (Some t) cs k = open_canonical t cs k
 
 -- what ends by the bound has no part from there on
-ended_gone : (f a : ℤ) (until e : End) → is_over e (At f) ≡ true → is_before (start_from (Some f) a) (earlier until e) ≡ false
+ended_gone : (f a : ℤ) (until e : End) → is_over e (At f) ≡ true → is_before (start_from (Some f) a) (earlier_end until e) ≡ false
 ended_gone f a (At u) (At v) h = grind (arith, ints)
 ended_gone f a Endless (At v) h = grind (arith, ints)
 ended_gone f a until Endless h = absurd (false≢true h)

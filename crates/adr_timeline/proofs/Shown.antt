@@ -8,10 +8,10 @@ use Rattle.adr_time.specs.declared.span.End.{End}
 use Rattle.adr_time.specs.declared.span.End.TheVariants.{At, Endless}
 use Rattle.adr_model.specs.declared.timeline.Segment.{Segment}
 use Rattle.adr_model.specs.declared.timeline.Winner.{Winner}
-use Rattle.adr_time.specs.Spans.{covers, is_before}
+use Rattle.adr_time.specs.Spans.{covers, ends_at, is_before}
 use Rattle.adr_model.specs.Timeline.{span_of}
 use Rattle.adr_timeline.proofs.Segments.{winner_in, EndsBy, IsApart, IsLinked}
-use Rattle.adr_timeline.specs.Parts.{ends_at, same_winner, leads_to, joined}
+use Rattle.adr_timeline.specs.Parts.{same_winner, leads_to, joined}
 
 -- each segment ends at or before the end
 abbrev pub IsBehind : List Segment → End → Type 0

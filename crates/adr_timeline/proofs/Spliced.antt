@@ -13,8 +13,8 @@ use Rattle.adr_timeline.specs.Parts.{part, part_after, joined_all, spliced_all}
 use Rattle.adr_timeline.specs.Windows.{any_covers, are_apart, is_followed_by}
 use Rattle.adr_timeline.proofs.Segments.{winner_in, IsLinked}
 use Rattle.adr_timeline.proofs.Shown.{IsBehind}
-use Rattle.adr_timeline.proofs.Words.{shows_is, canonical_linked, linked_canonical}
-use Rattle.adr_timeline.proofs.Pieces.{IsOrdered, IsReady, or_else, or_none, linked_spread, behind_le, joined_all_is, behind_joined_all, part_shows, ordered_part, behind_part, ready_part, ready_nil}
+use Rattle.adr_timeline.proofs.Words.{shows_is, canonical_linked, linked_canonical, and_true}
+use Rattle.adr_timeline.proofs.Pieces.{IsOrdered, IsReady, or_else, or_none, linked_spread, behind_le, joined_all_is, behind_joined_all, part_shows, ordered_part, behind_part, ready_part, ready_nil, not_yet}
 
 -- the instant is at the end or after it
 abbrev is_after : Option End → ℤ → Bool
@@ -35,10 +35,6 @@ StartsFrom (Some e) w = not (is_before w.start e) ≡ true
 abbrev pub AreFrom : Option End → List Span → Type 0
 AreFrom from [] = Unit {0}
 AreFrom from (w ∷ ws) = StartsFrom from w
-
-none_there : (x : Bool) → ◌≡◌ {A = Option Winner} None (if x then None else None)
-none_there true = refl
-none_there false = refl
 
 le_not : (u t : ℤ) (x : Bool) (a b : Option Winner) → (if int_le u t && x then a else b) ≡ (if not (int_lt t u) && x then a else b)
 le_not u t x a b = grind (arith, ints)
@@ -71,7 +67,7 @@ passed_start None w out s p = rw p tt
 passed_start (Some (At u)) w out s p = behind_le out u w.start p (starts_le u w.start s)
 passed_start (Some Endless) w out s p = absurd (false≢true s)
 
-lasts_le : (a u : ℤ) → int_lt a u ≡ true → a ≤ℤ u
+pub lasts_le : (a u : ℤ) → int_lt a u ≡ true → a ≤ℤ u
 lasts_le a u h = grind (arith, ints)
 
 -- the inner part ends where the window does
@@ -130,17 +126,10 @@ one_window x false false m l i o out f g h n = absurd (false≢true (g refl))
 one_window false true z m l i o out f g h n = absurd (false≢true (f refl))
 one_window false false true m l i o out f g h n = refl
 
-not_yet : (a t : ℤ) → int_lt t a ≡ not (int_le a t)
-not_yet a t = grind (arith, ints)
-
 -- what has the inner list in the windows
 pub record IsRepaired (from : Option End) (out outer inner : List Segment) (ws : List Span) (new : List Segment) : Type 0 where
   pub canonical : IsLinked new
   pub shown : (t : ℤ) → winner_in new t ≡ or_else (if is_after from t then (if any_covers ws t then winner_in inner t else winner_in outer t) else None) (winner_in out t)
-
-and_true : (x : Bool) → (x && true) ≡ x
-and_true true = refl
-and_true false = refl
 
 pub repaired : (from : Option End) (out outer inner : List Segment) (ws : List Span) → IsLinked outer → IsLinked inner → IsLinked out → IsPassed from out → AreFrom from ws → are_apart ws ≡ true → IsRepaired from out outer inner ws (spliced_all from out outer inner ws)
 repaired from out outer inner [] c d l p f a =

@@ -21,8 +21,9 @@ use Rattle.adr_model.specs.Entries.{meeting}
 use Rattle.adr_model.specs.Governor.{winner_at}
 use Rattle.adr_model.specs.Timeline.{shows, IsCanonical}
 use Rattle.adr_timeline.specs.Parts.{part, joined_all}
-use Rattle.adr_timeline.proofs.Pieces.{StartsBy, StartsAfter, IsSpread, clip_made}
+use Rattle.adr_timeline.proofs.Pieces.{StartsBy, StartsAfter, IsSpread, clip_made, none_there}
 use Rattle.adr_timeline.proofs.Least.{lesser_none, rank_cons, rank_append, winner_rank}
+use Rattle.std.proofs.Math.Seq.{take-append_seam, drop-append_seam}
 
 -- ---- one entry
 
@@ -123,12 +124,8 @@ last_some : (x : Bool) (w : Winner) → (if not x && true then Some w else None)
 last_some true w = refl
 last_some false w = refl
 
-last_none : (x : Bool) → ◌≡◌ {A = Option Winner} None (if x then None else None)
-last_none true = refl
-last_none false = refl
-
 shown_last : (a : ℤ) (r : Option Rank) (t : ℤ) → winner_in (piece a Endless r []) t ≡ (if int_lt t a then None else option_map winner_of_rank r)
-shown_last a None t = last_none (int_lt t a)
+shown_last a None t = none_there (int_lt t a)
 shown_last a (Some q) t = rw (le_not a t) (last_some (int_lt t a) (winner_of_rank q))
 
 shown_next : (a b : ℤ) (r n : Option Rank) (rest : List Segment) (t : ℤ) → a ≤ℤ b → winner_in rest t ≡ (if int_lt t b then None else option_map winner_of_rank n) → winner_in (piece a (At b) r rest) t ≡ (if int_lt t a then None else option_map winner_of_rank (if int_lt t b then r else n))
@@ -234,23 +231,11 @@ build_shows es steps new w o r n t =
 
 pub left_part : (before after all o l r front left : List Step) (start middle : ℕ) → after ≡ before ++ l → all ≡ after ++ r → start ≡ length before → middle ≡ length after → o ≡ all → front ≡ take middle o → left ≡ drop start front → left ≡ l
 left_part before after all o l r front left start middle h k s m is f d =
-    let front_is : front ≡ after = f ∙ (rw (m, is, k) (take-length after r)) in
-    d ∙ (rw (s, front_is, h) (drop-length before l))
-  where
-    take-length : (xs ys : List Step) → take (length xs) (xs ++ ys) ≡ xs
-    take-length [] ys = refl
-    take-length (x ∷ xs) ys = ap (λ (zs : List Step). x ∷ zs) (take-length xs ys)
-
-    drop-length : (xs ys : List Step) → drop (length xs) (xs ++ ys) ≡ ys
-    drop-length [] ys = refl
-    drop-length (x ∷ xs) ys = drop-length xs ys
+    let front_is : front ≡ after = f ∙ (rw (m, is, k) (take-append_seam after r)) in
+    d ∙ (rw (s, front_is, h) (drop-append_seam before l))
 
 pub right_part : (after all o r right : List Step) (middle : ℕ) → all ≡ after ++ r → middle ≡ length after → o ≡ all → right ≡ drop middle o → right ≡ r
-right_part after all o r right middle k m is d = d ∙ (rw (m, is, k) (drop-length after r))
-  where
-    drop-length : (xs ys : List Step) → drop (length xs) (xs ++ ys) ≡ ys
-    drop-length [] ys = refl
-    drop-length (x ∷ xs) ys = drop-length xs ys
+right_part after all o r right middle k m is d = d ∙ (rw (m, is, k) (drop-append_seam after r))
 
 -- what both halves give is ranked by all entries
 pub whole_ranked : (front back all : List Entry) (l r steps : List Step) → IsHalved front back all → AreRanked front l → AreRanked back r → IsMergeOf l r steps → AreRanked all steps

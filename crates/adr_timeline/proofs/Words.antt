@@ -1,5 +1,5 @@
 -- What a timeline shows and when it is canonical, part by part.
-use Rattle.std.proofs.Common.{◌≡◌, ◌≢◌, Bool, true, false, cond, zero, suc, List, [], ◌∷◌, Some, IsTrue, All, find, if◌then◌else◌, refl, arith, ap, ℤ}
+use Rattle.std.proofs.Common.{◌≡◌, ◌≢◌, Bool, true, false, cond, ◌&&◌, zero, suc, List, [], ◌∷◌, Some, IsTrue, All, find, if◌then◌else◌, refl, arith, ap, ℤ}
 use Rattle.std.specs.Option.{option_map}
 use Rattle.adr_time.specs.Spans.{covers, is_before}
 use Rattle.adr_time.specs.declared.span.End.{End}
@@ -7,6 +7,10 @@ use Rattle.adr_time.specs.declared.span.End.TheVariants.{At, Endless}
 use Rattle.adr_model.specs.declared.timeline.Segment.{Segment}
 use Rattle.adr_model.specs.Timeline.{span_of, shows, Follows, AllFollow, IsCanonical}
 use Rattle.adr_timeline.proofs.Segments.{winner_in, EndsBy, IsApart, IsLinked}
+
+pub and_true : (x : Bool) → (x && true) ≡ x
+and_true true = refl
+and_true false = refl
 
 pub shows_is : (ss : List Segment) (t : ℤ) → shows ss t ≡ winner_in ss t
 shows_is [] t = refl

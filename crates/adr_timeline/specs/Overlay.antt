@@ -1,10 +1,7 @@
 -- What a new event's entries are laid over, and how much that compares.
 use Rattle.std.specs.Prelude.{ℕ, ◌+◌, ◌*◌, List, [], ◌∷◌, length, filter, Option, Some, None}
-use Rattle.std.specs.Int.{int_max, int_min}
 use Rattle.std.specs.Option.{option_map_or}
-use Rattle.adr_time.specs.Spans.{meets}
-use Rattle.adr_time.specs.declared.span.End.{End}
-use Rattle.adr_time.specs.declared.span.End.TheVariants.{At, Endless}
+use Rattle.adr_time.specs.Spans.{meets, spanned}
 use Rattle.adr_time.specs.declared.span.Span.{Span}
 use Rattle.adr_model.specs.declared.entry.Entry.{Entry}
 use Rattle.adr_model.specs.declared.entry.Rank.{Rank}
@@ -12,22 +9,12 @@ use Rattle.adr_model.specs.declared.timeline.Winner.{Winner}
 use Rattle.adr_model.specs.declared.timeline.Segment.{Segment}
 use Rattle.adr_model.specs.Timeline.{span_of}
 
--- the later of two ends
-abbrev pub later_end : End → End → End
-later_end (At u) (At v) = At (int_max u v)
-later_end (At u) Endless = Endless
-later_end Endless e = Endless
-
--- from the earlier start to the later end
-abbrev pub spanned : Span → Span → Span
-spanned a b = record { start = int_min a.start b.start; end = later_end a.end b.end }
-
--- the same, of a span and the spans of entries
+-- from the earliest start of a span and the spans of entries to their latest end
 abbrev pub hull_with : Span → List Entry → Span
 hull_with span [] = span
 hull_with span (e ∷ es) = hull_with (spanned span e.span) es
 
--- from the earliest start of the entries to their latest end
+-- the same, of the entries alone
 abbrev pub hull : List Entry → Option Span
 hull [] = None
 hull (e ∷ es) = Some (hull_with e.span es)

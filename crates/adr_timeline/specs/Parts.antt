@@ -1,8 +1,7 @@
 -- Parts of lists of segments, and pieces put at the end of a list.
-use Rattle.std.specs.Prelude.{Bool, false, ◌&&◌, ◌==◌, List, [], ◌∷◌, Option, Some, None, if◌then◌else◌, ℤ}
-use Rattle.std.specs.Int.{int_max, int_min}
-use Rattle.std.specs.Ordering.{int_eq}
-use Rattle.adr_time.specs.Spans.{is_before}
+use Rattle.std.specs.Prelude.{Bool, ◌&&◌, ◌==◌, List, [], ◌∷◌, Option, Some, None, if◌then◌else◌, ℤ}
+use Rattle.std.specs.Int.{int_max}
+use Rattle.adr_time.specs.Spans.{earlier_end, ends_at, is_before}
 use Rattle.adr_time.specs.declared.span.End.{End}
 use Rattle.adr_time.specs.declared.span.End.TheVariants.{At, Endless}
 use Rattle.adr_time.specs.declared.span.Span.{Span}
@@ -12,11 +11,6 @@ use Rattle.adr_model.specs.declared.timeline.Segment.{Segment}
 -- the two are one interval
 abbrev pub same_winner : Winner → Winner → Bool
 same_winner a b = (a.written == b.written) && (a.place == b.place)
-
--- the end is that instant
-abbrev pub ends_at : End → ℤ → Bool
-ends_at (At u) t = int_eq u t
-ends_at Endless t = false
 
 -- the piece begins where the segment ends, with the same winner
 abbrev pub leads_to : Segment → Segment → Bool
@@ -46,15 +40,9 @@ abbrev pub start_from : Option ℤ → ℤ → ℤ
 start_from None a = a
 start_from (Some b) a = int_max b a
 
--- the earlier of two ends
-abbrev pub earlier : End → End → End
-earlier (At u) (At v) = At (int_min u v)
-earlier (At u) Endless = At u
-earlier Endless e = e
-
 -- the part of a segment from an instant on and before an end
 abbrev pub trimmed : Option ℤ → End → Segment → Segment
-trimmed from until s = record { start = start_from from s.start; end = earlier until s.end; winner = s.winner }
+trimmed from until s = record { start = start_from from s.start; end = earlier_end until s.end; winner = s.winner }
 
 -- the part of each segment, where there is one
 abbrev pub part : Option ℤ → End → List Segment → List Segment

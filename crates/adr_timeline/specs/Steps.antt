@@ -1,7 +1,7 @@
 -- The least rank from instant to instant.
 use Rattle.std.specs.Prelude.{◌+◌, ◌*◌, ◌≤◌, ◌≡◌, ◌++◌, length, ℤ, ◌≤ℤ◌, int_le, int_lt, ⊤, Bool, true, false, List, [], ◌∷◌, Option, Some, None, if◌then◌else◌, filter, not, ◌&&◌}
 use Rattle.std.specs.Option.{option_map}
-use Rattle.adr_time.specs.Spans.{covers, is_before}
+use Rattle.adr_time.specs.Spans.{covers, is_before, lasts}
 use Rattle.adr_time.specs.declared.span.End.{End}
 use Rattle.adr_time.specs.declared.span.End.TheVariants.{At, Endless}
 use Rattle.adr_model.specs.declared.entry.Entry.{Entry}
@@ -66,7 +66,7 @@ down_at Endless = []
 -- up at the entry's start and down at its end, or none where it covers no instant
 abbrev pub steps_of : Entry → List Step
 steps_of e =
-    if is_before e.span.start e.span.end
+    if lasts e.span
     then record { from = e.span.start; rank = Some e.rank } ∷ down_at e.span.end
     else []
 
@@ -96,7 +96,7 @@ starts_from end (e ∷ es) = not (is_before e.span.start end)
 -- the entries last, and each ends before the next one starts, or where it starts
 abbrev pub is_run : List Entry → Bool
 is_run [] = true
-is_run (e ∷ es) = is_before e.span.start e.span.end && starts_from e.span.end es && is_run es
+is_run (e ∷ es) = lasts e.span && starts_from e.span.end es && is_run es
 
 -- the steps of each entry in turn
 abbrev pub steps_in_turn : List Entry → List Step

@@ -1,7 +1,7 @@
 -- Windows in order.
 use Rattle.std.specs.Prelude.{ℤ, Bool, true, not, ◌&&◌, List, [], ◌∷◌}
 use Rattle.std.specs.List.{list_any, list_all}
-use Rattle.adr_time.specs.Spans.{covers, is_before}
+use Rattle.adr_time.specs.Spans.{covers, is_before, lasts}
 use Rattle.adr_time.specs.declared.span.Span.{Span}
 
 -- some window covers the instant
@@ -16,8 +16,8 @@ is_followed_by w (v ∷ vs) = not (is_before v.start w.end)
 -- the windows last, and each ends before the next one starts, or where it starts
 abbrev pub are_apart : List Span → Bool
 are_apart [] = true
-are_apart (w ∷ ws) = is_before w.start w.end && is_followed_by w ws && are_apart ws
+are_apart (w ∷ ws) = lasts w && is_followed_by w ws && are_apart ws
 
 -- each of the windows lasts some time
 abbrev pub all_last : List Span → Bool
-all_last windows = list_all (λ w. is_before w.start w.end) windows
+all_last windows = list_all lasts windows

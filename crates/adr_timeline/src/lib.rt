@@ -1,7 +1,6 @@
 #![tactic(auto)]
 //! Timelines: which interval governs at each instant, as a list of segments that is canonical at all times.
 
-mod bound;
 mod build;
 mod chunk;
 mod line;

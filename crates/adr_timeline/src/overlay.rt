@@ -3,16 +3,15 @@ ghost use Rattle.std.specs.Prelude.{◌≡◌, ◌+◌, ◌*◌, ◌<◌, ◌≤
 ghost use Rattle.std.specs.Option.{option_map};
 ghost use Rattle.adr_model.specs.Timeline.{shows, IsCanonical};
 ghost use Rattle.adr_timeline.specs.Chunks.{listed};
-ghost use Rattle.adr_timeline.specs.Overlay.{hull, later_end as later_end_of, most_merged, shown_entry, spanned as spanned_by};
+ghost use Rattle.adr_timeline.specs.Overlay.{hull, most_merged, shown_entry};
 ghost use Rattle.adr_timeline.specs.Steps.{IsInOrder, IsMergeOf, lesser, rank_at, rank_from, steps_in_turn};
 
-use crate::bound::later;
 use crate::chunk::Chunk;
 use crate::packed::PackedSegment;
 use crate::step::{Step, add_steps_of, merge, ranked};
 use adr_model::{Entry, Rank, Winner};
 use adr_rule::Meter;
-use adr_time::{End, Span};
+use adr_time::Span;
 use std::alloc::{AllocError, Global};
 
 /// The ranks of winners, by which what a timeline shows competes with new entries.
@@ -32,30 +31,6 @@ pub trait Ranks {
     ghost names: { (ranks : Self) → (winner : Winner) → winner_of_rank (rank ranks winner) ≡ winner };
 }
 
-/// The later of two ends.
-fn later_end(a: End, b: End) -> End
-    ensures { result ≡ later_end_of a b }
-{
-    let End::At(first) = a else {
-        return a;
-    };
-    let End::At(second) = b else {
-        return b;
-    };
-    End::At(later(first, second))
-}
-
-/// From the earlier start to the later end.
-fn spanned(a: &Span, b: &Span) -> Span
-    ensures { result ≡ spanned_by a.now b.now }
-{
-    let start = if b.start < a.start { b.start } else { a.start };
-    Span {
-        start,
-        end: later_end(a.end, b.end),
-    }
-}
-
 /// From the earliest start of the entries to their latest end.
 pub(crate) fn hull_of(entries: &[Entry]) -> Option<Span>
     ensures { result ≡ hull entries.now }
@@ -63,7 +38,7 @@ pub(crate) fn hull_of(entries: &[Entry]) -> Option<Span>
     let (first, rest) = entries.split_first()?;
     let mut window = first.span;
     for entry in rest {
-        window = spanned(&window, &entry.span);
+        window = window.hull(&entry.span);
     }
     Some(window)
 }

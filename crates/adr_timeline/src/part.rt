@@ -3,10 +3,9 @@ ghost use Rattle.std.specs.Prelude.{◌≡◌, OnOk, IfOk, IsTrue, ℤ, if◌the
 ghost use Rattle.adr_time.specs.Spans.{covers};
 ghost use Rattle.adr_model.specs.Timeline.{shows, IsCanonical};
 ghost use Rattle.adr_timeline.specs.Chunks.{listed, AreFilled, chunks_from as from_chunk, is_from as is_start_from, is_over_by as is_ended_by, is_past as is_passed, is_within as lies_within, last_of, starts_late as is_late};
-ghost use Rattle.adr_timeline.specs.Parts.{after, trimmed as part_of, part, part_after, joined_all, spliced_all as repaired};
+ghost use Rattle.adr_timeline.specs.Parts.{after, start_from as bounded_start, trimmed as part_of, part, part_after, joined_all, spliced_all as repaired};
 ghost use Rattle.adr_timeline.specs.Windows.{any_covers, are_apart};
 
-use crate::bound::{earlier, later, start_from};
 use crate::chunk::Chunk;
 use crate::line::Line;
 use crate::packed::PackedSegment;
@@ -18,13 +17,23 @@ use std::alloc::{AllocError, Global};
 /// So few segments are put at the end of a line one by one.
 const FEW: usize = 4;
 
+/// The start, or the bound where that is later.
+fn start_from(bound: &Option<Moment>, start: Moment) -> Moment
+    ensures { result ≡ bounded_start bound.now start }
+{
+    match bound {
+        Some(bound) => bound.later(start),
+        None => start,
+    }
+}
+
 /// The part of a segment from a moment on and before an end, which may be empty.
 pub(crate) fn trimmed(from: &Option<Moment>, until: &End, segment: &Segment) -> Segment
     ensures { result ≡ part_of from.now until.now segment.now }
 {
     Segment {
         start: start_from(from, segment.start),
-        end: earlier(*until, segment.end),
+        end: until.earlier(segment.end),
         winner: segment.winner,
     }
 }
@@ -207,7 +216,7 @@ fn join_after(line: &mut Line, chunks: &[Chunk], window: &Span) -> Result<(), Al
     let End::At(end) = window.end else {
         return Ok(());
     };
-    let from = Some(later(end, window.start));
+    let from = Some(end.later(window.start));
     join_part(line, chunks, &from, &End::Endless)
 }
 

@@ -2,7 +2,6 @@
 ghost use Rattle.std.specs.Prelude.{◌≡◌, ◌++◌, ◌∷◌, [], OnOk};
 ghost use Rattle.adr_timeline.specs.Parts.{joined, leads_to as goes_on};
 
-use crate::bound::ends_at;
 use crate::packed::PackedSegment;
 use std::alloc::AllocError;
 
@@ -12,7 +11,7 @@ pub(crate) fn leads_to(segment: &PackedSegment, piece: &PackedSegment) -> bool
 {
     let winner = segment.winner();
     let other = piece.winner();
-    ends_at(segment.end(), piece.start())
+    segment.end().is_at(piece.start())
         && winner.written == other.written
         && winner.place == other.place
 }

@@ -89,7 +89,7 @@ pub(crate) fn merge(
 pub(crate) fn add_steps_of(steps: &mut Vec<Step>, entry: &Entry) -> Result<(), AllocError>
     ensures { OnOk result (steps.new.items ≡ steps.old.items ++ steps_of entry.now) }
 {
-    if !entry.span.start.is_before(entry.span.end) {
+    if !entry.span.lasts() {
         return Ok(());
     }
     steps.push(Step {
@@ -121,7 +121,7 @@ pub(crate) fn is_run(entries: &[Entry]) -> bool
 {
     let mut entries = entries;
     while let Some((entry, later)) = entries.split_first() {
-        if !entry.span.start.is_before(entry.span.end) || !starts_from(entry.span.end, later) {
+        if !entry.span.lasts() || !starts_from(entry.span.end, later) {
             return false;
         }
         entries = later;

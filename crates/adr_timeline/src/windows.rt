@@ -1,5 +1,5 @@
 //! Windows in order.
-ghost use Rattle.std.specs.Prelude.{◌≡◌, ◌<◌, ◌≤◌, IsTrue, length, take};
+ghost use Rattle.std.specs.Prelude.{◌≡◌, ◌+◌, ◌<◌, ◌≤◌, IsTrue, false, length, take};
 ghost use Rattle.adr_timeline.specs.Windows.{all_last, are_apart as is_each_apart, is_followed_by as is_followed};
 
 use adr_time::Span;
@@ -20,7 +20,7 @@ pub fn are_apart(windows: &[Span]) -> bool
 {
     let mut windows = windows;
     while let Some((window, later)) = windows.split_first() {
-        if !window.start.is_before(window.end) || !is_followed_by(window, later) {
+        if !window.lasts() || !is_followed_by(window, later) {
             return false;
         }
         windows = later;
@@ -32,12 +32,13 @@ pub fn are_apart(windows: &[Span]) -> bool
 pub fn first_run(windows: &[Span]) -> usize
     ensures within { result ≤ length windows.now }
     ensures apart { IsTrue (is_each_apart (take result windows.now)) }
+    ensures longest { result < length windows.now → is_each_apart (take (result + 1) windows.now) ≡ false }
     ensures some { IsTrue (all_last windows.now) → 0 < length windows.now → 0 < result }
 {
     let mut count = 0;
     let mut rest = windows;
     while let Some((window, later)) = rest.split_first() {
-        if !window.start.is_before(window.end) {
+        if !window.lasts() {
             return count;
         }
         count += 1;

@@ -1,4 +1,4 @@
-use Rattle.std.proofs.Common.{rules, arith, ◌≡◌, false, length, ◌+◌}
+use Rattle.std.proofs.Common.{rules, arith, ◌≡◌, false}
 use Rattle.std.specs.List.{list_any}
 use Rattle.std.proofs.lemmas.Grind.{common_steps}
 use Rattle.adr_index.specs.Index.{inserted, is_entry}

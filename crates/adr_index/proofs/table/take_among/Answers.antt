@@ -1,4 +1,4 @@
-use Rattle.std.proofs.Common.{rules, ◌≡◌, ◌+◌, ◌<◌, length, take, get_or, slice_set, arith, sym, ◌∙◌, ap, refl, subst}
+use Rattle.std.proofs.Common.{rules, ◌≡◌, ◌<◌, length, take, get_or, slice_set, arith, sym, ◌∙◌, ap, refl, subst}
 use Rattle.std.proofs.lemmas.List.{get_or_read}
 use Rattle.adr_index.specs.declared.chunk.Chunk.{Chunk}
 use Rattle.std.specs.List.{remove}

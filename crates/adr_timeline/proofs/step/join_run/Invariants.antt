@@ -1,4 +1,4 @@
-use Rattle.std.proofs.Common.{◌≡◌, Some, drop, map}
+use Rattle.std.proofs.Common.{◌≡◌, drop, map}
 use Rattle.adr_timeline.specs.Parts.{part, joined_all}
 use Rattle.adr_timeline.specs.Steps.{own_segment}
 use Rattle.adr_timeline.proofs.step.join_run.Given as goal
