@@ -13,7 +13,7 @@ ghost use Rattle.adr_store.specs.Numbers.{by_number};
 
 use crate::base::Base;
 use crate::journal::Journal;
-use crate::judging::judge_on;
+use crate::judging::{Judged, judge_on, judged_on};
 use adr_object::{Edit, Event, Id, Kind, Program, Resource, Ven};
 use adr_store::{Shared, Store};
 use adr_value::Refusal;
@@ -288,5 +288,14 @@ impl Book {
 pub fn judge(book: &Book, edit: &Edit) -> Result<(), Refusal>
     ensures { Answers (result_map (λ _. made book.now.objects edit.now) result) (step_to (full_at book.now.base.version) book.now.objects edit.now) }
 {
-    judge_on(book.alloc, &book.objects, book.base.full_at(), edit)
+    let _layout = judge_on(book.alloc, &book.objects, book.base.full_at(), edit)?;
+    Ok(())
+}
+
+/// The edit where the book accepts it, with the layout that judging it computed; else what `judge` answers.
+pub fn judged(book: &Book, edit: Edit) -> Result<Judged, Refusal>
+    ensures answer { Answers (result_map (λ _. made book.now.objects edit) result) (step_to (full_at book.now.base.version) book.now.objects edit) }
+    ensures edit { IfOk result (λ judged. judged ≡ edit) }
+{
+    judged_on(book.alloc, &book.objects, book.base.full_at(), edit)
 }

@@ -1,18 +1,65 @@
 //! Whether an edit is accepted.
-ghost use Rattle.std.specs.Prelude.{◌≡◌, ◌||◌, nat_le, not, is_some, List};
+ghost use Rattle.std.specs.Prelude.{◌≡◌, ◌||◌, nat_le, not, is_some, List, IfOk};
 ghost use Rattle.adr_value.specs.Answer.{Answers, result_map};
 ghost use Rattle.adr_value.specs.declared.refusal.Refusal.{Refusal as Refused};
 ghost use Rattle.adr_value.specs.Faults.{Gives};
 ghost use Rattle.adr_object.specs.Object.{kind_of, id_of};
 ghost use Rattle.adr_object.specs.declared.object.Edit.TheVariants.{Create, Change, Remove};
 ghost use Rattle.adr_model.specs.Edits.{fault_if, layout_faults, reference_faults, is_full_for, is_named, most_objects, has_too_many_entries, has_id, faults_to, made, step_to};
+ghost use Rattle.adr_book.specs.Judged.{layout_faults_of, placed_by, placed_of, verdict_of};
 
-use adr_layout::lay_out;
+use adr_layout::{Placed, lay_out};
 use adr_object::{Edit, Id, Kind, Object};
 use adr_store::{Store, entry_count};
 use adr_value::limits::{MOST_ENTRIES, MOST_EVENTS, MOST_PROGRAMS, MOST_RESOURCES, MOST_VENS};
 use adr_value::{Refusal, both};
 use std::alloc::Global;
+use std::marker::Model;
+
+/// An edit that a book accepted, with the layout that judging it computed: where the intervals of the event that it
+/// writes lie. Contracts see the edit.
+pub struct Judged {
+    edit: Edit,
+    layout: Vec<Placed>,
+}
+
+// A function of its own, so that callers that let a value go need not look into it.
+impl Drop for Judged {
+    fn drop(self) {
+        let Judged { edit, layout } = self;
+        drop(edit);
+        drop(layout);
+    }
+}
+
+impl Model for Judged {
+    ghost use Rattle.std.specs.Prelude.{◌≡◌};
+    ghost use Rattle.adr_object.specs.declared.object.Edit.{Edit as OneEdit};
+    ghost use Rattle.adr_book.specs.Judged.{placed_by};
+
+    ghost Value = { OneEdit };
+
+    ghost view = { λ j. j.edit };
+
+    // The layout is that of the edit's event.
+    ghost invariant = { λ j. j.layout.items ≡ placed_by j.edit };
+}
+
+impl Judged {
+    /// The edit.
+    pub fn edit(&self) -> &Edit
+        ensures { result.now ≡ self.now }
+    {
+        &self.edit
+    }
+
+    /// Where the intervals of the event that it writes lie; nowhere where it writes none.
+    pub fn layout(&self) -> &[Placed]
+        ensures { result.now ≡ placed_by self.now }
+    {
+        self.layout.as_slice()
+    }
+}
 
 fn fault_if(test: bool, refusal: Refusal) -> Result<(), Refusal>
     ensures { Gives result (fault_if test refusal) tt }
@@ -20,17 +67,27 @@ fn fault_if(test: bool, refusal: Refusal) -> Result<(), Refusal>
     if test { Err(refusal) } else { Ok(()) }
 }
 
-/// The fault of a written event's layout.
+/// Where the intervals of a written event lie, or the fault of its layout; nowhere where the object is no event.
 #[tactic(auto, unfolding(adr_model::specs::Layout::layout))]
-fn layout_fault(alloc: Global, object: &Object) -> Result<(), Refusal>
-    ensures { Gives result (layout_faults object.now) tt }
+fn layout_of_written(alloc: Global, object: &Object) -> Result<Vec<Placed>, Refusal>
+    ensures faults { Gives (verdict_of result) (layout_faults object.now) tt }
+    ensures layout { IfOk result (λ layout. layout.items ≡ placed_of object.now) }
 {
-    let Object::Event(event) = object else {
-        return Ok(());
-    };
-    match lay_out(alloc, event.get()) {
-        Ok(_) => Ok(()),
-        Err(refusal) => Err(refusal),
+    match object {
+        Object::Event(event) => lay_out(alloc, event.get()),
+        _ => Ok(Vec::new(alloc)),
+    }
+}
+
+/// Where the intervals of the event that the edit writes lie, or the fault of its layout; nowhere where it writes none.
+fn layout_of(alloc: Global, edit: &Edit) -> Result<Vec<Placed>, Refusal>
+    ensures faults { Gives (verdict_of result) (layout_faults_of edit.now) tt }
+    ensures layout { IfOk result (λ layout. layout.items ≡ placed_by edit.now) }
+{
+    match edit {
+        Edit::Create(object) => layout_of_written(alloc, object),
+        Edit::Change(object) => layout_of_written(alloc, object),
+        Edit::Remove(_, _) => Ok(Vec::new(alloc)),
     }
 }
 
@@ -169,14 +226,14 @@ fn removal_room_fault(objects: &Store, full: u64) -> Result<(), Refusal>
 }
 
 fn least_of_create(
-    alloc: Global,
     objects: &Store,
     full: u64,
     object: &Object,
+    layout: Result<(), Refusal>,
 ) -> Result<(), Refusal>
+    requires { Gives layout (layout_faults object.now) tt }
     ensures { Gives result (faults_to full objects.now (Create object.now)) tt }
 {
-    let layout = layout_fault(alloc, object);
     let id = exists_fault(objects, object);
     let reference = reference_fault(objects, object);
     let room = creation_room_fault(objects, full, object);
@@ -184,14 +241,14 @@ fn least_of_create(
 }
 
 fn least_of_change(
-    alloc: Global,
     objects: &Store,
     full: u64,
     object: &Object,
+    layout: Result<(), Refusal>,
 ) -> Result<(), Refusal>
+    requires { Gives layout (layout_faults object.now) tt }
     ensures { Gives result (faults_to full objects.now (Change object.now)) tt }
 {
-    let layout = layout_fault(alloc, object);
     let id = missing_fault(objects, object);
     let reference = reference_fault(objects, object);
     let room = change_room_fault(objects, full, object);
@@ -207,27 +264,64 @@ fn least_of_removal(objects: &Store, full: u64, kind: Kind, id: &Id) -> Result<(
     whole(both(both(absence, named), room))
 }
 
-/// The least fault of the edit, by the numbers of the faults.
-fn least(alloc: Global, objects: &Store, full: u64, edit: &Edit) -> Result<(), Refusal>
+/// The least fault of the edit, by the numbers of the faults, of which its layout's is known.
+fn least(
+    objects: &Store,
+    full: u64,
+    edit: &Edit,
+    layout: Result<(), Refusal>,
+) -> Result<(), Refusal>
+    requires { Gives layout (layout_faults_of edit.now) tt }
     ensures { Gives result (faults_to full objects.now edit.now) tt }
 {
     match edit {
-        Edit::Create(object) => least_of_create(alloc, objects, full, object),
-        Edit::Change(object) => least_of_change(alloc, objects, full, object),
+        Edit::Create(object) => least_of_create(objects, full, object, layout),
+        Edit::Change(object) => least_of_change(objects, full, object, layout),
         Edit::Remove(kind, id) => least_of_removal(objects, full, *kind, id),
     }
 }
 
-/// Whether the edit is accepted where the book is full at that version, or its least fault.
+/// The layout of the edit's event, where the edit is accepted by a book that is full at that version, or the least of
+/// its faults.
 pub(crate) fn judge_on(
     alloc: Global,
     objects: &Store,
     full: u64,
     edit: &Edit,
-) -> Result<(), Refusal>
-    ensures { Answers (result_map (λ _. made objects.now edit.now) result) (step_to full objects.now edit.now) }
+) -> Result<Vec<Placed>, Refusal>
+    ensures answer { Answers (result_map (λ _. made objects.now edit.now) result) (step_to full objects.now edit.now) }
+    ensures layout { IfOk result (λ layout. layout.items ≡ placed_by edit.now) }
 {
-    least(alloc, objects, full, edit)
+    let layout = layout_of(alloc, edit);
+    match least(objects, full, edit, verdict_of(&layout)) {
+        Ok(()) => layout,
+        Err(refusal) => Err(refusal),
+    }
+}
+
+/// The edit with the layout of its event, where it is accepted by a book that is full at that version, or the least of
+/// its faults.
+pub(crate) fn judged_on(
+    alloc: Global,
+    objects: &Store,
+    full: u64,
+    edit: Edit,
+) -> Result<Judged, Refusal>
+    ensures answer { Answers (result_map (λ _. made objects.now edit) result) (step_to full objects.now edit) }
+    ensures edit { IfOk result (λ judged. judged ≡ edit) }
+{
+    let layout = judge_on(alloc, objects, full, &edit)?;
+    Ok(Judged { edit, layout })
+}
+
+/// The verdict without the layout.
+fn verdict_of(layout: &Result<Vec<Placed>, Refusal>) -> Result<(), Refusal>
+    ensures { result ≡ verdict_of layout.now }
+{
+    match layout {
+        Ok(_) => Ok(()),
+        Err(refusal) => Err(*refusal),
+    }
 }
 
 /// The verdict of several parts, without their values.

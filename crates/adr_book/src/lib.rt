@@ -9,5 +9,6 @@ mod judging;
 pub use adr_shared::SharedList;
 pub use adr_store::Store;
 pub use base::Base;
-pub use book::{Book, judge};
+pub use book::{Book, judge, judged};
 pub use journal::{Batch, Journal};
+pub use judging::Judged;

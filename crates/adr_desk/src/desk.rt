@@ -18,7 +18,7 @@ use crate::empty::without_events;
 use crate::make::{Made, make};
 use crate::receipt::Receipt;
 use adr_audience::Audiences;
-use adr_book::{Book, judge};
+use adr_book::{Book, Judged, judged};
 use adr_bulk::{commit_all, index_all, seat_all};
 use adr_crew::{Gate, NoGate, do_all};
 use adr_group::{Done, Job, do_jobs};
@@ -251,7 +251,7 @@ impl Desk {
     fn make<C: Fn(&Indexes, &[Job]) -> Result<Vec<Done>, Refusal>>(
         &mut self,
         crew: &C,
-        edit: &Edit,
+        edit: &Judged,
     ) -> Result<Receipt, Refusal>
         requires crew { IsCrew (λ v. v.items) (C.pre crew.now) (C.post crew.now) }
         requires accepted { IsOk (step_to (full_at self.old.book.base.version) self.old.book.objects edit.now) }
@@ -362,7 +362,7 @@ impl Desk {
         ensures compares { IfOk result (λ receipt. receipt.compares ≤ most_compared_in self.new.book.objects receipt.touched) }
         ensures unchanged { OnErr result (self.new ≡ self.old) }
     {
-        judge(self.resolution.book(), &edit)?;
+        let edit = judged(self.resolution.book(), edit)?;
         self.make(crew, &edit)
     }
 }

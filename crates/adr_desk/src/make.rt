@@ -16,7 +16,7 @@ use crate::kinds::{is_of_event, is_of_program, is_of_ven};
 use crate::making::after_event;
 use crate::receipt::Touched;
 use adr_audience::Audiences;
-use adr_book::Book;
+use adr_book::{Book, Judged};
 use adr_group::{Done, Job};
 use adr_lines::Indexes;
 use adr_model::{Tie, edit_laws};
@@ -38,7 +38,7 @@ pub(crate) struct Made {
 }
 
 /// The book with the edit made.
-fn committed(book: &Book, edit: &Edit) -> Result<Book, Refusal>
+fn committed(book: &Book, edit: &Judged) -> Result<Book, Refusal>
     requires accepted { IsOk (step_to (full_at book.now.base.version) book.now.objects edit.now) }
     ensures objects { IfOk result (λ after. step_to (full_at book.now.base.version) book.now.objects edit.now ≡ Ok after.objects) }
     ensures pending { IfOk result (λ after. after.pending ≡ book.now.pending ++ edit.now ∷ []) }
@@ -47,7 +47,7 @@ fn committed(book: &Book, edit: &Edit) -> Result<Book, Refusal>
     ensures refusal { OnlyNoMemory result }
 {
     let mut after = book.copy()?;
-    let copy = edit.copy()?;
+    let copy = edit.edit().copy()?;
     let _version = after.commit(copy)?;
     Ok(after)
 }
@@ -166,7 +166,7 @@ fn grouped<C: Fn(&Indexes, &[Job]) -> Result<Vec<Done>, Refusal>>(
     keys: &mut Audiences,
     indexes: &mut Indexes,
     schedule: &Schedule,
-    edit: &Edit,
+    edit: &Judged,
     meter: &mut Meter,
 ) -> Result<Shared<Schedule>, Refusal>
     requires crew { IsCrew (λ v. v.items) (C.pre crew.now) (C.post crew.now) }
@@ -178,11 +178,12 @@ fn grouped<C: Fn(&Indexes, &[Job]) -> Result<Vec<Done>, Refusal>>(
     ensures err { OnErr result (IsDesk tie old.now.objects keys.new indexes.new schedule.now) }
     ensures refusal { OnlyNoMemory result }
 {
-    if is_of_event(edit) {
+    if is_of_event(edit.edit()) {
         after_event(
             alloc, crew, tie, old, new, keys, indexes, schedule, edit, meter,
         )
     } else {
+        let edit = edit.edit();
         after_other(
             alloc, crew, tie, old, new, keys, indexes, schedule, edit, meter,
         )
@@ -196,7 +197,7 @@ pub(crate) fn make<C: Fn(&Indexes, &[Job]) -> Result<Vec<Done>, Refusal>>(
     old: &Resolution,
     keys: &mut Audiences,
     indexes: &mut Indexes,
-    edit: &Edit,
+    edit: &Judged,
 ) -> Result<Made, Refusal>
     requires crew { IsCrew (λ v. v.items) (C.pre crew.now) (C.post crew.now) }
     requires accepted { IsOk (step_to (full_at old.now.book.base.version) old.now.book.objects edit.now) }
@@ -215,7 +216,7 @@ pub(crate) fn make<C: Fn(&Indexes, &[Job]) -> Result<Vec<Done>, Refusal>>(
     edit_laws();
     let book = old.book();
     let after = committed(book, edit)?;
-    let touched = Touched::between(book.copy()?, after.copy()?, edit.copy()?);
+    let touched = Touched::between(book.copy()?, after.copy()?, edit.edit().copy()?);
     let mut meter = Meter::new();
     let schedule = grouped(
         alloc,

@@ -22,7 +22,7 @@ use crate::events::{joining, leaving};
 use crate::laws::edits_have_room;
 use crate::side::{come_side, gone_side};
 use adr_audience::Audiences;
-use adr_book::Book;
+use adr_book::{Book, Judged};
 use adr_group::{Done, Job, repairs_compare_little, right_moves};
 use adr_lines::{Indexes, exchange_laws};
 use adr_model::Tie;
@@ -195,7 +195,7 @@ pub(crate) fn after_event<C: Fn(&Indexes, &[Job]) -> Result<Vec<Done>, Refusal>>
     keys: &mut Audiences,
     indexes: &mut Indexes,
     schedule: &Schedule,
-    edit: &Edit,
+    edit: &Judged,
     meter: &mut Meter,
 ) -> Result<Shared<Schedule>, Refusal>
     requires crew { IsCrew (λ v. v.items) (C.pre crew.now) (C.post crew.now) }
@@ -211,8 +211,9 @@ pub(crate) fn after_event<C: Fn(&Indexes, &[Job]) -> Result<Vec<Done>, Refusal>>
     old.book_laws();
     new.book_laws();
     edits_have_room();
-    let gone = gone_side(alloc, tie, old, edit)?;
     let come = come_side(alloc, tie, old, edit)?;
+    let edit = edit.edit();
+    let gone = gone_side(alloc, tie, old, edit)?;
     let change = Change { gone, come };
     exchanged(
         alloc, crew, tie, old, new, keys, indexes, schedule, edit, &change, meter,

@@ -3,14 +3,15 @@ ghost use Rattle.std.specs.Prelude.{◌≡◌, ◌+◌, Some, IfOk};
 ghost use Rattle.adr_value.specs.Answer.{OnlyNoMemory};
 ghost use Rattle.adr_model.specs.Book.{event_by};
 ghost use Rattle.adr_stretch.specs.Grouped.{written_event};
+ghost use Rattle.adr_book.specs.Judged.{placed_of};
 ghost use Rattle.adr_desk.specs.Desk.{IsSideOf};
 ghost use Rattle.adr_desk.specs.Edited.{come_of, gone_for, gone_of, made_of};
 
-use adr_book::Book;
-use adr_model::Tie;
+use adr_book::{Book, Judged};
+use adr_model::{Placed, Tie};
 use adr_object::{Edit, Event, Id, Kind, Object};
 use adr_schedule::Side;
-use adr_stretch::event_entries;
+use adr_stretch::{event_entries, placed_entries};
 use adr_value::Refusal;
 use std::alloc::Global;
 
@@ -66,32 +67,41 @@ pub(crate) fn gone_side(
     }
 }
 
-fn made_side(alloc: Global, tie: Tie, book: &Book, object: &Object) -> Result<Option<Side>, Refusal>
+/// The event that an edit makes of the object, whose intervals lie at those places.
+fn made_side(
+    alloc: Global,
+    tie: Tie,
+    book: &Book,
+    object: &Object,
+    places: &[Placed],
+) -> Result<Option<Side>, Refusal>
+    requires { places.now ≡ placed_of object.now }
     ensures side { IfOk result (λ side. IsSideOf tie (made_of book.now.objects object.now) side) }
     ensures refusal { OnlyNoMemory result }
 {
     match object {
         Object::Event(event) => {
-            let side = side(alloc, tie, event.get(), book.version() + 1)?;
-            Ok(Some(side))
+            let written = book.version() + 1;
+            let entries = placed_entries(alloc, tie, event.get(), written, places)?;
+            Ok(Some(Side { written, entries }))
         }
         _ => Ok(None),
     }
 }
 
-/// The event that the edit makes.
+/// The event that the edit makes, with its layout from judging.
 pub(crate) fn come_side(
     alloc: Global,
     tie: Tie,
     book: &Book,
-    edit: &Edit,
+    edit: &Judged,
 ) -> Result<Option<Side>, Refusal>
     ensures side { IfOk result (λ side. IsSideOf tie (come_of book.now.objects edit.now) side) }
     ensures refusal { OnlyNoMemory result }
 {
-    match edit {
-        Edit::Create(object) => made_side(alloc, tie, book, object),
-        Edit::Change(object) => made_side(alloc, tie, book, object),
+    match edit.edit() {
+        Edit::Create(object) => made_side(alloc, tie, book, object, edit.layout()),
+        Edit::Change(object) => made_side(alloc, tie, book, object, edit.layout()),
         Edit::Remove(_, _) => Ok(None),
     }
 }

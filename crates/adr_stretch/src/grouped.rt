@@ -218,12 +218,32 @@ fn add_intervals(
     Ok(())
 }
 
+/// The same as [`event_entries`] answers, of an event that is laid out already: its intervals lie at those places.
+///
+/// Cost: the types of an interval's payloads are compared by name in pairs, and each with those of the groups so far.
+/// The groups have an entry for each interval and each of its types. `NoMemory` where there is no room for them.
+pub fn placed_entries(
+    alloc: Global,
+    tie: Tie,
+    event: &Event,
+    written: u64,
+    places: &[Placed],
+) -> Result<Vec<TypeEntries>, Refusal>
+    requires { places.now ≡ placed_from 0 (result_unwrap_or (layout event.now) []) }
+    ensures entries { IfOk result (λ groups. (k : AnyType) → entries_under groups.items k ≡ map (ranked tie) (entries_of k (written_event event.now written))) }
+    ensures types { IfOk result (λ groups. HaveOwnTypes groups.items) }
+    ensures memory { OnlyNoMemory result }
+{
+    let mut groups = Vec::new(alloc);
+    add_intervals(&mut groups, tie, event, written, places)?;
+    Ok(groups)
+}
+
 /// Where the event that the edit of that number wrote competes under the rule for ties: for each of its payload
 /// types the entries of the intervals that carry it, in order, and none where its layout has a fault.
 ///
-/// Cost: the event is laid out once. The types of an interval's payloads are compared by name in pairs, and each
-/// with those of the groups so far. The groups have an entry for each interval and each of its types. `NoMemory`
-/// where there is no room for them.
+/// Cost: the event is laid out once; for the rest see [`placed_entries`]. `NoMemory` where there is no room for the
+/// layout or the groups.
 pub fn event_entries(
     alloc: Global,
     tie: Tie,
@@ -235,7 +255,5 @@ pub fn event_entries(
     ensures memory { OnlyNoMemory result }
 {
     let places = places(alloc, event)?;
-    let mut groups = Vec::new(alloc);
-    add_intervals(&mut groups, tie, event, written, places.as_slice())?;
-    Ok(groups)
+    placed_entries(alloc, tie, event, written, places.as_slice())
 }

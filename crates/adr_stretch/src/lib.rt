@@ -4,5 +4,5 @@
 mod grouped;
 mod laws;
 
-pub use grouped::{TypeEntries, event_entries};
+pub use grouped::{TypeEntries, event_entries, placed_entries};
 pub use laws::{groups_are_counted, held_wins, same_wins};

@@ -4,5 +4,5 @@ pub returns : goal.returns
 returns c =
     c.whole.ensures _ (((tt, tt), tt), tt)
     (c.both-3.ensures _ _ ((tt, tt), tt) tt
-    (c.both-2.ensures _ _ (tt, tt) tt (c.both.ensures _ _ tt tt c.layout_fault-layout.ensures c.missing_fault-id.ensures) c.reference_fault-reference.ensures)
+    (c.both-2.ensures _ _ (tt, tt) tt (c.both.ensures _ _ tt tt c.requires c.missing_fault-id.ensures) c.reference_fault-reference.ensures)
     c.change_room_fault-room.ensures)

@@ -3,7 +3,7 @@ use Rattle.adr_desk.proofs.make.make.Goals as goal
 pub between-touched-requires : goal.between-touched-requires
 between-touched-requires g c =
     let book = c.book-book.result.now in
-    rw (c.in_ok-copy.ensures, c.in_ok-copy-2.ensures, c.in_ok-copy-3.ensures)
+    rw (c.in_ok-copy.ensures, c.in_ok-copy-2.ensures, c.in_ok-copy-3.ensures, c.edit.ensures)
     (c.edit_laws.ensures.bases book.base.version book.objects c.in_ok-after.after.objects c.args.edit.now c.in_ok-after.ensures.objects)
 
 pub grouped-requires-clause-accepted : goal.grouped-requires-clause-accepted
