@@ -1,9 +1,10 @@
 //! What an accepted edit did.
-ghost use Rattle.std.specs.Prelude.{◌≡◌, Ok, IfOk};
+ghost use Rattle.std.specs.Prelude.{◌≡◌, Ok, IfOk, flat_map};
 ghost use Rattle.adr_value.specs.Answer.{OnlyNoMemory};
 ghost use Rattle.adr_value.specs.Copy.{IsCopyOf};
 ghost use Rattle.adr_model.specs.Edits.{step};
 ghost use Rattle.adr_model.specs.Touches.{touches as touches_between_books};
+ghost use Rattle.adr_touches.specs.Edited.{AreByResource};
 
 use adr_book::Book;
 use adr_model::Touch;
@@ -69,7 +70,8 @@ impl Touched {
     /// The touches, to be listed resource by resource: one after the other these lists are that of `to_vec`, and no more
     /// than one of them is held. `NoMemory` where there is no room for the ids of the objects that the edit concerns.
     pub fn by_resource(&self, alloc: Global) -> Result<EditTouches<'_>, Refusal>
-        ensures left { IfOk result (λ left. left ≡ self.now) }
+        ensures left { IfOk result (λ left. flat_map (λ list. list) left ≡ self.now) }
+        ensures resources { IfOk result AreByResource }
         ensures memory { OnlyNoMemory result }
     {
         EditTouches::of(alloc, &self.old, &self.new, &self.edit)

@@ -72,7 +72,7 @@ pub(crate) fn next(seed: &mut u64, limit: u64) -> u64
 }
 
 /// One of the first lines of a table, at random.
-fn pick<'a>(seed: &mut u64, lines: &'a str, count: u64) -> &'a str
+pub(crate) fn pick<'a>(seed: &mut u64, lines: &'a str, count: u64) -> &'a str
     requires { 0 < count }
 {
     let mut left = next(seed, count);

@@ -2,12 +2,11 @@
 ghost use Rattle.std.specs.Prelude.{◌<◌};
 
 use crate::edits::next;
+use crate::showing::are_alike;
 use adr_desk::Desk;
 use adr_model::Tie;
-use adr_object::{Edit, Kind, Resource};
-use adr_same::{same_book, same_timeline};
+use adr_object::Edit;
 use adr_test_edits::edit;
-use adr_timeline::Timeline;
 use adr_value::{PayloadType, Refusal};
 use std::alloc::Global;
 use std::test::Fail;
@@ -86,28 +85,6 @@ fn copies(alloc: Global, edits: &[Edit]) -> Result<Vec<Edit>, Refusal> {
     Ok(copies)
 }
 
-// A function of its own, so that callers need not look into what a timeline shows.
-fn timeline<'a>(desk: &'a Desk, resource: &Resource) -> Option<&'a Timeline> {
-    desk.timeline(&resource.id, &PayloadType::Price)
-}
-
-fn same_of_resource(a: &Desk, b: &Desk, resource: Option<&Resource>) -> bool {
-    match resource {
-        Some(resource) => same_timeline(timeline(a, resource), timeline(b, resource)),
-        None => false,
-    }
-}
-
-/// Whether both have the same book, and show the same prices for each resource.
-fn are_alike(a: &Desk, b: &Desk) -> bool {
-    for place in 0..a.book().count(Kind::Resource) {
-        if !same_of_resource(a, b, a.book().resource_at(place)) {
-            return false;
-        }
-    }
-    a.tie() == b.tie() && same_book(a.book(), b.book())
-}
-
 fn version_after(desk: &mut Desk, edit: Edit) -> Result<u64, Refusal> {
     let receipt = desk.apply(edit)?;
     let version = receipt.version;
@@ -142,7 +119,7 @@ fn is_loaded(
     let mut applied = Desk::new(alloc, tie)?;
     let (loaded, answers) = Desk::load(rt, alloc, copies(alloc, edits)?, tie)?;
     let is_answered = are_answered(&mut applied, edits, answers.as_slice());
-    let is_alike = are_alike(&loaded, &applied);
+    let is_alike = are_alike(&loaded, &applied, &[PayloadType::Price]);
     drop(answers);
     drop(loaded);
     drop(applied);

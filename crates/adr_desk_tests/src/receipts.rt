@@ -1,12 +1,13 @@
 //! What the receipts of edits tell.
 use crate::reading::{edit, word};
-use adr_desk::{Desk, Receipt};
+use adr_desk::{Desk, NoGate, Receipt};
 use adr_model::{Tie, Touch};
 use adr_object::Edit;
 use adr_time::{End, Moment, Span};
 use adr_value::Refusal;
 use std::alloc::Global;
 use std::test::Fail;
+use std::thread::Threads;
 
 /// Edits, each behind `>` and after those that it is made upon; then, behind `=`, a line `RESOURCE TYPE START END` for
 /// each touch in order, with hours of one day; behind `least` and `most`, how many ranks are compared. A written event has
@@ -275,6 +276,66 @@ fn receipts_tell_what_edits_touch_and_compare(rt: HostRuntime) -> Result<(), Fai
     for row in EDITS.split("\n\n") {
         assert!(rt; is_told(rt.alloc(), Tie::Newest, row)?, "{row}");
         assert!(rt; is_told(rt.alloc(), Tie::LatestStart, row)?, "{row}");
+    }
+    Ok(())
+}
+
+/// Makes the row's edit by so many workers, and answers whether they tell what the row says and compare as often as that.
+fn is_told_by(
+    alloc: Global,
+    rt: &(impl Threads + Sync),
+    workers: usize,
+    desk: &mut Desk,
+    row: &str,
+    compares: u128,
+) -> Result<bool, Refusal> {
+    prepare(desk, alloc, row)?;
+    let line = behind(row, "> ").ok_or(Refusal::BadLine)?;
+    let receipt = desk.apply_with(rt, workers, &NoGate, any_edit(alloc, line)?)?;
+    let is_told = tells(alloc, &receipt, row);
+    let is_same = receipt.compares == compares;
+    drop(receipt);
+    Ok(is_told? && is_same)
+}
+
+fn compares(alloc: Global, desk: &mut Desk, row: &str) -> Result<u128, Refusal> {
+    prepare(desk, alloc, row)?;
+    let line = behind(row, "> ").ok_or(Refusal::BadLine)?;
+    let receipt = make(desk, alloc, line)?;
+    let compares = receipt.compares;
+    drop(receipt);
+    Ok(compares)
+}
+
+/// Whether so many workers tell of the row's edit what one thread tells.
+fn is_same_by(
+    alloc: Global,
+    rt: &(impl Threads + Sync),
+    workers: usize,
+    row: &str,
+) -> Result<bool, Refusal> {
+    let mut desk = Desk::new(alloc, Tie::Newest)?;
+    let compares = compares(alloc, &mut desk, row);
+    drop(desk);
+    let mut other = Desk::new(alloc, Tie::Newest)?;
+    let is_told = is_told_by(alloc, rt, workers, &mut other, row, compares?);
+    drop(other);
+    is_told
+}
+
+fn are_same_by(alloc: Global, rt: &(impl Threads + Sync), workers: usize) -> Result<bool, Refusal> {
+    for row in EDITS.split("\n\n") {
+        if !is_same_by(alloc, rt, workers, row)? {
+            return Ok(false);
+        }
+    }
+    Ok(true)
+}
+
+#[test]
+fn all_numbers_of_workers_tell_the_same(rt: HostRuntime) -> Result<(), Fail> {
+    for workers in [1, 2, 64] {
+        assert!(rt; are_same_by(rt.alloc(), &rt, workers)?, "{workers}");
     }
     Ok(())
 }

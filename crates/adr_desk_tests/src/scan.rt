@@ -102,7 +102,7 @@ fn are_the_events(store: &Store, resource: &Resource, ven: &Ven, places: &[usize
     found == places.len()
 }
 
-fn is_for(store: &Store, resource: &Resource, ven: &Ven, place: usize) -> bool {
+pub(crate) fn is_for(store: &Store, resource: &Resource, ven: &Ven, place: usize) -> bool {
     let Some(event) = store.event_at(place) else {
         return false;
     };

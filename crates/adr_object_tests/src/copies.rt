@@ -79,7 +79,7 @@ fn make(alloc: Global, book: &mut Book, seed: &mut u64) -> Result<(), Refusal> {
     Err(Refusal::Full)
 }
 
-/// Makes so many edits, closes the batch now and then, and keeps a copy after every fiftieth edit.
+/// Makes so many edits, closes the batch now and then, and keeps a copy after every hundredth edit.
 fn make_many(
     alloc: Global,
     book: &mut Book,
@@ -92,7 +92,7 @@ fn make_many(
         if next(&mut seed, 20) == 0 {
             book.seal()?;
         }
-        if number % 50 == 49 {
+        if number % 100 == 99 {
             copies.push(book.copy()?)?;
         }
     }
@@ -151,10 +151,10 @@ fn count_whole(alloc: Global, copies: &mut [Book]) -> Result<usize, Refusal> {
     Ok(count)
 }
 
-/// How many of the copies that are kept of a book in a thousand edits are whole at the end.
+/// How many of the copies that are kept of a book in three thousand edits are whole at the end.
 fn whole_copies(alloc: Global, book: &mut Book) -> Result<usize, Refusal> {
     let mut copies = Vec::new(alloc);
-    make_many(alloc, book, &mut copies, 1000)?;
+    make_many(alloc, book, &mut copies, 3000)?;
     let count = count_whole(alloc, copies.as_mut_slice());
     drop(copies);
     count
@@ -174,7 +174,7 @@ fn copies_stay_while_edits_go_on(rt: HostRuntime) -> Result<(), Fail> {
     let whole = whole_copies(rt.alloc(), &mut book);
     let has_many = has_many(&book);
     drop(book);
-    assert_eq!(rt; whole?, 20);
+    assert_eq!(rt; whole?, 30);
     assert!(rt; has_many);
     Ok(())
 }

@@ -3,4 +3,5 @@ mod Concerned
 mod Laid
 mod Listed
 mod Places
+mod Resources
 mod Types

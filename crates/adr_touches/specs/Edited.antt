@@ -1,5 +1,5 @@
 -- What an edit touches, by what it concerns.
-use Rattle.std.specs.Prelude.{ℕ, Bool, true, false, List, ◌++◌, flat_map, Option}
+use Rattle.std.specs.Prelude.{◌≡◌, ℕ, Bool, true, false, List, ◌++◌, flat_map, Option}
 use Rattle.std.specs.Str.{bytes_eq}
 use Rattle.adr_object.specs.declared.object.Object.{Object}
 use Rattle.adr_object.specs.declared.object.Object.TheVariants.{Program as program, Event as event, Ven as ven, Resource as resource}
@@ -9,6 +9,7 @@ use Rattle.adr_object.specs.declared.object.Edit.TheVariants.{Create, Change, Re
 use Rattle.adr_model.specs.declared.touch.Touch.{Touch}
 use Rattle.adr_model.specs.declared.written.Written.{Written}
 use Rattle.adr_model.specs.Book.{Book}
+use Rattle.adr_model.specs.Lists.{In}
 use Rattle.adr_model.specs.Touches.{applying}
 use Rattle.adr_repair.specs.Table.{is_event_of, is_resource_of, spans, spans_if_differs}
 use Rattle.adr_touches.specs.declared.concern.Concern.{Concern}
@@ -73,3 +74,7 @@ rows_between Differing r a b = spans_if_differs r a b
 -- those of one resource, by event
 abbrev pub rows_on : Book → Book → Rows → List (List ℕ) → List ℕ → List Touch
 rows_on old new rows events r = flat_map (λ e. rows_between rows r (applying old r e) (applying new r e)) events
+
+-- in each of the lists all touches are of one resource
+abbrev pub AreByResource : List (List Touch) → Type 0
+AreByResource lists = (list : List Touch) (a b : Touch) → In list lists → In a list → In b list → a.resource ≡ b.resource

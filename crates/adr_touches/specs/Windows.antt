@@ -2,7 +2,7 @@
 use Rattle.std.specs.Prelude.{ℕ, List, [], map, if◌then◌else◌, flat_map}
 use Rattle.std.specs.List.{zip}
 use Rattle.adr_value.specs.declared.payload.PayloadType.{PayloadType}
-use Rattle.adr_time.specs.Spans.{is_before}
+use Rattle.adr_time.specs.Spans.{lasts}
 use Rattle.adr_time.specs.declared.span.Span.{Span}
 use Rattle.adr_object.specs.declared.event.Interval.{Interval}
 use Rattle.adr_model.specs.declared.touch.Touch.{Touch}
@@ -15,7 +15,7 @@ touches_in resource window kinds = map (λ payload_type. record { resource = res
 
 -- a touch for each type of an interval that lasts
 abbrev pub touches_at : List ℕ → Interval × Span → List Touch
-touches_at resource p = if is_before p.1.start p.1.end then touches_in resource p.1 (types_of p.0.payloads) else []
+touches_at resource p = if lasts p.1 then touches_in resource p.1 (types_of p.0.payloads) else []
 
 -- the touches of intervals that lie there
 abbrev pub touches_along : List ℕ → List Interval → List Span → List Touch

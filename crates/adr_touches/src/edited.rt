@@ -1,12 +1,12 @@
 //! The touches of an edit, from what it concerns.
-ghost use Rattle.std.specs.Prelude.{◌≡◌, ◌++◌, [], Ok, OnOk, OnErr, IfOk, IfSome, IfNone, flat_map};
+ghost use Rattle.std.specs.Prelude.{◌≡◌, ◌++◌, ◌∷◌, [], Ok, OnOk, OnErr, IfOk, IfSome, IfNone, flat_map};
 ghost use Rattle.std.specs.Option.{option_map};
 ghost use Rattle.adr_value.specs.Answer.{OnlyNoMemory};
 ghost use Rattle.adr_model.specs.Edits.{step};
 ghost use Rattle.adr_model.specs.Touches.{applying, touches as touches_of_books};
 ghost use Rattle.adr_repair.specs.Table.{spans, spans_if_differs};
 ghost use Rattle.adr_touches.specs.Applied.{written_event};
-ghost use Rattle.adr_touches.specs.Edited.{rows_between, rows_on};
+ghost use Rattle.adr_touches.specs.Edited.{AreByResource, rows_between, rows_on};
 
 use crate::concern::{Rows, concern_of, rows_of};
 use crate::ids::{concerned_events, concerned_resources};
@@ -127,7 +127,7 @@ fn concerned_by(alloc: Global, old: &Book, new: &Book, edit: &Edit) -> Result<Co
     })
 }
 
-/// The touches of an edit, resource by resource. Contracts see the list of those that are left.
+/// The touches of an edit, resource by resource. Contracts see the lists that are left, one for each resource.
 #[derive(Drop)]
 pub struct EditTouches<'a> {
     before: &'a Book,
@@ -140,13 +140,13 @@ pub struct EditTouches<'a> {
 }
 
 impl<'a> Model for EditTouches<'a> {
-    ghost use Rattle.std.specs.Prelude.{◌≤◌, List, drop, flat_map, length};
+    ghost use Rattle.std.specs.Prelude.{◌≤◌, List, drop, length, map};
     ghost use Rattle.adr_model.specs.declared.touch.Touch.{Touch as AnyTouch};
     ghost use Rattle.adr_touches.specs.Edited.{rows_on};
 
-    ghost Value = { List AnyTouch };
+    ghost Value = { List (List AnyTouch) };
 
-    ghost view = { λ t. flat_map (rows_on t.before.now.objects t.after.now.objects t.rows t.events.items) (drop t.next t.resources.items) };
+    ghost view = { λ t. map (rows_on t.before.now.objects t.after.now.objects t.rows t.events.items) (drop t.next t.resources.items) };
 
     ghost invariant = { λ t. t.next ≤ length t.resources.items };
 }
@@ -161,7 +161,8 @@ impl<'a> EditTouches<'a> {
         edit: &Edit,
     ) -> Result<EditTouches<'a>, Refusal>
         requires { step old.now.objects edit.now ≡ Ok new.now.objects }
-        ensures ok { IfOk result (λ left. left ≡ touches_of_books old.now.objects new.now.objects) }
+        ensures ok { IfOk result (λ left. flat_map (λ list. list) left ≡ touches_of_books old.now.objects new.now.objects) }
+        ensures resources { IfOk result AreByResource }
         ensures memory { OnlyNoMemory result }
     {
         let Concerned {
@@ -184,7 +185,7 @@ impl<'a> EditTouches<'a> {
     /// there is no room for them, and then they are still to come. Cost: a look at each event that the edit concerns, and
     /// the layout of those that apply.
     pub fn next_resource(&mut self) -> Result<Option<Vec<Touch>>, Refusal>
-        ensures some { IfOk result (λ next. IfSome next (λ list. self.old ≡ list.items ++ self.new)) }
+        ensures some { IfOk result (λ next. IfSome next (λ list. self.old ≡ list.items ∷ self.new)) }
         ensures none { IfOk result (λ next. IfNone next ((self.old ≡ []) × (self.new ≡ []))) }
         ensures unchanged { OnErr result (self.new ≡ self.old) }
         ensures memory { OnlyNoMemory result }

@@ -87,7 +87,7 @@ fn add_interval(
     ensures ok { OnOk result (touches.new.items ≡ touches.old.items ++ touches_at resource.now (interval.now, span)) }
     ensures memory { OnlyNoMemory result }
 {
-    if !span.start.is_before(span.end) {
+    if !span.lasts() {
         return Ok(());
     }
     let types = payload_types(alloc, interval.payloads.as_slice())?;
