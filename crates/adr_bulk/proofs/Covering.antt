@@ -1,7 +1,6 @@
 -- Windows that cover all that entries of their types cover.
-use Rattle.std.proofs.Common.{◌≡◌, ℕ, ℤ, ◌≤ℤ◌, ◌<◌, ◌^◌, ◌+◌, ◌⊎◌, inl, inr, ◌||◌, ◌&&◌, Bool, true, false, List, [], ◌∷◌, ◌++◌, length, flat_map, if◌then◌else◌, refl, ap, sym, subst, ◌∙◌, arith}
-use Rattle.std.specs.List.{list_any, AllByRecursion}
-use Rattle.std.specs.Prelude.{int_le, sum_by}
+use Rattle.std.proofs.Common.{◌≡◌, ℕ, ℤ, ◌≤ℤ◌, ◌<◌, ◌^◌, ◌⊎◌, inl, inr, ◌||◌, Bool, true, false, List, [], ◌∷◌, ◌++◌, length, if◌then◌else◌, refl, ap, sym, subst, ◌∙◌, arith}
+use Rattle.std.specs.Prelude.{int_le}
 use Rattle.std.proofs.lemmas.Bool.{and_parts, or_cases}
 use Rattle.std.proofs.lemmas.Grind.{flat_map-append}
 use Rattle.std.proofs.lemmas.Int.{ints}
@@ -9,7 +8,6 @@ use Rattle.std.proofs.lemmas.List.Sums.{sum_by-cons}
 use Rattle.adr_value.specs.Payload.{name_of}
 use Rattle.adr_value.specs.Same.{same_type}
 use Rattle.adr_value.specs.declared.payload.PayloadType.{PayloadType}
-use Rattle.adr_time.specs.declared.span.End.{End}
 use Rattle.adr_time.specs.declared.span.End.TheVariants.{Endless}
 use Rattle.adr_time.specs.declared.span.Span.{Span}
 use Rattle.adr_time.specs.Spans.{covers, is_before}

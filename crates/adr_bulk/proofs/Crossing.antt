@@ -60,13 +60,13 @@ module _ (T : RattleType) (s : IsSend T) (y : IsSync T) where
 text_send : IsSend Text.the_row
 text_send = search (sendable, std.crosses, maps.crosses) depth 60 fits 60000
 
-text_sync : IsSync Text.the_row
+pub text_sync : IsSync Text.the_row
 text_sync = search (sendable, std.crosses, maps.crosses) depth 60 fits 60000
 
 pub name_send : IsSend Name.the_row
 name_send = search (sendable, std.crosses, text_send) depth 60 fits 60000
 
-name_sync : IsSync Name.the_row
+pub name_sync : IsSync Name.the_row
 name_sync = search (sendable, std.crosses, text_sync) depth 60 fits 60000
 
 datum_send : IsSend Datum.the_row

@@ -1,5 +1,5 @@
 -- A group that is built from the entries of its own events.
-use Rattle.std.proofs.Common.{◌≡◌, ◌↔◌, ℕ, ℤ, ◌+◌, ◌*◌, ◌^◌, ◌<◌, ◌≤◌, ◌⊎◌, inl, inr, Bool, true, false, cond, List, [], ◌∷◌, ◌++◌, filter, length, refl, ap, sym, subst, ◌∙◌, append-nil, arith}
+use Rattle.std.proofs.Common.{◌≡◌, ℕ, ℤ, ◌+◌, ◌*◌, ◌^◌, ◌<◌, ◌≤◌, ◌⊎◌, inl, inr, Bool, true, false, cond, List, [], ◌∷◌, ◌++◌, filter, length, ap, sym, subst, ◌∙◌, append-nil, arith}
 use Rattle.std.specs.Prelude.{sum_by}
 use Rattle.std.proofs.lemmas.List.Sums.{sum_by-cons}
 use Rattle.adr_value.specs.declared.limits.TheConstants.{MOST_ENTRIES}
@@ -8,7 +8,6 @@ use Rattle.adr_model.specs.declared.entry.Tie.{Tie}
 use Rattle.adr_model.specs.declared.written.Written.{Written}
 use Rattle.adr_model.specs.Edits.{entry_count}
 use Rattle.adr_model.specs.Governor.{entries_of}
-use Rattle.adr_model.specs.Lists.{In}
 use Rattle.adr_model.specs.Within.{EntriesAreCounted}
 use Rattle.adr_model.proofs.Lists.{In-filter, In-from_filter}
 use Rattle.adr_stretch.specs.declared.grouped.TypeEntries.{TypeEntries}

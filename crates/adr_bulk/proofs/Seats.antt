@@ -1,24 +1,30 @@
 -- The slots of all places, and the groups that are built for them.
-use Rattle.std.proofs.Common.{◌≡◌, ℕ, zero, suc, ◌+◌, ◌<◌, ◌⊎◌, inl, inr, Bool, true, false, List, [], ◌∷◌, ◌++◌, length, slice_get, map, Option, Some, None, refl, ap, sym, subst, ◌∙◌, arith}
+use Rattle.std.proofs.Common.{◌≡◌, ℕ, zero, suc, ◌+◌, ◌<◌, ◌⊎◌, inl, inr, true, false, List, [], ◌∷◌, ◌++◌, length, slice_get, map, Option, Some, None, refl, ap, sym, subst, ◌∙◌, arith}
 use Rattle.std.specs.Borrow.{Bor}
-use Rattle.std.specs.List.{AllZip, Contains, slice_index_or}
+use Rattle.std.specs.List.{All, AllZip, Contains, range_with_len}
 use Rattle.std.specs.Option.{option_and_then, option_map_or}
-use Rattle.std.specs.Prelude.{Result, Ok, Err, IfOk, MatchResult}
+use Rattle.std.specs.Prelude.{⊤, ◌-◌, ◌≤◌, Result, Ok, Err, IfOk, MatchResult}
+use Rattle.std.proofs.lemmas.Slice.Zip.{AllZip-long}
+use Rattle.rayon.specs.Numbers.{nat_range}
+use Rattle.rayon.specs.NumberLaws.{run-length}
+use Rattle.rayon.proofs.ListFacts.{AllZip-through, IfOk-then}
+use Rattle.rayon.proofs.ToStd.{nat_range-All}
 use Rattle.adr_value.specs.Answer.{OnlyNoMemory}
 use Rattle.adr_value.specs.declared.refusal.Refusal.{Refusal}
-use Rattle.adr_value.specs.declared.refusal.Refusal.TheVariants.{NoMemory}
 use Rattle.adr_object.specs.declared.party.Resource.{Resource}
 use Rattle.adr_model.specs.declared.entry.Tie.{Tie}
 use Rattle.adr_model.specs.declared.written.Written.{Written}
 use Rattle.adr_model.specs.Book.{Book}
 use Rattle.adr_model.specs.Governor.{applies_to}
 use Rattle.adr_model.specs.Lists.{In}
+use Rattle.adr_audience.specs.Keys.{AreKeysOf, Keys}
 use Rattle.adr_stretch.specs.Right.{has_number}
 use Rattle.adr_group.specs.Group.{IsRightOf, Lines}
 use Rattle.adr_schedule.specs.Seating.{group_at, has_at, AreSeatedFor, Seating}
 use Rattle.adr_schedule.proofs.Shifts.{place_inside, place_there}
 use Rattle.adr_regroup.specs.Party.{AreWritesAt}
-use Rattle.adr_bulk.specs.Bulk.{ArePlanned, IsBuilt, IsGroupFor}
+use Rattle.adr_bulk.specs.Bulk.{AreFoundAt, ArePlanned, AreWritesFrom, IsBuilt, IsGroupFor}
+use Rattle.adr_bulk.proofs.Collected.{answers_collected, refusal_collected}
 
 -- ---- one place after the other
 
@@ -42,7 +48,7 @@ count_last (x ∷ xs) y = omega (arith, count_last xs y)
 pub none_planned : (book : Book) (slots : List ℕ) (jobs : List (List ℕ)) → slots ≡ [] → ArePlanned book 0 slots jobs
 none_planned book slots jobs e = (ap (λ xs. length xs) e, λ place slot h. absurd (none_at place slot (sym (ap (λ xs. slice_get xs place) e) ∙ h)))
 
-pub next_planned : (book : Book) (place : ℕ) (slots more : List ℕ) (jobs after : List (List ℕ)) (slot : ℕ) (numbers : List ℕ) → ArePlanned book place slots jobs
+next_planned : (book : Book) (place : ℕ) (slots more : List ℕ) (jobs after : List (List ℕ)) (slot : ℕ) (numbers : List ℕ) → ArePlanned book place slots jobs
     → more ≡ slots ++ slot ∷ [] → slice_get after slot ≡ Some numbers → AreWritesAt book place numbers
     → ((s : ℕ) (ns : List ℕ) → slice_get jobs s ≡ Some ns → slice_get after s ≡ Some ns) → ArePlanned book (place + 1) more after
 next_planned book place slots more jobs after slot numbers old made here are kept = (
@@ -54,6 +60,28 @@ next_planned book place slots more jobs after slot numbers old made here are kep
     by p s (inl k) = let r = old.1 p s k in (r.0, kept s r.0 r.1, r.2)
     by p s (inr e) =
         (numbers, ap (λ n. slice_get after n) (sym e.1) ∙ here, subst (λ n. AreWritesAt book n numbers) (sym (e.0 ∙ old.0)) are)
+
+-- the places so far have their slots, and the writes of the others are left, in order, so many in all
+abbrev pub ArePlannedBefore : Book → ℕ → List ℕ → List (List ℕ) → ℕ → List (List ℕ) → Type 0
+ArePlannedBefore book count slots jobs left rest =
+    ArePlanned book (length slots) slots jobs × (length slots + left ≡ count) × AreWritesFrom book (length slots) left rest
+
+pub one_fewer_left : (book : Book) (all : ℕ) (slots more : List ℕ) (jobs after rest others : List (List ℕ)) (left fewer slot : ℕ) (numbers : List ℕ) → ArePlannedBefore book all slots jobs left rest
+    → rest ≡ numbers ∷ others → fewer + 1 ≡ left → more ≡ slots ++ slot ∷ [] → slice_get after slot ≡ Some numbers
+    → ((s : ℕ) (ns : List ℕ) → slice_get jobs s ≡ Some ns → slice_get after s ≡ Some ns) → ArePlannedBefore book all more after fewer others
+one_fewer_left book all slots more jobs after rest others left fewer slot numbers old taken less made here kept =
+    let count = ap (λ xs. length xs) made ∙ count_last slots slot in
+    let next : left ≡ suc fewer = omega (arith, less) in
+    let are : AreWritesFrom book (length slots) (suc fewer) (numbers ∷ others) =
+    subst (λ n. AreWritesFrom book (length slots) n (numbers ∷ others)) next (subst (AreWritesFrom book (length slots) left) taken old.2) in
+    let whole = old.1 in (
+      subst (λ n. ArePlanned book n more after) (sym count) (next_planned book (length slots) slots more jobs after slot numbers old.0 made here are.0 kept),
+      omega (arith, count, less, whole),
+      subst (λ n. AreWritesFrom book n fewer others) (sym count) are.1,
+    )
+
+pub none_left : (book : Book) (count : ℕ) (slots : List ℕ) (jobs rest : List (List ℕ)) (left : ℕ) → ArePlannedBefore book count slots jobs left rest → left ≡ 0 → ArePlanned book count slots jobs
+none_left book count slots jobs rest left p none = let whole = p.1 in subst (λ n. ArePlanned book n slots jobs) (omega (arith, none, whole)) p.0
 
 -- ---- groups beside their writes
 
@@ -129,52 +157,55 @@ module _ (tie : Tie) (book : Book) (slots : List ℕ) (jobs : List (List ℕ)) (
 
 -- ---- what many threads built
 
-module _ (tie : Tie) (events : List Written) where
-  abbrev pub Makes : Bor (List ℕ) → Result Lines Refusal → Type 0
-  Makes z r = IsBuilt tie events z.now r
-
-  all_made : (zs : List (Bor (List ℕ))) (ys : List Lines) → AllZip Makes zs (map Ok ys) → AllZip (IsGroupFor tie events) (map (λ z. z.now) zs) ys
-  all_made [] [] h = tt
-  all_made [] (y ∷ ys) h = absurd h
-  all_made (z ∷ zs) [] h = absurd h
-  all_made (z ∷ zs) (y ∷ ys) h = (h.0, all_made zs ys h.1)
-
-  -- a refusal among them is want of memory
-  refused : (zs : List (Bor (List ℕ))) (rs : List (Result Lines Refusal)) (f : Refusal) → AllZip Makes zs rs → (k : ℕ) → k < length rs → slice_index_or rs k (Err f) ≡ Err f → f ≡ NoMemory
-  refused [] [] f h k le e = absurd (omega (arith, le))
-  refused [] (r ∷ rs) f h k le e = absurd h
-  refused (z ∷ zs) [] f h k le e = absurd h
-  refused (z ∷ zs) (r ∷ rs) f h zero le e = subst (λ x. MatchResult x (IsGroupFor tie events z.now) (λ g. g ≡ NoMemory)) e h.0
-  refused (z ∷ zs) (r ∷ rs) f h (suc k) le e = refused zs rs f h.1 k (omega (arith, le)) e
-
-  -- what was collected is what each made, in order, where each was made
-  pub collected : {V : Type 0} (items : V → List Lines) (jobs : List (List ℕ)) (zs : List (Bor (List ℕ))) (rs : List (Result Lines Refusal)) (result : Result V Refusal)
-      → map (λ z. z.now) zs ≡ jobs → AllZip Makes zs rs
-      → MatchResult result (λ v. (ys : List Lines) × (rs ≡ map Ok ys) × (items v ≡ ys)) (λ e. Contains rs (Err e))
-      → MatchResult result (λ v. AllZip (IsGroupFor tie events) jobs (items v)) (λ e. e ≡ NoMemory)
-  collected items jobs zs rs (Ok v) same each h =
-      subst (λ xs. AllZip (IsGroupFor tie events) xs (items v)) same
-      (subst (AllZip (IsGroupFor tie events) (map (λ z. z.now) zs)) (sym h.2) (all_made zs h.0 (subst (AllZip Makes zs) h.1 each)))
-  collected items jobs zs rs (Err e) same each h = refused zs rs e each h.0 h.1 h.2
-
-  pub groups_of : {V : Type 0} (items : V → List Lines) (jobs : List (List ℕ)) (result : Result V Refusal)
-      → MatchResult result (λ v. AllZip (IsGroupFor tie events) jobs (items v)) (λ e. e ≡ NoMemory) → IfOk result (λ v. AllZip (IsGroupFor tie events) jobs (items v))
-  groups_of items jobs (Ok v) h = h
-  groups_of items jobs (Err e) h = tt
-
-  pub refusal_of : {V : Type 0} (items : V → List Lines) (jobs : List (List ℕ)) (result : Result V Refusal)
-      → MatchResult result (λ v. AllZip (IsGroupFor tie events) jobs (items v)) (λ e. e ≡ NoMemory) → OnlyNoMemory result
-  refusal_of items jobs (Ok v) h = tt
-  refusal_of items jobs (Err e) h = h
-
 -- what the closure has is what it was given
 module _ (t u : Tie) (es fs : List Written) (same_tie : t ≡ u) (same_events : es ≡ fs) {V : Type 0} (items : V → List Lines) (jobs : List (List ℕ))
-    (zs : List (Bor (List ℕ))) (rs : List (Result Lines Refusal)) (result : Result V Refusal) (same : map (λ z. z.now) zs ≡ jobs) (each : AllZip (Makes t es) zs rs)
+    (zs : List (Bor (List ℕ))) (rs : List (Result Lines Refusal)) (result : Result V Refusal) (same : map (λ z. z.now) zs ≡ jobs)
+    (each : AllZip (λ z r. IsBuilt t es z.now r) zs rs)
     (h : MatchResult result (λ v. (ys : List Lines) × (rs ≡ map Ok ys) × (items v ≡ ys)) (λ e. Contains rs (Err e))) where
   pub built_groups : IfOk result (λ v. AllZip (IsGroupFor u fs) jobs (items v))
   built_groups =
-      subst (λ x. IfOk result (λ v. AllZip (IsGroupFor x fs) jobs (items v))) same_tie
-      (subst (λ x. IfOk result (λ v. AllZip (IsGroupFor t x) jobs (items v))) same_events (groups_of t es items jobs result (collected t es items jobs zs rs result same each h)))
+      IfOk-then result _ _ (answers_collected (λ z g. IsGroupFor t es z.now g) items zs rs each result h) (λ v k.
+      subst (λ x. AllZip (IsGroupFor x fs) jobs (items v)) same_tie
+      (subst (λ x. AllZip (IsGroupFor t x) jobs (items v)) same_events
+      (subst (λ xs. AllZip (IsGroupFor t es) xs (items v)) same
+      (AllZip-through (λ z. z.now) (λ z g. IsGroupFor t es z.now g) (IsGroupFor t es) (λ z g made. made) zs (items v) k))))
 
   pub built_refusal : OnlyNoMemory result
-  built_refusal = refusal_of t es items jobs result (collected t es items jobs zs rs result same each h)
+  built_refusal = refusal_collected (λ z g. IsGroupFor t es z.now g) items zs rs each result h
+
+-- ---- what many threads asked
+
+-- the closure may be called at each place
+pub all_ready : (b book : Book) (ks keys : Keys) (first last start end : ℕ) → b ≡ book → ks ≡ keys → first ≡ start → last ≡ end → end ≤ length book.resources → AreKeysOf book keys
+    → All (λ place. ((place < length b.resources) × AreKeysOf b ks) × ((y : Result (List ℕ) Refusal) → AreFoundAt b place y → ⊤)) (nat_range first last)
+all_ready b book ks keys first last start end same_book same_keys at_first at_last inside are =
+    rw (same_book, same_keys, at_first, at_last)
+    (nat_range-All (λ place. ((place < length book.resources) × AreKeysOf book keys) × ((y : Result (List ℕ) Refusal) → AreFoundAt book place y → ⊤)) start end
+    (λ place low high. ((omega (arith, inside, high), are), λ y asked. tt)))
+
+module _ (b book : Book) (same_book : b ≡ book) (first last start end : ℕ) (at_first : first ≡ start) (at_last : last ≡ end) {V : Type 0} (items : V → List (List ℕ))
+    (places : List ℕ) (rs : List (Result (List ℕ) Refusal)) (result : Result V Refusal) (same : places ≡ nat_range first last) (each : AllZip (AreFoundAt b) places rs)
+    (h : MatchResult result (λ v. (ys : List (List ℕ)) × (rs ≡ map Ok ys) × (items v ≡ ys)) (λ e. Contains rs (Err e))) where
+  pub asked_writes : IfOk result (λ v. AreWritesFrom book start (end - start) (items v))
+  asked_writes =
+      IfOk-then result _ _ (answers_collected (AreWritesAt b) items places rs each result h) (λ v k.
+      subst (λ x. AllZip (AreWritesAt x) (nat_range start end) (items v)) same_book
+      (subst (λ xs. AllZip (AreWritesAt b) xs (items v)) (same ∙ (λ i. nat_range (at_first i) (at_last i))) k))
+
+  pub asked_refusal : OnlyNoMemory result
+  asked_refusal = refusal_collected (AreWritesAt b) items places rs each result h
+
+-- what was found is as many as was asked for
+pub all_asked : (book : Book) (start count : ℕ) (all : List (List ℕ)) → AreWritesFrom book start count all → length all ≡ count
+all_asked book start count all are = AllZip-long (AreWritesAt book) (range_with_len start count) all are ∙ run-length start count
+
+-- ---- a part after the other
+
+pub part_planned : (book : Book) (start end : ℕ) (slots more : List ℕ) (jobs after all : List (List ℕ)) → start ≡ length slots → start ≤ end
+    → AreWritesFrom book start (end - start) all → ArePlanned book (length slots) slots jobs
+    → ((b : Book) → ArePlanned b (length slots) slots jobs → AreWritesFrom b (length slots) (length all) all → ArePlanned b (length slots + length all) more after)
+    → ArePlanned book end more after
+part_planned book start end slots more jobs after all reached low are before given =
+    let many = all_asked book start (end - start) all are in
+    subst (λ n. ArePlanned book n more after) (omega (arith, reached, low, many))
+    (given book before (subst (λ n. AreWritesFrom book n (length all) all) reached (subst (λ n. AreWritesFrom book start n all) (sym many) are)))

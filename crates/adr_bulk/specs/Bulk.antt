@@ -1,11 +1,13 @@
 -- What is built from a whole book.
-use Rattle.std.specs.Prelude.{◌≡◌, ◌<◌, ℕ, ℤ, ◌≤ℤ◌, true, List, [], filter, length, slice_get, Some, MatchResult, Result}
-use Rattle.std.specs.List.{AllByRecursion}
+use Rattle.std.specs.Prelude.{◌≡◌, ℕ, ℤ, ◌≤ℤ◌, true, List, [], ◌∷◌, filter, flat_map, length, slice_get, Some, MatchResult, Result}
+use Rattle.std.specs.List.{AllByRecursion, AllZip, range_with_len}
+use Rattle.std.specs.Option.{option_map_or}
 use Rattle.adr_value.specs.declared.refusal.Refusal.{Refusal}
 use Rattle.adr_value.specs.declared.refusal.Refusal.TheVariants.{NoMemory}
 use Rattle.adr_model.specs.declared.entry.Tie.{Tie}
 use Rattle.adr_model.specs.declared.written.Written.{Written}
 use Rattle.adr_model.specs.Book.{Book}
+use Rattle.adr_store.specs.Numbers.{by_number}
 use Rattle.adr_stretch.specs.declared.grouped.TypeEntries.{TypeEntries}
 use Rattle.adr_stretch.specs.Grouped.{any_covers_at}
 use Rattle.adr_stretch.specs.Right.{has_number}
@@ -16,6 +18,14 @@ use Rattle.adr_regroup.specs.Party.{AreWritesAt}
 abbrev pub chosen : List Written → List ℕ → List Written
 chosen events numbers = filter (λ w. has_number numbers w.written) events
 
+-- the event that the edit of that number wrote, where it is one of them
+abbrev pub numbered : List Written → ℕ → List Written
+numbered events n = option_map_or (λ w. w ∷ []) (by_number events n) []
+
+-- those of the numbers, one number after the other
+abbrev pub in_turn : List Written → List ℕ → List Written
+in_turn events numbers = flat_map (numbered events) numbers
+
 -- the group has these writes, and is right of the events
 abbrev pub IsGroupFor : Tie → List Written → List ℕ → Lines → Type 0
 IsGroupFor tie events numbers group = (group.writes ≡ numbers) × IsRightOf tie events group
@@ -23,6 +33,14 @@ IsGroupFor tie events numbers group = (group.writes ≡ numbers) × IsRightOf ti
 -- the group was built, or there was no memory for it
 abbrev pub IsBuilt : Tie → List Written → List ℕ → Result Lines Refusal → Type 0
 IsBuilt tie events numbers built = MatchResult built (IsGroupFor tie events numbers) (λ refusal. refusal ≡ NoMemory)
+
+-- the writes of the place were found, or there was no memory for them
+abbrev pub AreFoundAt : Book → ℕ → Result (List ℕ) Refusal → Type 0
+AreFoundAt book place answer = MatchResult answer (AreWritesAt book place) (λ refusal. refusal ≡ NoMemory)
+
+-- there are the writes of that many places from that one on, in order
+abbrev pub AreWritesFrom : Book → ℕ → ℕ → List (List ℕ) → Type 0
+AreWritesFrom book place count all = AllZip (AreWritesAt book) (range_with_len place count) all
 
 -- each place of those before that one has a slot, where the writes of the events that apply to its resource stand
 abbrev pub ArePlanned : Book → ℕ → List ℕ → List (List ℕ) → Type 0

@@ -1,82 +1,109 @@
 //! The entries of the events of some writes.
-ghost use Rattle.std.specs.Prelude.{◌≡◌, ◌++◌, ◌∷◌, [], ℕ, List, false, map, IfOk, OnOk};
+ghost use Rattle.std.specs.Prelude.{◌≡◌, ◌++◌, [], map, position, IfOk, OnOk};
 ghost use Rattle.std.specs.List.Sorted.{IsStrictlyIncreasing};
 ghost use Rattle.adr_value.specs.Answer.{OnlyNoMemory};
+ghost use Rattle.adr_value.specs.Same.{same_type};
 ghost use Rattle.adr_value.specs.declared.payload.PayloadType.{PayloadType as AnyType};
-ghost use Rattle.adr_index.specs.Index.{inserted_all, AreNew};
-ghost use Rattle.adr_stretch.specs.Grouped.{entries_under};
-ghost use Rattle.adr_stretch.specs.Right.{has_number};
+ghost use Rattle.adr_model.specs.Rank.{ranked};
+ghost use Rattle.adr_index.specs.Index.{AreNew};
+ghost use Rattle.adr_stretch.specs.Grouped.{entries_under, HaveOwnTypes};
+ghost use Rattle.adr_stretch.specs.Right.{all_of, HaveSame};
+ghost use Rattle.adr_lines.specs.declared.indexes.Indexes.{Indexes as AnyIndexes};
 ghost use Rattle.adr_lines.specs.Exchange.{IsIndexOf};
-ghost use Rattle.adr_lines.specs.Indexes.{under};
+ghost use Rattle.adr_lines.specs.Indexes.{own_entries, under};
 ghost use Rattle.adr_group.specs.Group.{AreWindowsOf};
-ghost use Rattle.adr_bulk.specs.Bulk.{chosen};
+ghost use Rattle.adr_bulk.specs.Bulk.{chosen, numbered};
 
 use adr_book::Book;
 use adr_group::Writes;
-use adr_lines::{Indexes, exchange_laws};
+use adr_lines::{Indexes, filling_laws};
 use adr_model::Tie;
 use adr_object::Kind;
 use adr_stretch::{TypeEntries, event_entries};
-use adr_value::Refusal;
+use adr_value::{PayloadType, Refusal};
 use std::alloc::Global;
 
-/// Puts the entries into the indexes.
-fn put_in(alloc: Global, indexes: &mut Indexes, entering: &[TypeEntries]) -> Result<(), Refusal>
-    requires fresh { (k : AnyType) → AreNew (entries_under entering.now k) (under indexes.old k) }
-    ensures ok { OnOk result ((k : AnyType) → under indexes.new k ≡ inserted_all (entries_under entering.now k) (under indexes.old k)) }
+/// Where the entries of the type stand.
+fn place_of(types: &[TypeEntries], payload_type: &PayloadType) -> Option<usize>
+    ensures { result ≡ position (λ g. same_type g.payload_type payload_type.now) types.now }
+{
+    types
+        .iter()
+        .position(|own| own.payload_type.name() == payload_type.name())
+}
+
+/// Adds the entries of the group, behind those of the same type where there are such.
+fn add_group(types: &mut Vec<TypeEntries>, mut group: TypeEntries) -> Result<(), Refusal>
+    requires { HaveOwnTypes types.old.items }
+    ensures entries { OnOk result ((k : AnyType) → entries_under types.new.items k ≡ entries_under types.old.items k ++ own_entries group k) }
+    ensures types { OnOk result (HaveOwnTypes types.new.items) }
     ensures refusal { OnlyNoMemory result }
 {
-    indexes.reserve(alloc, &[], entering)?;
-    indexes.exchange(&[], entering);
+    if let Some(place) = place_of(types.as_slice(), &group.payload_type) {
+        types[place].entries.append(&mut group.entries)?;
+        return Ok(());
+    }
+    types.push(group)?;
     Ok(())
 }
 
-/// Puts the entries of the event of that number into the indexes of those of other numbers, and adds them to the groups.
-fn put_event(
+/// Adds the entries of each group.
+fn add_groups(types: &mut Vec<TypeEntries>, groups: Vec<TypeEntries>) -> Result<(), Refusal>
+    requires { HaveOwnTypes types.old.items }
+    ensures entries { OnOk result ((k : AnyType) → entries_under types.new.items k ≡ entries_under types.old.items k ++ entries_under groups.items k) }
+    ensures types { OnOk result (HaveOwnTypes types.new.items) }
+    ensures refusal { OnlyNoMemory result }
+{
+    for group in groups {
+        add_group(types, group)?;
+    }
+    Ok(())
+}
+
+/// Adds the entries of the event of that number, where there is one.
+fn add_event(
     alloc: Global,
     tie: Tie,
     book: &Book,
     number: u64,
-    indexes: &mut Indexes,
-    entries: &mut Vec<TypeEntries>,
+    types: &mut Vec<TypeEntries>,
 ) -> Result<(), Refusal>
-    requires indexed { (done : List ℕ) × (has_number done number ≡ false) × IsIndexOf tie (chosen book.now.objects.events done) indexes.old }
-    ensures indexed { OnOk result ((done : List ℕ) → has_number done number ≡ false → IsIndexOf tie (chosen book.now.objects.events done) indexes.old → IsIndexOf tie (chosen book.now.objects.events (done ++ number ∷ [])) indexes.new) }
-    ensures entries { OnOk result ((done : List ℕ) → has_number done number ≡ false → AreWindowsOf book.now.objects.events [] done (entries_under entries.old.items) → AreWindowsOf book.now.objects.events [] (done ++ number ∷ []) (entries_under entries.new.items)) }
+    requires { HaveOwnTypes types.old.items }
+    ensures entries { OnOk result ((k : AnyType) → entries_under types.new.items k ≡ entries_under types.old.items k ++ map (ranked tie) (all_of (numbered book.now.objects.events number) k)) }
+    ensures types { OnOk result (HaveOwnTypes types.new.items) }
     ensures refusal { OnlyNoMemory result }
 {
-    book.book_laws();
-    exchange_laws();
     let Some(event) = book.event_by(number) else {
         return Ok(());
     };
-    let mut groups = event_entries(alloc, tie, event, number)?;
-    put_in(alloc, indexes, groups.as_slice())?;
-    entries.append(&mut groups)?;
+    let groups = event_entries(alloc, tie, event, number)?;
+    add_groups(types, groups)?;
     Ok(())
 }
 
-/// The entries of the events of the numbers: indexed, and added to the groups.
+/// The entries of the events of the numbers, each payload type once.
 pub(crate) fn gather(
     alloc: Global,
     tie: Tie,
     book: &Book,
     numbers: &[u64],
-    entries: &mut Vec<TypeEntries>,
-) -> Result<Indexes, Refusal>
+) -> Result<Vec<TypeEntries>, Refusal>
     requires order { IsStrictlyIncreasing numbers.now }
-    requires none { entries.old.items ≡ [] }
-    ensures indexed { IfOk result (IsIndexOf tie (chosen book.now.objects.events numbers.now)) }
-    ensures entries { OnOk result (AreWindowsOf book.now.objects.events [] numbers.now (entries_under entries.new.items)) }
+    ensures types { IfOk result (λ types. HaveOwnTypes types.items) }
+    ensures fresh { IfOk result (λ types. (k : AnyType) → AreNew (entries_under types.items k) []) }
+    ensures indexed { IfOk result (λ types. (indexes : AnyIndexes) → ((k : AnyType) → HaveSame (under indexes k) (entries_under types.items k)) → IsIndexOf tie (chosen book.now.objects.events numbers.now) indexes) }
+    ensures windows { IfOk result (λ types. AreWindowsOf book.now.objects.events [] numbers.now (entries_under types.items)) }
     ensures refusal { OnlyNoMemory result }
 {
-    let mut indexes = Indexes::new(alloc);
+    book.book_laws();
+    filling_laws();
+    let mut types = Vec::new(alloc);
     let mut rest = numbers;
     'rest: while let Some((number, more)) = rest.split_first() {
-        put_event(alloc, tie, book, *number, &mut indexes, entries)?;
+        add_event(alloc, tie, book, *number, &mut types)?;
         rest = more;
     }
-    Ok(indexes)
+    Ok(types)
 }
 
 /// The numbers of the writes of all events, in order of the events.
@@ -95,14 +122,14 @@ fn all_numbers(alloc: Global, book: &Book) -> Result<Vec<u64>, Refusal>
 }
 
 /// The entries of all events of the book, by payload type. `NoMemory` where there is no room. Cost: each event is laid
-/// out once, and its entries are put into the index of their type.
+/// out once, its types are looked for among those so far, and the index of each type is filled at once.
 pub fn index_all(alloc: Global, tie: Tie, book: &Book) -> Result<Indexes, Refusal>
     ensures indexed { IfOk result (IsIndexOf tie book.now.objects.events) }
     ensures refusal { OnlyNoMemory result }
 {
     let numbers = all_numbers(alloc, book)?;
     let writes = Writes::of(numbers);
-    let mut entries = Vec::new(alloc);
-    let indexes = gather(alloc, tie, book, writes.numbers(), &mut entries)?;
+    let types = gather(alloc, tie, book, writes.numbers())?;
+    let indexes = Indexes::of(alloc, types)?;
     Ok(indexes)
 }

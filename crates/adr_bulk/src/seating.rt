@@ -40,7 +40,8 @@ fn build_all<R: Threads + Sync>(
 }
 
 /// The groups of all resources of the book, each built once from nothing by one of many threads, whatever the number of
-/// resources that share it. `NoMemory` where there is no room.
+/// resources that share it. Which events apply to a resource is asked by many threads before. `NoMemory` where there is no
+/// room.
 ///
 /// Cost: for each resource that of `Audiences::events_for`; for each group an index of the entries of its own events, and
 /// a timeline of them for each of their types.
@@ -55,7 +56,7 @@ pub fn seat_all<R: Threads + Sync>(
     ensures seated { IfOk result (AreSeatedFor tie book.now.objects) }
     ensures refusal { OnlyNoMemory result }
 {
-    let plan = plan_all(alloc, book, keys)?;
+    let plan = plan_all(rt, alloc, book, keys)?;
     let groups = build_all(rt, alloc, tie, book, plan.jobs.as_slice())?;
     let schedule = Schedule::of(alloc, plan.slots.as_slice(), groups.as_slice())?;
     Ok(schedule)

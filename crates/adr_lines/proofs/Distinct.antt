@@ -53,7 +53,7 @@ distinct_others_all (x ∷ xs) es d = distinct_others_all xs (others x es) (dist
 
 -- ---- inserted
 
-one_more : (w p : ℕ) (e : Entry) (es : List Entry) → length (filter (is_entry w p) (inserted e es)) ≡ cond (is_entry w p e) 1 0 + length (filter (is_entry w p) es)
+pub one_more : (w p : ℕ) (e : Entry) (es : List Entry) → length (filter (is_entry w p) (inserted e es)) ≡ cond (is_entry w p e) 1 0 + length (filter (is_entry w p) es)
 one_more w p e es =
     let first = filter (λ x. is_listed_before x e) es in
     let last = filter (λ x. not (is_listed_before x e)) es in
@@ -96,7 +96,7 @@ one_is p xs e m h = by (filter p xs) (In-filter p xs e m h)
     by [] n = absurd n
     by (y ∷ ys) n = omega arith
 
-count_cons : (p : Entry → Bool) (e : Entry) (es : List Entry) → length (filter p (e ∷ es)) ≡ cond (p e) 1 0 + length (filter p es)
+pub count_cons : (p : Entry → Bool) (e : Entry) (es : List Entry) → length (filter p (e ∷ es)) ≡ cond (p e) 1 0 + length (filter p es)
 count_cons p e es = by (p e)
   where
     by : (b : Bool) → length (cond b (e ∷ filter p es) (filter p es)) ≡ cond b 1 0 + length (filter p es)

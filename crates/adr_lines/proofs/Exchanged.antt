@@ -1,5 +1,5 @@
 -- The entries of the new events, after some events went and others came.
-use Rattle.std.proofs.Common.{◌≡◌, ◌==◌, ◌⊎◌, inl, inr, Bool, true, false, List, map, refl, ap, sym, subst, ◌∙◌, eqb-true, eq-eqb}
+use Rattle.std.proofs.Common.{◌≡◌, ◌==◌, ◌⊎◌, inl, inr, Bool, true, false, List, [], map, refl, ap, sym, subst, ◌∙◌, eqb-true, eq-eqb}
 use Rattle.std.specs.List.{list_any}
 use Rattle.std.proofs.lemmas.Bool.{both_ways}
 use Rattle.adr_value.specs.declared.payload.PayloadType.{PayloadType}
@@ -15,7 +15,7 @@ use Rattle.adr_repair.proofs.Inside.{number_of_entry}
 use Rattle.adr_repair.proofs.Marks.{events_apart}
 use Rattle.adr_index.specs.Index.{inserted_all, others_all, AreNew}
 use Rattle.adr_stretch.specs.Right.{all_of, HaveSame}
-use Rattle.adr_lines.specs.Exchange.{FitsTheIndex, IsExchange, IsIndexOf, IsUndone, KeepsTheIndex, MakesTheIndex}
+use Rattle.adr_lines.specs.Exchange.{AreApart, FillsTheIndex, FitsTheIndex, IsExchange, IsIndexOf, IsUndone, KeepsTheIndex, MakesTheIndex}
 use Rattle.adr_lines.proofs.Held.{are_new, elsewhere, not_elsewhere, ranked_apart, In-inserted_all, In-from_inserted_all, In-others_all, In-from_others_all}
 
 -- ---- ranked entries of events
@@ -109,6 +109,22 @@ makes_the_index tie old new gone come before after leaving entering x held out i
 pub keeps_the_index : (tie : Tie) → KeepsTheIndex tie
 unfolding IsIndexOf
 keeps_the_index tie events before after held same k = rw (same k) (held k)
+
+-- ---- all at once
+
+pub apart_entries : (tie : Tie) → AreApart tie
+apart_entries tie events groups own given k =
+    rw (given k) (are_new (all_ranked tie events k) [] (ranked_apart tie (all_of events k) (events_apart k events own)) (λ x y m n. absurd n))
+
+pub fills_the_index : (tie : Tie) → FillsTheIndex tie
+unfolding IsIndexOf
+fills_the_index tie events given indexes groups same are filled k e = (
+  λ m. moved given events (λ w. (same w).0) (subst (λ (es : List Entry). In e es) (are k) ((filled k e).0 m)),
+  λ m. (filled k e).1 (subst (λ (es : List Entry). In e es) (sym (are k)) (moved events given (λ w. (same w).1) m)),
+)
+  where
+    moved : (ws vs : List Written) → ((w : Written) → In w ws → In w vs) → In e (all_ranked tie ws k) → In e (all_ranked tie vs k)
+    moved ws vs all m = let o = of_events tie ws k e m in of_others tie ws vs k e o (all o.event o.there)
 
 -- ---- the other way round
 

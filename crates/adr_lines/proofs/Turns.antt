@@ -70,7 +70,7 @@ pub length_turn : (g : TypeEntries) (more : List TypeEntries) (k : PayloadType)
     → length (entries_under (g ∷ more) k) ≡ length (own_entries g k) + length (entries_under more k)
 length_turn g more k = length-append (own_entries g k) (entries_under more k)
 
-own_all : (g : TypeEntries) → own_entries g g.payload_type ≡ g.entries.items
+pub own_all : (g : TypeEntries) → own_entries g g.payload_type ≡ g.entries.items
 own_all g = rw (own_type g.payload_type) refl
 
 pub fresh_here : (g : TypeEntries) (more : List TypeEntries) (es : List Entry) → AreNew (entries_under (g ∷ more) g.payload_type) es → AreNew g.entries.items es

@@ -1,5 +1,5 @@
 -- Events that go and come, and the entries that are indexed before and after.
-use Rattle.std.specs.Prelude.{◌≡◌, ◌↔◌, ◌⊎◌, ◌==◌, ◌≤◌, List, length, map}
+use Rattle.std.specs.Prelude.{◌≡◌, ◌↔◌, ◌⊎◌, ◌==◌, ◌≤◌, List, [], length, map}
 use Rattle.std.specs.List.{IsDistinct}
 use Rattle.adr_value.specs.declared.payload.PayloadType.{PayloadType}
 use Rattle.adr_model.specs.declared.entry.Tie.{Tie}
@@ -67,3 +67,17 @@ KeepsTheIndex tie =
 -- what came can go again, for what went
 abbrev pub IsUndone : Type 0
 IsUndone = (old new gone come : List Written) → IsExchange old new gone come → IsExchange new old come gone
+
+-- no entry of events of different numbers stands twice
+abbrev pub AreApart : Tie → Type 0
+AreApart tie =
+    (events : List Written) (groups : List TypeEntries) → HaveOwnNumbers events → AreEntriesOf tie events groups
+    → (payload_type : PayloadType) → AreNew (entries_under groups payload_type) []
+
+-- with the entries of the groups, the events whose entries those are are indexed, in whatever order they come
+abbrev pub FillsTheIndex : Tie → Type 0
+FillsTheIndex tie =
+    (events given : List Written) (indexes : Indexes) (groups : List TypeEntries)
+    → ((w : Written) → In w given ↔ In w events) → AreEntriesOf tie given groups
+    → ((payload_type : PayloadType) → HaveSame (under indexes payload_type) (entries_under groups payload_type))
+    → IsIndexOf tie events indexes

@@ -8,6 +8,7 @@ use adr_stretch::TypeEntries;
 use adr_value::{PayloadType, Refusal};
 use indexmap::IndexMap;
 use std::alloc::Global;
+use std::mem;
 
 /// The entries of all events, an index for each payload type.
 pub struct Indexes {
@@ -24,13 +25,15 @@ impl Drop for Indexes {
 }
 
 impl Indexes {
-    ghost use Rattle.std.specs.Prelude.{◌≡◌, ◌+◌, ◌≤◌, [], true, length, IfOk, OnOk};
+    ghost use Rattle.std.specs.Prelude.{◌≡◌, ◌+◌, ◌≤◌, [], true, false, length, IfOk, OnOk};
     ghost use Rattle.std.specs.Option.{option_copied, option_map_or};
     ghost use Rattle.adr_value.specs.Answer.{OnlyNoMemory};
+    ghost use Rattle.adr_value.specs.Same.{same_type};
     ghost use Rattle.adr_value.specs.declared.payload.PayloadType.{PayloadType as AnyType};
     ghost use Rattle.adr_model.specs.declared.entry.Tie.{Tie};
-    ghost use Rattle.adr_index.specs.Index.{inserted_all, others_all, AreNew};
-    ghost use Rattle.adr_stretch.specs.Grouped.{entries_under};
+    ghost use Rattle.adr_index.specs.Index.{inserted_all, others_all, AreDistinct, AreNew};
+    ghost use Rattle.adr_stretch.specs.Grouped.{entries_under, HaveOwnTypes};
+    ghost use Rattle.adr_stretch.specs.Right.{HaveSame};
     ghost use Rattle.adr_lines.specs.Exchange.{IsIndexOf};
     ghost use Rattle.adr_lines.specs.Indexes.{has_type, own_entries, spare_under, under, wanted_under};
 
@@ -42,6 +45,35 @@ impl Indexes {
         Indexes {
             by_name: IndexMap::new(alloc),
         }
+    }
+
+    /// Puts the entries of the group, which are all of its type, into an index of their own.
+    fn fill(&mut self, alloc: Global, mut group: TypeEntries) -> Result<(), Refusal>
+        requires distinct { AreDistinct group.entries.items }
+        ensures own { OnOk result ((k : AnyType) → same_type group.payload_type k ≡ true → HaveSame (under self.new k) group.entries.items) }
+        ensures others { OnOk result ((k : AnyType) → same_type group.payload_type k ≡ false → under self.new k ≡ under self.old k) }
+        ensures memory { OnlyNoMemory result }
+    {
+        let name = group.payload_type.name().to_string(alloc)?;
+        let entries = mem::replace(&mut group.entries, Vec::new(alloc));
+        let index = Index::of(alloc, entries)?;
+        self.by_name.insert(name, index)?;
+        Ok(())
+    }
+
+    /// The entries of the groups, the index of each type filled at once. `NoMemory` where there is no room. Cost: that
+    /// of sorting the entries of each type, and some steps for each.
+    pub fn of(alloc: Global, groups: Vec<TypeEntries>) -> Result<Indexes, Refusal>
+        requires types { HaveOwnTypes groups.items }
+        requires fresh { (k : AnyType) → AreNew (entries_under groups.items k) [] }
+        ensures entries { IfOk result (λ indexes. (k : AnyType) → HaveSame (under indexes k) (entries_under groups.items k)) }
+        ensures memory { OnlyNoMemory result }
+    {
+        let mut indexes = Indexes::new(alloc);
+        for group in groups {
+            indexes.fill(alloc, group)?;
+        }
+        Ok(indexes)
     }
 
     /// The same entries under each type, in memory of their own. `NoMemory` where there is no room. Cost: all entries.

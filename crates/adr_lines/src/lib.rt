@@ -6,4 +6,4 @@ mod indexes;
 mod laws;
 
 pub use indexes::Indexes;
-pub use laws::{exchange_laws, index_laws};
+pub use laws::{exchange_laws, filling_laws, index_laws};

@@ -1,5 +1,5 @@
-use Rattle.std.proofs.Common.{sym, ap, ◌∙◌}
-use Rattle.adr_bulk.proofs.Choosing.{next_number, number_there}
+use Rattle.std.proofs.Common.{sym, ◌∙◌}
+use Rattle.adr_bulk.proofs.Choosing.{next_number}
 use Rattle.adr_bulk.proofs.gathering.all_numbers.Goals as goal
 
 pub loop-place-preserved : goal.loop-place-preserved

@@ -1,23 +1,46 @@
-use Rattle.std.proofs.Common.{◌≡◌, sym, ap, subst, ◌∙◌}
-use Rattle.adr_stretch.specs.Grouped.{entries_under}
-use Rattle.adr_lines.specs.Exchange.{IsIndexOf}
-use Rattle.adr_group.specs.Group.{AreWindowsOf}
-use Rattle.adr_bulk.specs.Bulk.{chosen}
-use Rattle.adr_bulk.proofs.Choosing.{all_gathered, next_apart, next_gathered, none_gathered}
+use Rattle.std.proofs.Common.{◌++◌, ap, sym, subst}
+use Rattle.adr_stretch.specs.Grouped.{entries_under, HaveOwnTypes}
+use Rattle.adr_stretch.proofs.Groups.{no_types}
+use Rattle.adr_model.proofs.Events.{one_write}
+use Rattle.adr_bulk.specs.Bulk.{chosen, in_turn}
+use Rattle.adr_bulk.proofs.Gathered.{all_in_turn, apart_in_turn, entries_in_turn, next_event, same_chosen, windows_in_turn}
 use Rattle.adr_bulk.proofs.gathering.gather.Goals as goal
 
 pub rest-init : goal.rest-init
-rest-init c = none_gathered c.args.tie c.args.book.now.objects.events c.args.numbers.now c.new-indexes.result c.args.entries.now.items c.requires.order (c.new-indexes.ensures.index c.args.tie)
-
-pub put_event-requires : goal.put_event-requires
-put_event-requires c =
-    let g = c.rest.invariant in
-    record { indexed = (g.done, next_apart c.args.tie c.args.book.now.objects.events c.args.numbers.now c.rest.rest.now c.in-Some.more.now c.in-Some.number.now c.rest.indexes c.rest.entries.items c.in-Some.ensures.cases.0 g, g.indexed) }
+rest-init c = record {
+  entries = λ k. ap (λ gs. entries_under gs k ++ entries_in_turn c.args.tie c.args.book.now.objects.events c.args.numbers.now k) c.new-types.ensures.items;
+  types = subst HaveOwnTypes (sym c.new-types.ensures.items) no_types;
+}
 
 pub rest-preserved : goal.rest-preserved
 rest-preserved c =
-    let g = c.rest.invariant in
-    let first = c.in-Some.ensures.cases.0 in
-    let apart = next_apart c.args.tie c.args.book.now.objects.events c.args.numbers.now c.rest.rest.now c.in-Some.more.now c.in-Some.number.now c.rest.indexes c.rest.entries.items first g in
-    next_gathered c.args.tie c.args.book.now.objects.events c.args.numbers.now c.rest.rest.now c.in-Some.more.now c.in-Some.number.now c.rest.indexes c.put_event.new.indexes c.rest.entries.items c.put_event.new.entries.items first g
-    (c.in_ok-put_event.ensures.indexed g.done apart g.indexed) (c.in_ok-put_event.ensures.entries g.done apart g.windows)
+    let events = c.args.book.now.objects.events in
+    record {
+      entries = λ k.
+          next_event c.args.tie events c.rest.rest.now c.in-Some.more.now c.in-Some.number.now k (entries_under c.rest.types.items k) (entries_under c.add_event.new.types.items k)
+          (entries_in_turn c.args.tie events c.args.numbers.now k) c.in-Some.ensures.cases.0 (c.in_ok-add_event.ensures.entries k) (c.rest.invariant.entries k);
+      types = c.in_ok-add_event.ensures.types;
+    }
+
+pub returns-clause-fresh : goal.returns-clause-fresh
+returns-clause-fresh c =
+    let events = c.args.book.now.objects.events in
+    let numbers = c.args.numbers.now in
+    c.filling_laws.ensures.apart c.args.tie (in_turn events numbers) c.rest.types.items (apart_in_turn events numbers c.requires.order)
+    (λ k. all_in_turn c.args.tie events c.rest.rest.now k (entries_under c.rest.types.items k) (entries_in_turn c.args.tie events numbers k) c.in_default.ensures.cases (c.rest.invariant.entries k))
+
+pub returns-clause-indexed : goal.returns-clause-indexed
+returns-clause-indexed c indexes filled =
+    let events = c.args.book.now.objects.events in
+    let numbers = c.args.numbers.now in
+    c.filling_laws.ensures.fills c.args.tie (chosen events numbers) (in_turn events numbers) indexes c.rest.types.items
+    (same_chosen events (one_write events c.book_laws.ensures.whole.sound.writes) numbers)
+    (λ k. all_in_turn c.args.tie events c.rest.rest.now k (entries_under c.rest.types.items k) (entries_in_turn c.args.tie events numbers k) c.in_default.ensures.cases (c.rest.invariant.entries k))
+    filled
+
+pub returns-clause-windows : goal.returns-clause-windows
+returns-clause-windows c =
+    let events = c.args.book.now.objects.events in
+    let numbers = c.args.numbers.now in
+    windows_in_turn events (one_write events c.book_laws.ensures.whole.sound.writes) numbers c.args.tie c.rest.types.items
+    (λ k. all_in_turn c.args.tie events c.rest.rest.now k (entries_under c.rest.types.items k) (entries_in_turn c.args.tie events numbers k) c.in_default.ensures.cases (c.rest.invariant.entries k))

@@ -1,11 +1,16 @@
-use Rattle.std.proofs.Common.{length}
-use Rattle.std.specs.List.Sorted.{IsStrictlyIncreasing}
-use Rattle.adr_bulk.proofs.Choosing.{HasGathered}
+use Rattle.std.proofs.Common.{◌≡◌, ◌++◌, length}
+use Rattle.adr_value.specs.declared.payload.PayloadType.{PayloadType}
+use Rattle.adr_stretch.specs.Grouped.{entries_under, HaveOwnTypes}
+use Rattle.adr_bulk.proofs.Gathered.{entries_in_turn}
 use Rattle.adr_bulk.proofs.gathering.gather.Given as goal
 
--- the events of the numbers so far are gathered, and those that are left are above them
+-- the entries so far, with those of the numbers that are left, are all
 abbrev pub invariant-rest : goal.invariant-rest
-invariant-rest l = HasGathered l.tie l.book.objects.events l.numbers l.rest l.indexes l.entries.items
+invariant-rest l = record {
+  entries : (k : PayloadType) →
+      entries_under l.types.items k ++ entries_in_turn l.tie l.book.objects.events l.rest k ≡ entries_in_turn l.tie l.book.objects.events l.numbers k;
+  types : HaveOwnTypes l.types.items;
+}
 
 abbrev pub decreases-rest : goal.decreases-rest
 decreases-rest l = length l.rest

@@ -9,4 +9,4 @@ returns-clause-indexed c =
     let events = c.args.book.now.objects.events in
     subst (λ ws. IsIndexOf c.args.tie ws c.in_ok-indexes.indexes)
     (all_chosen events c.in_ok-numbers.numbers.items c.numbers.result.now c.in_ok-numbers.ensures.ok (λ n. ap (λ ns. has_number ns n) c.numbers.ensures.numbers ∙ c.of-writes.ensures n))
-    c.in_ok-indexes.ensures.indexed
+    (c.in_ok-types.ensures.indexed c.in_ok-indexes.indexes c.in_ok-indexes.ensures.entries)

@@ -1,4 +1,4 @@
-use Rattle.std.proofs.Common.{◌≡◌, ◌<◌, length, slice_get, ap, sym, subst, ◌∙◌}
+use Rattle.std.proofs.Common.{◌<◌, length, slice_get, ap, sym, subst, ◌∙◌}
 use Rattle.std.specs.List.{AllZip}
 use Rattle.std.specs.Option.{option_and_then}
 use Rattle.adr_bulk.specs.Bulk.{IsGroupFor}

@@ -1,6 +1,10 @@
+use Rattle.std.proofs.Common.{◌≤◌, ◌-◌, length}
 use Rattle.adr_bulk.specs.Bulk.{ArePlanned}
 use Rattle.adr_bulk.proofs.sharing.plan_all.Given as goal
 
--- the resources before the place have their slots
-abbrev pub invariant-loop-place : goal.invariant-loop-place
-invariant-loop-place l = ArePlanned l.book.objects l.place l.slots.items l.jobs.items
+-- the resources before have their slots
+abbrev pub invariant-rest : goal.invariant-rest
+invariant-rest g l = ArePlanned l.book.objects (length l.slots.items) l.slots.items l.jobs.items × (length l.slots.items ≤ length l.book.objects.resources)
+
+abbrev pub decreases-rest : goal.decreases-rest
+decreases-rest g l = length l.book.objects.resources - length l.slots.items

@@ -1,8 +1,5 @@
-use Rattle.std.proofs.Common.{◌≤ℤ◌, true, ap, sym, subst, ◌∙◌}
-use Rattle.adr_value.specs.Payload.{name_of}
-use Rattle.adr_value.specs.Same.{same_type}
+use Rattle.std.proofs.Common.{ap, sym, ◌∙◌}
 use Rattle.adr_lines.specs.Indexes.{has_type}
-use Rattle.adr_stretch.specs.Grouped.{any_covers_at}
 use Rattle.adr_bulk.proofs.Covering.{held_covers, late_in, own_same, pushed_covers}
 use Rattle.adr_bulk.proofs.windows.add_window.Goals as goal
 
