@@ -48,7 +48,7 @@ fn create_all(alloc: Global, book: &mut Book, kind: Kind, count: usize) -> Resul
 
 fn fill(alloc: Global, book: &mut Book, count: usize) -> Result<(), Refusal> {
     create_all(alloc, book, Kind::Program, count / GROUP)?;
-    create_all(alloc, book, Kind::Ven, count / GROUP)?;
+    create_all(alloc, book, Kind::Ven, count)?;
     create_all(alloc, book, Kind::Resource, count)?;
     create_all(alloc, book, Kind::Event, count)
 }
@@ -64,7 +64,7 @@ fn filled(book: Book, made: Result<(), Refusal>) -> Result<Book, Refusal> {
     }
 }
 
-/// A book of so many resources and as many events, in whole groups.
+/// A book of so many vens, resources and events each, in whole groups.
 pub(crate) fn book_of_many(alloc: Global, count: usize) -> Result<Book, Refusal> {
     let mut book = Book::new(alloc);
     let made = fill(alloc, &mut book, count);

@@ -1,5 +1,6 @@
 //! Balanced trees whose copies share their nodes.
 ghost use Rattle.std.specs.Prelude.{◌≡◌, ◌+◌, ◌/◌, ◌^◌, ◌≤◌, max, [], ◌∷◌, ◌++◌, length, slice_get, option_map, ◌-◌, ◌<◌, IfSome, MatchResult};
+ghost use Rattle.std.specs.Arc.{arc_value};
 ghost use Rattle.std.specs.Option.{option_copied};
 ghost use Rattle.adr_value.specs.Copy.{IsCopyOf};
 ghost use Rattle.adr_value.specs.declared.refusal.Refusal.TheVariants.{NoMemory};
@@ -181,17 +182,11 @@ impl<K: Key, V: TryClone> Tree<K, V> {
     {
         match &self.node {
             None => fork(alloc, Tree::new(), key, value, Tree::new()),
-            Some(node) => {
-                let node: &Node<K, V> = node;
+            Some(shared) => {
+                let node: &Node<K, V> = shared;
                 match key.compare(&node.key) {
                     Ordering::Less => node.with_left(alloc, node.left.put(alloc, key, value)?),
-                    Ordering::Equal => fork(
-                        alloc,
-                        node.left.copy()?,
-                        key,
-                        value,
-                        node.right.copy()?,
-                    ),
+                    Ordering::Equal => with_entry(alloc, shared, key, value),
                     Ordering::Greater => node.with_right(alloc, node.right.put(alloc, key, value)?),
                 }
             }
@@ -275,6 +270,19 @@ impl<K: Key, V: TryClone> Node<K, V> {
             right,
         )
     }
+}
+
+// The tree with a node's sides and another entry. The node may have other owners, so it stays as it is.
+fn with_entry<K: Key, V: TryClone>(
+    alloc: Global,
+    node: &Arc<Node<K, V>>,
+    key: K,
+    value: V,
+) -> Result<Tree<K, V>, Refusal>
+    requires { DifferByAtMost 1 (arc_value node.now).left.1 (arc_value node.now).right.1 }
+    ensures { IsCopyOf result ((arc_value node.now).left.0 ++ (K.code key, value) ∷ (arc_value node.now).right.0, max (arc_value node.now).left.1 (arc_value node.now).right.1 + 1) }
+{
+    fork(alloc, node.left.copy()?, key, value, node.right.copy()?)
 }
 
 // The tree of an entry between two sides whose heights differ by at most one.

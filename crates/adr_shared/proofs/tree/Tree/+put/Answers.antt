@@ -1,5 +1,6 @@
 use Rattle.std.proofs.Common.{arith, max, ◌∷◌, ◌++◌, ◌≡◌, ◌+◌, ◌∙◌, sym, ap}
 use Rattle.std.specs.Arc.{arc_value}
+use Rattle.adr_value.specs.Copy.{IsCopyOf}
 use Rattle.adr_shared.specs.Map.{IsAscending, put}
 use Rattle.adr_shared.proofs.Edited.{rebalanced, forked, left_raised, right_raised}
 use Rattle.adr_shared.proofs.Opened.{opened, opened_ascends, left_shorter, right_shorter, node_holds}
@@ -42,15 +43,14 @@ returns-in_ok-put-in-Greater g t c =
     (λ h b. let p = right_raised c.deref-node.result.now.left.1 c.deref-node.result.now.right.1 c.in_ok-put-in-Greater.field-0.1 h node.0 edited.1 edited.2 b in (omega (arith, p, high), omega (arith, p, high)))
     c.with_right.ensures
 
-pub returns-in_ok-copy-in-Equal-2 : goal.returns-in_ok-copy-in-Equal-2
-returns-in_ok-copy-in-Equal-2 g t c =
+pub with_entry-requires : goal.with_entry-requires
+with_entry-requires g t c = rw (sym c.deref-node.ensures) (node_holds g.K.Key.code arc_value _ _ c.deref-node.result.now c.self.invariant c.in-Some.is c.deref-node.ensures).0
+
+pub returns-in-Equal : goal.returns-in-Equal
+returns-in-Equal g t c =
     let root = opened g.K.Key.code arc_value _ _ c.deref-node.result.now _ c.self.view_is c.in-Some.is c.deref-node.ensures in
     let node = node_holds g.K.Key.code arc_value _ _ c.deref-node.result.now c.self.invariant c.in-Some.is c.deref-node.ensures in
     let high : c.args.self.now.1 ≡ max c.deref-node.result.now.left.1 c.deref-node.result.now.right.1 + 1 = ap (λ d. d.1) root ∙ node.1 in
     let same = ap (λ d. put (g.K.Key.code c.args.key) c.args.value d.0) root ∙ put_at (g.K.Key.code c.args.key) c.args.value _ _ _ (sym c.compare.ensures ∙ c.in-Equal.is) (opened_ascends g.K.Key.code arc_value _ _ c.deref-node.result.now _ c.self.view_is c.in-Some.is c.deref-node.ensures c.requires) in
-    let left = c.in_ok-copy-in-Equal.ensures in
-    let right = c.in_ok-copy-in-Equal-2.ensures in
-    forked _ _ _ c.args.self.now.1 (c.args.self.now.1 + 1)
-    (same ∙ ap (λ d. d.0 ++ (g.K.Key.code c.args.key, c.args.value) ∷ c.deref-node.result.now.right.0) (sym left) ∙ ap (λ d. c.in_ok-copy-in-Equal.field-0.0 ++ (g.K.Key.code c.args.key, c.args.value) ∷ d.0) (sym right))
-    (omega (arith, high, ap (λ d. d.1) left, ap (λ d. d.1) right)) (omega (arith, high, ap (λ d. d.1) left, ap (λ d. d.1) right))
-    c.fork-in-Equal-2.ensures
+    let made : IsCopyOf c.with_entry.result (c.deref-node.result.now.left.0 ++ (g.K.Key.code c.args.key, c.args.value) ∷ c.deref-node.result.now.right.0, max c.deref-node.result.now.left.1 c.deref-node.result.now.right.1 + 1) = rw c.deref-node.ensures c.with_entry.ensures in
+    forked _ _ _ c.args.self.now.1 (c.args.self.now.1 + 1) same (omega (arith, high)) (omega (arith, high)) made
