@@ -5,6 +5,7 @@ pub mod Compared
 pub mod Joined
 pub mod Laid
 pub mod Least
+pub mod Listed
 pub mod Merged
 pub mod Pieces
 pub mod Runs

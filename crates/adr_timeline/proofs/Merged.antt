@@ -1,8 +1,10 @@
 -- Two lists of steps merged into one.
-use Rattle.std.proofs.Common.{◌≡◌, ℕ, ◌+◌, ◌-◌, ◌<◌, ◌≤◌, Bool, true, false, List, [], ◌∷◌, ◌++◌, length, take, drop, get_or, Option, None, refl, sym, ◌∙◌, ap, arith, ℤ, pos, ◌≤ℤ◌, ◌<ℤ◌, int_le, int_lt, inl, inr}
+use Rattle.std.proofs.Common.{◌≡◌, ℕ, ◌+◌, ◌-◌, ◌<◌, ◌≤◌, Bool, true, false, List, [], ◌∷◌, ◌++◌, length, take, drop, get_or, slice_get, Option, Some, None, refl, sym, ◌∙◌, ap, arith, ℤ, pos, ◌≤ℤ◌, ◌<ℤ◌, int_le, int_lt, inl, inr}
+use Rattle.std.proofs.Math.Nat.{lt_of_not-le}
 use Rattle.std.proofs.lemmas.Int.{ints, by_lt_z}
-use Rattle.std.proofs.lemmas.Bool.{cases_Bool}
+use Rattle.std.proofs.lemmas.Bool.{cases_Bool, false≢true}
 use Rattle.std.proofs.lemmas.List.{append_assoc, append-nil, drop_more, drop_all, length-append, length-drop, take_all}
+use Rattle.std.proofs.lemmas.Option.{get_or_from_slice_get, none-some, same_Some, slice_get_within}
 use Rattle.adr_model.specs.declared.entry.Rank.{Rank}
 use Rattle.adr_timeline.specs.declared.step.Step.{Step}
 use Rattle.adr_timeline.specs.Steps.{lesser, rank_from, IsFrom, IsInOrder, IsMergeOf, goes_left}
@@ -148,12 +150,24 @@ merge_done left right done a b i j now start so_far l r in_left in_right =
 pub added_more : (old out new done : List Step) (s : Step) → out ≡ old ++ done → new ≡ out ++ s ∷ [] → new ≡ old ++ (done ++ s ∷ [])
 added_more old out new done s h n = rw (n, h) (append_assoc old done (s ∷ []))
 
+-- the first steps of both decide
+pub first_left : (left right : List Step) (j : ℕ) (x y : Step) → Some x ≡ slice_get left 0 → slice_get right j ≡ Some y → int_le x.from y.from ≡ goes_left left (drop j right)
+first_left [] right j x y h k = absurd (none-some x (sym h))
+first_left (z ∷ left) right j x y h k = rw (drop_more right j y (slice_get_within right j y k), get_or_from_slice_get right j y y k) (ap (λ (s : Step). int_le s.from y.from) (same_Some x z h))
+
+-- there is a next step
+pub left_there : (left right : List Step) (i j : ℕ) → goes_left (drop i left) (drop j right) ≡ true → j < length right → i < length left
+left_there left right i j g lt = lt_of_not-le (λ le. false≢true (rw (drop_all i left le, drop_more right j no_step lt) at g))
+
+pub right_there : (left right : List Step) (i j : ℕ) → goes_left (drop i left) (drop j right) ≡ false → j < length right
+right_there left right i j g = lt_of_not-le (λ le. false≢true (sym (rw (drop_all j right le) at g)))
+
 -- a slice from a place on is what is left there
 rest_is : (xs : List Step) (i : ℕ) → take (length xs - i) (drop i xs) ≡ drop i xs
 rest_is xs i = take_all (length xs - i) (drop i xs) (rw (length-drop i xs) (omega arith))
 
-pub goes_rest : (left right : List Step) (i j : ℕ) (x : Bool) → x ≡ goes_left (take (length left - i) (drop i left)) (take (length right - j) (drop j right)) → x ≡ goes_left (drop i left) (drop j right)
-goes_rest left right i j x h = rw (rest_is left i, rest_is right j) at h
+pub goes_rest : (left right : List Step) (i : ℕ) (x : Bool) → x ≡ goes_left (take (length left - i) (drop i left)) right → x ≡ goes_left (drop i left) right
+goes_rest left right i x h = rw (rest_is left i) at h
 
 pub begun_at : (left right done : List Step) (a a' b b' : Option Rank) (i i' j j' now start : ℕ) → a ≡ a' → b ≡ b' → i ≡ i' → j ≡ j' → IsBegun left right done a' b' i' j' now start → IsBegun left right done a b i j now start
 begun_at left right done a a' b b' i i' j j' now start p q r s m = rw (p, q, r, s) m

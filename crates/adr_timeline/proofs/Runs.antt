@@ -1,5 +1,5 @@
 -- The steps of entries that come one after the other.
-use Rattle.std.proofs.Common.{◌≡◌, true, not, ◌&&◌, List, [], ◌∷◌, ◌++◌, map, Option, Some, None, refl, sym, ◌∙◌, ap, arith, ℤ, int_le, int_lt}
+use Rattle.std.proofs.Common.{◌≡◌, ◌+◌, ◌*◌, ◌≤◌, true, not, ◌&&◌, List, [], ◌∷◌, ◌++◌, length, map, Option, Some, None, refl, sym, ◌∙◌, ap, arith, ℤ, int_le, int_lt}
 use Rattle.std.proofs.lemmas.Int.{ints}
 use Rattle.std.proofs.lemmas.Bool.{false≢true, and_parts}
 use Rattle.adr_time.specs.Spans.{is_before}
@@ -12,7 +12,7 @@ use Rattle.adr_model.specs.declared.timeline.Segment.{Segment}
 use Rattle.adr_timeline.specs.declared.step.Step.{Step}
 use Rattle.adr_timeline.specs.Build.{Takes}
 use Rattle.adr_timeline.specs.Parts.{joined_all, part}
-use Rattle.adr_timeline.specs.Steps.{Adds, AreRanked, goes_left, down_at, own_segment, pieces, steps_of, starts_from, is_run, steps_in_turn, winner_of_rank}
+use Rattle.adr_timeline.specs.Steps.{Adds, AreRanked, IsMergeOf, goes_left, down_at, own_segment, pieces, steps_of, starts_from, is_run, steps_in_turn, winner_of_rank}
 use Rattle.adr_timeline.proofs.Merged.{IsMerge, merge_none, merge_left, merge_right, order_of}
 use Rattle.adr_timeline.proofs.Least.{rank_append}
 use Rattle.adr_timeline.proofs.Stepped.{steps_rank, steps_order, steps_few}
@@ -27,10 +27,10 @@ merge_rest : (b : Option Rank) (rest : List Step) → IsMerge None b [] rest res
 merge_rest b [] = merge_none None b
 merge_rest b (s ∷ ss) = merge_right None b s.rank s [] ss ss refl refl (merge_rest s.rank ss)
 
-abbrev up : ℤ → Rank → Step
+abbrev pub up : ℤ → Rank → Step
 up a r = record { from = a; rank = Some r }
 
-abbrev down : ℤ → Step
+abbrev pub down : ℤ → Step
 down u = record { from = u; rank = None }
 
 le_of_not : (u t : ℤ) → not (int_lt t u) ≡ true → int_le u t ≡ true
@@ -55,10 +55,10 @@ merge_entry a (At u) r rest n h =
 merge_entry a Endless r [] n h = merge_left None None (Some r) (up a r) [] [] [] refl refl (merge_none (Some r) None)
 merge_entry a Endless r (s ∷ ss) n h = absurd (false≢true h)
 
-steps_if : (e : Entry) → is_before e.span.start e.span.end ≡ true → steps_of e ≡ up e.span.start e.rank ∷ down_at e.span.end
+pub steps_if : (e : Entry) → is_before e.span.start e.span.end ≡ true → steps_of e ≡ up e.span.start e.rank ∷ down_at e.span.end
 steps_if e h = rw h refl
 
-run_parts : (e : Entry) (es : List Entry) → is_run (e ∷ es) ≡ true → (is_before e.span.start e.span.end ≡ true) × (starts_from e.span.end es ≡ true) × (is_run es ≡ true)
+pub run_parts : (e : Entry) (es : List Entry) → is_run (e ∷ es) ≡ true → (is_before e.span.start e.span.end ≡ true) × (starts_from e.span.end es ≡ true) × (is_run es ≡ true)
 run_parts e es h =
     let rest = and_parts (is_before e.span.start e.span.end && starts_from e.span.end es) (is_run es) h in
     let first = and_parts (is_before e.span.start e.span.end) (starts_from e.span.end es) rest.0 in
@@ -68,16 +68,28 @@ turn_starts : (end : End) (es : List Entry) → starts_from end es ≡ true → 
 turn_starts end [] h k = tt
 turn_starts end (e ∷ es) h k = rw (steps_if e (run_parts e es k).0) h
 
+-- the steps of one entry, merged with those of entries in turn
+pub one_ranked : (e : Entry) (es : List Entry) (steps : List Step) → AreRanked es (steps_in_turn es) → IsMergeOf (steps_of e) (steps_in_turn es) steps → AreRanked (e ∷ es) steps
+one_ranked e es steps rest merged = (
+  merged.0,
+  omega (arith, merged.1, steps_few e, rest.1),
+  λ t. merged.2 t ∙ (rw (steps_rank e t, rest.2 t) (sym (rank_append (e ∷ []) es t))),
+)
+
 pub run_ranked : (es : List Entry) → is_run es ≡ true → AreRanked es (steps_in_turn es)
 run_ranked [] h = (tt, omega arith, λ t. refl)
 run_ranked (e ∷ es) h =
     let parts = run_parts e es h in
     let rest = run_ranked es parts.2 in
-    let merged : IsMerge None None (steps_of e) (steps_in_turn es) (steps_of e ++ steps_in_turn es) = rw (steps_if e parts.0) (merge_entry e.span.start e.span.end e.rank (steps_in_turn es) parts.0 (turn_starts e.span.end es parts.1 parts.2)) in (
+    let merged : IsMerge None None (steps_of e) (steps_in_turn es) (steps_of e ++ steps_in_turn es) = rw (steps_if e parts.0) (merge_entry e.span.start e.span.end e.rank (steps_in_turn es) parts.0 (turn_starts e.span.end es parts.1 parts.2)) in
+    one_ranked e es (steps_of e ++ steps_in_turn es) rest (
       order_of (steps_of e) (steps_in_turn es) (steps_of e ++ steps_in_turn es) merged.order (steps_order e) rest.0,
-      omega (arith, merged.count, steps_few e, rest.1),
-      λ t. merged.ranks t ∙ (rw (steps_rank e t, rest.2 t) (sym (rank_append (e ∷ []) es t))),
+      merged.count,
+      λ t. merged.ranks t,
     )
+
+pub one_few : (e : Entry) (es run : List Entry) (left : List Step) → left ≡ steps_of e → run ≡ es → is_run es ≡ true → length left + length (steps_in_turn run) ≤ 2 * (1 + length es)
+one_few e es run left l r h = rw (l, r) (omega (arith, steps_few e, (run_ranked es h).1))
 
 pub run_added : (es : List Entry) (old new : List Step) → is_run es ≡ true → new ≡ old ++ steps_in_turn es → Adds (AreRanked es) old new
 run_added es old new h n = (steps_in_turn es, n, run_ranked es h)

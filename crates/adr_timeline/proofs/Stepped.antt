@@ -1,5 +1,5 @@
 -- Steps of one entry, and the segments of a list of steps.
-use Rattle.std.proofs.Common.{◌≡◌, ℕ, ◌+◌, ◌*◌, ◌-◌, ◌<◌, ◌≤◌, not, ◌&&◌, Bool, true, false, List, [], ◌∷◌, ◌++◌, length, take, drop, Option, Some, None, filter, inl, inr, if◌then◌else◌, refl, sym, ◌∙◌, ap, arith, ℤ, ◌≤ℤ◌, int_le, int_lt}
+use Rattle.std.proofs.Common.{◌≡◌, ℕ, ◌+◌, ◌*◌, ◌-◌, ◌/◌, ◌<◌, ◌≤◌, not, ◌&&◌, Bool, true, false, List, [], ◌∷◌, ◌++◌, length, take, drop, Option, Some, None, filter, inl, inr, if◌then◌else◌, refl, sym, ◌∙◌, ap, arith, ℤ, ◌≤ℤ◌, int_le, int_lt}
 use Rattle.std.specs.Option.{option_map}
 use Rattle.std.proofs.Math.Nat.{mul-le-mul_left}
 use Rattle.std.proofs.lemmas.List.{length-take-le, length-drop, take-append-drop}
@@ -14,7 +14,7 @@ use Rattle.adr_model.specs.declared.timeline.Winner.{Winner}
 use Rattle.adr_model.specs.declared.timeline.Segment.{Segment}
 use Rattle.adr_timeline.proofs.Segments.{winner_in}
 use Rattle.adr_timeline.specs.declared.step.Step.{Step}
-use Rattle.adr_timeline.specs.Steps.{Adds, AreRanked, IsMergeOf, lesser, rank_at, rank_from, IsFrom, IsInOrder, down_at, steps_of, first_from, winner_of_rank, piece, pieces}
+use Rattle.adr_timeline.specs.Steps.{Adds, AreRanked, IsMergeOf, lesser, rank_at, rank_from, IsFrom, IsInOrder, down_at, steps_of, first_from, is_run, winner_of_rank, piece, pieces}
 use Rattle.adr_time.specs.Spans.{meets}
 use Rattle.adr_time.specs.declared.span.Span.{Span}
 use Rattle.adr_model.specs.Entries.{meeting}
@@ -163,12 +163,17 @@ pub record IsHalved (front back all : List Entry) : Type 0 where
   pub front_some : 1 ≤ length front
   pub back_some : 1 ≤ length back
 
-pub halved : (front back all : List Entry) (half : ℕ) → 0 < half → half < length all → front ≡ take half all → back ≡ drop half all → IsHalved front back all
-halved front back all half some inside f b =
-    let lengths : length front ≡ half = ap length f ∙ length-take-le half all (omega arith) in
-    let rest : length back ≡ length all - half = ap length b ∙ length-drop half all in
+two_there : (all later : List Entry) (first : Entry) → all ≡ first ∷ later → is_run later ≡ false → 2 ≤ length all
+two_there all [] first p n = absurd (false≢true (sym n))
+two_there all (e ∷ es) first p n = rw p (omega arith)
+
+pub halved : (front back all : List Entry) (first : Entry) (later : List Entry) → all ≡ first ∷ later → is_run later ≡ false → front ≡ take (length all / 2) all → back ≡ drop (length all / 2) all → IsHalved front back all
+halved front back all first later p n f b =
+    let two = two_there all later first p n in
+    let lengths : length front ≡ length all / 2 = ap length f ∙ length-take-le (length all / 2) all (omega arith) in
+    let rest : length back ≡ length all - length all / 2 = ap length b ∙ length-drop (length all / 2) all in
     record {
-      parts = rw (f, b) (sym (take-append-drop half all));
+      parts = rw (f, b) (sym (take-append-drop (length all / 2) all));
       whole = omega arith;
       front_some = omega arith;
       back_some = omega arith;

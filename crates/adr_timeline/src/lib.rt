@@ -4,6 +4,7 @@
 mod build;
 mod chunk;
 mod line;
+mod list;
 mod overlay;
 mod packed;
 mod part;

@@ -1,9 +1,10 @@
 //! Steps: the least rank from moment to moment, by halves that are merged.
-ghost use Rattle.std.specs.Prelude.{◌≡◌, ◌+◌, ◌*◌, ◌<◌, ◌≤◌, ◌^◌, ℤ, [], ◌++◌, IfOk, OnOk, None, length, map};
+ghost use Rattle.std.specs.Prelude.{◌≡◌, ◌+◌, ◌*◌, ◌<◌, ◌≤◌, ◌^◌, ℤ, [], ◌++◌, ◌∷◌, IfOk, IsTrue, OnOk, None, drop, length, map};
 ghost use Rattle.adr_timeline.specs.Parts.{joined_all, part};
 ghost use Rattle.adr_timeline.specs.Steps.{Adds, AreRanked, IsInOrder, IsMergeOf, first_from, goes_left as is_left_next, is_run as are_in_turn, starts_from as starts_from_end, steps_in_turn, lesser, own_segment as segment_of, piece, pieces, rank_at, rank_from, steps_of};
 
 use crate::line::Line;
+use crate::list::{StepList, StepsInTurn};
 use crate::part::trimmed;
 use adr_model::{Entry, Rank, Segment, Winner};
 use adr_rule::{Meter, before};
@@ -37,43 +38,46 @@ fn lesser(first: Option<Rank>, second: Option<Rank>, meter: &mut Meter) -> Optio
 }
 
 /// Whether the next step is the left list's: that of the right one is not earlier.
-fn goes_left(left: &[Step], right: &[Step]) -> bool
-    ensures { result ≡ is_left_next left.now right.now }
+fn goes_left<R: StepList>(left: &[Step], right: R, passed: usize) -> bool
+    ensures { result ≡ is_left_next left.now (drop passed (R.listed right)) }
 {
-    match (left.first(), right.first()) {
-        (Some(one), Some(other)) => one.from <= other.from,
-        (None, Some(_)) => false,
-        _ => true,
+    if right.count() <= passed {
+        return true;
+    }
+    match left.first() {
+        Some(step) => step.from <= right.at(passed).from,
+        None => false,
     }
 }
 
 /// Puts two lists of steps at the end of others, merged into one that has the lesser of both at each moment. At most
 /// one comparison a step.
-pub(crate) fn merge(
+pub(crate) fn merge<R: StepList>(
     steps: &mut Vec<Step>,
     left: &[Step],
-    right: &[Step],
+    right: R,
     meter: &mut Meter,
 ) -> Result<(), AllocError>
-    requires room { meter.old + (length left.now + length right.now) < 2 ^ 128 }
+    requires room { meter.old + (length left.now + length (R.listed right)) < 2 ^ 128 }
     requires left { IsInOrder left.now }
-    requires right { IsInOrder right.now }
-    ensures merged { OnOk result (Adds (IsMergeOf left.now right.now) steps.old.items steps.new.items) }
-    ensures compared { meter.new ≤ meter.old + (length left.now + length right.now) }
+    requires right { IsInOrder (R.listed right) }
+    ensures merged { OnOk result (Adds (IsMergeOf left.now (R.listed right)) steps.old.items steps.new.items) }
+    ensures compared { meter.new ≤ meter.old + (length left.now + length (R.listed right)) }
 {
+    let count = right.count();
     let mut passed_left = 0;
     let mut passed_right = 0;
     let mut left_rank = None;
     let mut right_rank = None;
-    while passed_left < left.len() || passed_right < right.len() {
+    while passed_left < left.len() || passed_right < count {
         let from;
-        if goes_left(&left[passed_left..], &right[passed_right..]) {
+        if goes_left(&left[passed_left..], right, passed_right) {
             let step = left[passed_left];
             from = step.from;
             left_rank = step.rank;
             passed_left += 1;
         } else {
-            let step = right[passed_right];
+            let step = right.at(passed_right);
             from = step.from;
             right_rank = step.rank;
             passed_right += 1;
@@ -139,21 +143,31 @@ fn add_run(steps: &mut Vec<Step>, entries: &[Entry]) -> Result<(), AllocError>
     Ok(())
 }
 
-/// Where the entries are parted: after the first, where the others come in turn, else in their middle.
-fn cut(entries: &[Entry]) -> usize
-    requires { 2 ≤ length entries.now }
-    ensures some { 0 < result }
-    ensures rest { result < length entries.now }
+/// Puts the steps of the least rank among an entry and others that come in turn at the end of others. Only those of the
+/// one are put at the end of the other list first.
+fn rank_over_run(
+    steps: &mut Vec<Step>,
+    other: &mut Vec<Step>,
+    one: &Entry,
+    run: &[Entry],
+    meter: &mut Meter,
+) -> Result<(), AllocError>
+    requires room { meter.old + 2 * (1 + length run.now) < 2 ^ 128 }
+    requires in_turn { IsTrue (are_in_turn run.now) }
+    ensures ranked { OnOk result (Adds (AreRanked (one.now ∷ run.now)) steps.old.items steps.new.items) }
+    ensures kept { OnOk result (other.new.items ≡ other.old.items) }
+    ensures compared { meter.new ≤ meter.old + 2 * (1 + length run.now) }
 {
-    if is_run(&entries[1..]) {
-        1
-    } else {
-        entries.len() / 2
-    }
+    let start = other.len();
+    add_steps_of(other, one)?;
+    let (_, left) = other.split_at(start);
+    merge(steps, left, StepsInTurn::of(run), meter)?;
+    other.truncate(start);
+    Ok(())
 }
 
-/// Puts the steps of the least rank among the entries at the end of others. They are parted, and the steps of the
-/// parts are merged from the end of the other list: for k entries about k log k steps.
+/// Puts the steps of the least rank among the entries at the end of others. They are parted in their middle, and the
+/// steps of the parts are merged from the end of the other list: for k entries about k log k steps.
 fn rank(
     steps: &mut Vec<Step>,
     other: &mut Vec<Step>,
@@ -168,26 +182,26 @@ fn rank(
     if is_run(entries) {
         return add_run(steps, entries);
     }
-    match entries.len() {
-        0 => Ok(()),
-        1 => add_steps_of(steps, &entries[0]),
-        _ => {
-            let (front, back) = entries.split_at(cut(entries));
-            let start = other.len();
-            rank(other, steps, front, meter)?;
-            let middle = other.len();
-            rank(other, steps, back, meter)?;
-            let (before, right) = other.split_at(middle);
-            let (_, left) = before.split_at(start);
-            merge(steps, left, right, meter)?;
-            other.truncate(start);
-            Ok(())
-        }
+    let Some((first, later)) = entries.split_first() else {
+        return Ok(());
+    };
+    if is_run(later) {
+        return rank_over_run(steps, other, first, later, meter);
     }
+    let (front, back) = entries.split_at(entries.len() / 2);
+    let start = other.len();
+    rank(other, steps, front, meter)?;
+    let middle = other.len();
+    rank(other, steps, back, meter)?;
+    let (before, right) = other.split_at(middle);
+    let (_, left) = before.split_at(start);
+    merge(steps, left, right, meter)?;
+    other.truncate(start);
+    Ok(())
 }
 
-/// The steps of the least rank among the entries, in two lists that are taken once, the second where there is something
-/// to merge.
+/// The steps of the least rank among the entries, in two lists that are taken once, the second where there are halves to
+/// merge.
 #[tactic(auto, using(crate::proofs::Stepped::from_none))]
 pub(crate) fn ranked(
     alloc: Global,
@@ -203,7 +217,7 @@ pub(crate) fn ranked(
     let room = entries.len().saturating_mul(2);
     let mut steps = Vec::with_capacity(alloc, room)?;
     let mut other = Vec::new(alloc);
-    if !is_run(entries) {
+    if entries.len() > 1 && !is_run(&entries[1..]) {
         other.reserve(room)?;
     }
     rank(&mut steps, &mut other, entries, meter)?;
