@@ -85,19 +85,6 @@ pub(crate) fn bounds(alloc: Global, entries: &[Entry]) -> Result<Vec<Moment>, Re
     Ok(moments)
 }
 
-/// The moment, or the end if that is earlier.
-fn earlier(moment: Moment, end: End) -> End
-    ensures { result ≡ earlier_of moment end }
-{
-    let End::At(other) = end else {
-        return End::At(moment);
-    };
-    if other.nanoseconds() < moment.nanoseconds() {
-        return End::At(other);
-    }
-    End::At(moment)
-}
-
 /// Whether another entry than that winner wins at a later moment.
 fn changes_at(entries: &[Entry], moment: Moment, now: Option<Winner>, later: Moment) -> bool
     requires { now ≡ winner_of_all_at entries.now moment }
@@ -112,7 +99,7 @@ fn end_with(entries: &[Entry], moment: Moment, now: Option<Winner>, bound: Momen
     ensures { result ≡ cond (is_change entries.now moment bound) (earlier_of bound end) end }
 {
     if changes_at(entries, moment, now, bound) {
-        earlier(bound, end)
+        End::At(bound).earlier(end)
     } else {
         end
     }
