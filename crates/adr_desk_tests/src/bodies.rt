@@ -1,7 +1,7 @@
 //! Edits that look random, whose objects have targets, periods and payloads.
-use crate::edits::{next, pick};
-use crate::reading::edit;
+use crate::edits::pick;
 use adr_object::Edit;
+use adr_test_bodies::{edit, next};
 use adr_value::{PayloadType, Refusal};
 use std::alloc::Global;
 

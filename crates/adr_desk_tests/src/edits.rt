@@ -2,9 +2,9 @@
 ghost use Rattle.std.specs.Prelude.{◌<◌};
 
 use crate::kept::Kept;
-use crate::reading::edit;
 use crate::scan::is_as_scanned;
 use adr_object::Kind;
+use adr_test_bodies::{edit, next};
 use adr_value::Refusal;
 use std::alloc::Global;
 use std::test::Fail;
@@ -59,17 +59,6 @@ const TARGETS: &str = r#"[]
 [{"type":"EVENT_NAME","values":["E3"]},{"type":"GROUP","values":["A","B"]}]
 [{"type":"PROGRAM_NAME","values":["P1","P2"]}]
 [{"type":"PROGRAM_NAME","values":["P1"]},{"type":"VEN_NAME","values":["V1","V2"]}]"#;
-
-/// The next of some numbers that look random, below a limit that is not 0.
-pub(crate) fn next(seed: &mut u64, limit: u64) -> u64
-    requires { 0 < limit }
-    ensures { result < limit }
-{
-    *seed = seed
-        .wrapping_mul(6_364_136_223_846_793_005)
-        .wrapping_add(1_442_695_040_888_963_407);
-    (*seed >> 33) % limit
-}
 
 /// One of the first lines of a table, at random.
 pub(crate) fn pick<'a>(seed: &mut u64, lines: &'a str, count: u64) -> &'a str

@@ -20,8 +20,6 @@ mod many_loads;
 #[cfg(test)]
 mod many_receipts;
 #[cfg(test)]
-mod reading;
-#[cfg(test)]
 mod receipts;
 #[cfg(test)]
 mod scan;

@@ -1,8 +1,8 @@
 //! A desk that is loaded is the one to which the same edits were applied.
-use crate::reading::edit;
 use adr_desk::Desk;
 use adr_model::Tie;
 use adr_object::{Edit, Id};
+use adr_test_bodies::edit;
 use adr_time::Moment;
 use adr_value::{PayloadType, Refusal};
 use std::alloc::Global;

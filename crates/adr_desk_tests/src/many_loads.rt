@@ -1,11 +1,11 @@
 //! Many lists of edits that look random, each loaded at once and applied one after the other.
 ghost use Rattle.std.specs.Prelude.{◌<◌};
 
-use crate::edits::next;
 use crate::showing::are_alike;
 use adr_desk::Desk;
 use adr_model::Tie;
 use adr_object::Edit;
+use adr_test_bodies::next;
 use adr_test_edits::edit;
 use adr_value::{PayloadType, Refusal};
 use std::alloc::Global;

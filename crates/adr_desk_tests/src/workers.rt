@@ -1,8 +1,8 @@
 //! That all numbers of workers make one desk of an edit, and that two workers run at once.
-use crate::reading::edit;
 use adr_desk::{Desk, Gate, NoGate, Receipt};
 use adr_model::Tie;
 use adr_object::Id;
+use adr_test_bodies::edit;
 use adr_time::Moment;
 use adr_timeline::Timeline;
 use adr_value::{PayloadType, Refusal};

@@ -1,25 +1,13 @@
 //! Copies of a book that are held while many edits at random go on.
-ghost use Rattle.std.specs.Prelude.{◌<◌};
-
 use crate::alike::are_alike;
 use crate::condensing::condensed;
 use crate::edits::apply;
-use crate::reading::edit;
 use adr_book::{Book, Journal, SharedList};
 use adr_object::{Edit, Kind};
+use adr_test_bodies::{edit, next};
 use adr_value::Refusal;
 use std::alloc::Global;
 use std::test::Fail;
-
-/// The next of some numbers that look random, below a limit that is not 0.
-fn next(seed: &mut u64, limit: u64) -> u64
-    requires { 0 < limit }
-{
-    *seed = seed
-        .wrapping_mul(6_364_136_223_846_793_005)
-        .wrapping_add(1_442_695_040_888_963_407);
-    (*seed >> 33) % limit
-}
 
 fn verb(number: u64) -> &'static str {
     match number {

@@ -1,9 +1,9 @@
 //! Edits as short rows, and what a book answers to them.
 ghost use Rattle.std.specs.Prelude.{◌≡◌};
 
-use crate::reading::{edit, word};
 use adr_book::{Book, judge};
 use adr_object::Edit;
+use adr_test_bodies::{edit, word};
 use adr_value::Refusal;
 use std::alloc::Global;
 

@@ -21,8 +21,6 @@ mod layouts;
 #[cfg(test)]
 mod objects;
 #[cfg(test)]
-mod reading;
-#[cfg(test)]
 mod rows;
 #[cfg(test)]
 mod targets;

@@ -1,8 +1,8 @@
 //! The values under a type: equal ones, copies, and those that have a payload type's shape.
-use crate::reading::word;
 use crate::rows::{Asked, check};
 use adr_object::{Id, Program};
 use adr_read::read_program;
+use adr_test_bodies::word;
 use adr_time::Moment;
 use adr_value::{Datum, PayloadType, Refusal, Shape, TryClone};
 use std::alloc::Global;

@@ -9,33 +9,39 @@ use adr_value::Refusal;
 use std::alloc::Global;
 
 /// The first word of a line, and what follows it.
-pub(crate) fn word(line: &str) -> Result<(&str, &str), Refusal> {
+pub fn word(line: &str) -> Result<(&str, &str), Refusal> {
     line.split_once(' ').ok_or(Refusal::BadLine)
 }
 
-fn read_object(alloc: Global, kind: &str, id: &Id, body: &[u8]) -> Result<Object, Refusal> {
+/// What was read or copied, where it may have several owners.
+pub fn shared<T: Drop>(alloc: Global, value: Result<T, Refusal>) -> Result<Shared<T>, Refusal> {
+    Shared::new(alloc, value?)
+}
+
+/// The object of a body on a line of that kind and id.
+pub fn read_object(alloc: Global, kind: &str, id: &Id, body: &[u8]) -> Result<Object, Refusal> {
     match kind {
         "program" => {
-            let program = read_program(alloc, body, id, Moment::MIN)?;
-            Ok(Object::Program(Shared::new(alloc, program)?))
+            let program = read_program(alloc, body, id, Moment::MIN);
+            Ok(Object::Program(shared(alloc, program)?))
         }
         "ven" => {
-            let ven = read_ven(alloc, body, id, Moment::MIN)?;
-            Ok(Object::Ven(Shared::new(alloc, ven)?))
+            let ven = read_ven(alloc, body, id, Moment::MIN);
+            Ok(Object::Ven(shared(alloc, ven)?))
         }
         "resource" => {
-            let resource = read_resource(alloc, body, id, Moment::MIN)?;
-            Ok(Object::Resource(Shared::new(alloc, resource)?))
+            let resource = read_resource(alloc, body, id, Moment::MIN);
+            Ok(Object::Resource(shared(alloc, resource)?))
         }
         _ => {
-            let event = read_event(alloc, body, id, Moment::MIN)?;
-            Ok(Object::Event(Shared::new(alloc, event)?))
+            let event = read_event(alloc, body, id, Moment::MIN);
+            Ok(Object::Event(shared(alloc, event)?))
         }
     }
 }
 
 /// The object of a line `KIND ID JSON`.
-pub(crate) fn object(alloc: Global, line: &str) -> Result<Object, Refusal> {
+pub fn object(alloc: Global, line: &str) -> Result<Object, Refusal> {
     let (kind, line) = word(line)?;
     let (id, body) = word(line)?;
     let id = Id::read(alloc, id)?;
@@ -44,7 +50,8 @@ pub(crate) fn object(alloc: Global, line: &str) -> Result<Object, Refusal> {
     object
 }
 
-fn kind_of(word: &str) -> Kind {
+/// The kind that the word names; an event by any other word.
+pub fn kind_of(word: &str) -> Kind {
     match word {
         "program" => Kind::Program,
         "ven" => Kind::Ven,
@@ -61,7 +68,7 @@ fn removal(alloc: Global, line: &str) -> Result<Edit, Refusal> {
 }
 
 /// The edit of a line `VERB KIND ID JSON`.
-pub(crate) fn edit(alloc: Global, line: &str) -> Result<Edit, Refusal> {
+pub fn edit(alloc: Global, line: &str) -> Result<Edit, Refusal> {
     let (verb, line) = word(line)?;
     match verb {
         "create" => Ok(Edit::Create(object(alloc, line)?)),
