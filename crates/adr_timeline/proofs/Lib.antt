@@ -15,4 +15,5 @@ pub mod Shown
 pub mod Stepped
 pub mod Spliced
 pub mod Taken
+pub mod Within
 pub mod Words

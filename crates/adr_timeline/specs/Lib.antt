@@ -1,5 +1,6 @@
 pub mod Build
 pub mod Chunks
+pub mod Near
 pub mod Open
 pub mod Overlay
 pub mod Packed

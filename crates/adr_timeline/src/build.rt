@@ -8,6 +8,7 @@ ghost use Rattle.adr_timeline.specs.Build.{most_compared, most_compared_all, Tak
 ghost use Rattle.adr_timeline.specs.Windows.{any_covers, are_apart};
 
 use crate::line::Line;
+use crate::near::{Near, meeting};
 use crate::step::{is_run, join_run, join_steps, ranked};
 use adr_model::Entry;
 use adr_rule::Meter;
@@ -30,22 +31,22 @@ pub trait Source {
         ensures refused { OnlyNoMemory result };
 }
 
-/// Puts the segments of the winners inside the window at the end of a line. Entries that come in turn, as one alone does,
-/// are put there straight away.
+/// Puts the segments of the winners inside the window, which lie among the entries near it, at the end of a line. Entries
+/// that come in turn, as one alone does, are put there straight away.
 #[tactic(auto, using(crate::proofs::Runs::run_taken))]
-fn join_window<S: Source>(
+fn join_window(
     line: &mut Line,
     alloc: Global,
-    source: &S,
+    near: &[Entry],
     window: &Span,
     meter: &mut Meter,
 ) -> Result<(), Refusal>
-    requires room { meter.old + most_compared (S.entries source.now) window.now < 2 ^ 128 }
-    ensures taken { OnOk result (Takes (meeting (S.entries source.now) window.now) window.now line.old line.new) }
-    ensures compared { meter.new ≤ meter.old + most_compared (S.entries source.now) window.now }
+    requires room { meter.old + most_compared near.now window.now < 2 ^ 128 }
+    ensures taken { OnOk result (Takes (meeting near.now window.now) window.now line.old line.new) }
+    ensures compared { meter.new ≤ meter.old + most_compared near.now window.now }
     ensures refused { OnlyNoMemory result }
 {
-    let found = source.meeting(alloc, *window)?;
+    let found = meeting(alloc, near, window)?;
     if is_run(&found) {
         join_run(line, &found, window)?;
         return Ok(());
@@ -71,9 +72,11 @@ pub(crate) fn join_windows<S: Source>(
     ensures compared { meter.new ≤ meter.old + most_compared_all (S.entries source.now) windows.now }
     ensures refused { OnlyNoMemory result }
 {
+    let mut near = Near::nothing(alloc);
     let mut rest = windows;
     while let Some((window, later)) = rest.split_first() {
-        join_window(line, alloc, source, window, meter)?;
+        near.go_to(alloc, source, window, later)?;
+        join_window(line, alloc, &near.entries, window, meter)?;
         rest = later;
     }
     Ok(())

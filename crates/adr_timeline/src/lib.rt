@@ -5,6 +5,7 @@ mod build;
 mod chunk;
 mod line;
 mod list;
+mod near;
 mod overlay;
 mod packed;
 mod part;

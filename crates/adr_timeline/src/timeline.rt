@@ -18,6 +18,7 @@ ghost use Rattle.adr_timeline.specs.Windows.{any_covers, are_apart};
 use crate::build::{Source, join_windows};
 use crate::chunk::Chunk;
 use crate::line::Line;
+use crate::near::meeting;
 use crate::overlay::{Ranks, hull_of, laid_steps};
 use crate::step::{join_steps, ranked};
 use crate::{part, search};
@@ -60,17 +61,6 @@ impl Model for Timeline {
     ghost view = { λ timeline. listed timeline.chunks.items };
 
     ghost invariant = { λ timeline. IsCanonical (listed timeline.chunks.items) × AreFilled timeline.chunks.items };
-}
-
-/// The entries that meet the window.
-fn meeting(alloc: Global, entries: &[Entry], window: &Span) -> Result<Vec<Entry>, AllocError>
-    ensures { IfOk result (λ found. found.items ≡ meeting entries.now window.now) }
-{
-    entries
-        .iter()
-        .filter(|entry| meets(&entry.span, window))
-        .copied()
-        .collect(alloc)
 }
 
 /// Whether every entry meets the window.
