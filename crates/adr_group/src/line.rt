@@ -100,8 +100,8 @@ fn built_in(
 }
 
 /// What those writes show inside the windows, and nothing outside. `NoMemory` where there is no room for it. Cost: for
-/// each window that lasts that of `Index::overlapping` and of a timeline of the entries of those writes that meet it;
-/// windows in order, as those of an event mostly are, are built in one pass.
+/// each window that lasts, or for some that touch, that of `Index::overlapping`, and for each that of a timeline of the
+/// entries of those writes that meet it; windows in order, as those of an event mostly are, are built in one pass.
 pub(crate) fn built(
     alloc: Global,
     indexes: &Indexes,

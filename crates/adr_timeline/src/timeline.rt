@@ -141,8 +141,9 @@ impl Timeline {
 
     /// The timeline of the least of the source's entries at each instant inside the windows, and of nothing outside:
     /// what an edit shows in its windows, in one pass. [`are_apart`](crate::are_apart) tests windows, and
-    /// [`first_run`](crate::first_run) finds some that are. `NoMemory` where there is no room. Cost: for each window that
-    /// of its look-up and of [`Timeline::build`]; what is built is not copied.
+    /// [`first_run`](crate::first_run) finds some that are. `NoMemory` where there is no room. Cost: a
+    /// look-up for each eight windows that touch, and for each other one, and for each window that of
+    /// [`Timeline::build`] of the entries so found; what is built is not copied.
     pub fn build_all<S: Source>(
         alloc: Global,
         source: &S,
