@@ -170,21 +170,17 @@ fn random_entries(
     Ok(entries)
 }
 
-/// Some windows, mostly in order and apart, most of which begin where the one before ends.
+/// Some windows, mostly in order and apart.
 fn random_windows(alloc: Global, seed: &mut u64, instants: u32) -> Result<Vec<Span>, Refusal> {
     let mut windows = Vec::new(alloc);
     let mut start = below(seed, instants / 2);
-    for _ in 0..below(seed, 24) {
-        let length = below(seed, instants / 8).wrapping_add(below(seed, 8).min(1));
-        let end = start.wrapping_add(length);
+    for _ in 0..below(seed, 6) {
+        let end = start.wrapping_add(below(seed, instants / 4));
         windows.push(Span {
             start: at(i128::from(start)),
             end: End::At(at(i128::from(end))),
         })?;
-        start = match below(seed, 4) {
-            0 => end.wrapping_add(below(seed, 9)).saturating_sub(1),
-            _ => end,
-        };
+        start = end.wrapping_add(below(seed, 9)).saturating_sub(1);
     }
     Ok(windows)
 }
