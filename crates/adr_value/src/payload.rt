@@ -82,7 +82,7 @@ impl PrivateName {
 }
 
 /// The type of a payload: one of the 34 of the table, in the table's order, or a private one.
-#[derive(Drop, Debug)]
+#[derive(Debug)]
 pub enum PayloadType {
     Simple,
     Price,
@@ -155,6 +155,12 @@ macro_rules! payload_table {
             PayloadType::Private($text) => $private,
         }
     };
+    (@drop ($payload:expr) $([$($case:ident $code:literal $name:literal $shape:ident,)*])*) => {
+        match $payload {
+            $($(PayloadType::$case => {})*)*
+            PayloadType::Private(private) => drop(private),
+        }
+    };
     (@shape ($payload:expr) $([$($case:ident $code:literal $name:literal $shape:ident,)*])*) => {
         match $payload {
             $($(PayloadType::$case => Shape::$shape,)*)*
@@ -216,6 +222,13 @@ macro_rules! payload_table {
     ($what:ident $arguments:tt) => {
         payload_table! { @signals [@with_capacities $what $arguments] }
     };
+}
+
+// A function of its own, so that callers that let a value go need not look into it.
+impl Drop for PayloadType {
+    fn drop(self) {
+        payload_table!(drop(self))
+    }
 }
 
 impl PayloadType {
