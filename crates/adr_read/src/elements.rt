@@ -15,41 +15,55 @@ use adr_time::Moment;
 use adr_value::{BoundedVec, Faults, Refusal};
 use std::alloc::Global;
 
-/// The elements of a list as far as they were read: their values where none has a fault, else the least fault.
+/// Where the element behind these stands, where none had a fault so far.
+pub(crate) fn next_context<T: Read, const LIMIT: usize>(
+    items: &BoundedVec<T, LIMIT>,
+    moment: Moment,
+) -> Context
+    ensures { result ≡ record { moment = moment; place = pos (length items.now) } }
+{
+    Context {
+        moment,
+        place: items.len() as i64,
+    }
+}
+
+/// Keeps a value, where there is a place for it.
+fn keep<T: Read, const LIMIT: usize>(
+    alloc: Global,
+    items: &mut BoundedVec<T, LIMIT>,
+    item: T,
+) -> Result<(), Refusal>
+    ensures items { OnOk result (items.new ≡ (if nat_lt (length items.old) LIMIT then items.old ++ item ∷ [] else items.old)) }
+    ensures memory { IfErr result (λ f. f ≡ Refusal.NoMemory) }
+{
+    if items.len() < LIMIT {
+        items.push(alloc, item)?;
+    }
+    Ok(())
+}
+
+/// How many elements of a list were read so far, and the least of their faults. Their values stand beside it.
 #[derive(Drop)]
-pub(crate) struct Elements<T: Drop, const LIMIT: usize> {
-    items: Vec<T>,
+pub(crate) struct Elements<const LIMIT: usize> {
     faults: Faults,
     /// How many there were, up to the limit.
     count: usize,
 }
 
-impl<T: Read, const LIMIT: usize> Elements<T, LIMIT> {
-    pub(crate) fn new(alloc: Global) -> Elements<T, LIMIT>
-        ensures empty { result.items.items ≡ [] }
-        ensures none { (stands_for : ℕ → Data → T)
-            → AreOf LIMIT T.faults stands_for result.items.items result.count result.faults [] }
+impl<const LIMIT: usize> Elements<LIMIT> {
+    /// None so far.
+    pub(crate) fn none<T: Read>() -> Elements<LIMIT>
+        ensures { (stands_for : ℕ → Data → T) → AreOf LIMIT T.faults stands_for [] result.count result.faults [] }
     {
         Elements {
-            items: Vec::new(alloc),
             faults: Faults::new(),
             count: 0,
         }
     }
 
-    /// Where the next element stands, where none had a fault so far.
-    pub(crate) fn next_context(&self, moment: Moment) -> Context
-        ensures { result ≡ record { moment = moment; place = pos (length self.now.items.items) } }
-    {
-        Context {
-            moment,
-            place: self.items.len() as i64,
-        }
-    }
-
     /// Counts one more element, which is at fault above the limit.
     fn count_one(&mut self) -> Result<(), Refusal>
-        ensures items { self.new.items ≡ self.old.items }
         ensures count { OnOk result (self.new.count ≡ (if nat_lt self.old.count LIMIT then self.old.count + 1 else self.old.count)) }
         ensures faults { OnOk result (self.new.faults ≡ (if nat_lt self.old.count LIMIT then self.old.faults else min self.old.faults 18)) }
         ensures memory { IfErr result (λ f. f ≡ Refusal.NoMemory) }
@@ -62,50 +76,42 @@ impl<T: Read, const LIMIT: usize> Elements<T, LIMIT> {
         }
     }
 
-    /// Adds what the next element is read as.
-    pub(crate) fn add(&mut self, element: Result<T, Refusal>) -> Result<(), Refusal>
-        requires fits { length self.old.items.items ≤ LIMIT }
-        ensures fits { OnOk result (length self.new.items.items ≤ LIMIT) }
+    /// Adds what the next element is read as, and its value to those so far.
+    pub(crate) fn add<T: Read>(
+        &mut self,
+        alloc: Global,
+        items: &mut BoundedVec<T, LIMIT>,
+        element: Result<T, Refusal>,
+    ) -> Result<(), Refusal>
         ensures added { OnOk result ((moment : ℤ) (ds : List Data) (d : Data)
             → AreOf LIMIT T.faults (λ n. T.stands_for (record { moment = moment; place = pos n }))
-            self.old.items.items self.old.count self.old.faults ds
-            → Gives element (T.faults d) (T.stands_for (record { moment = moment; place = pos (length self.old.items.items) }) d)
+            items.old self.old.count self.old.faults ds
+            → Gives element (T.faults d) (T.stands_for (record { moment = moment; place = pos (length items.old) }) d)
             → AreOf LIMIT T.faults (λ n. T.stands_for (record { moment = moment; place = pos n }))
-            self.new.items.items self.new.count self.new.faults (ds ++ d ∷ [])) }
+            items.new self.new.count self.new.faults (ds ++ d ∷ [])) }
         ensures memory { IfErr result (λ f. f ≡ Refusal.NoMemory) }
     {
         self.count_one()?;
         match element {
-            Ok(item) => self.add_value(item),
+            Ok(item) => keep(alloc, items, item),
             Err(refusal) => self.faults.note(refusal),
         }
     }
 
-    /// Keeps a value, where there is a place for it.
-    fn add_value(&mut self, item: T) -> Result<(), Refusal>
-        requires fits { length self.old.items.items ≤ LIMIT }
-        ensures fits { OnOk result (length self.new.items.items ≤ LIMIT) }
-        ensures items { OnOk result (self.new.items.items ≡ (if nat_lt (length self.old.items.items) LIMIT then self.old.items.items ++ item ∷ [] else self.old.items.items)) }
-        ensures rest { (self.new.count ≡ self.old.count) × (self.new.faults ≡ self.old.faults) }
-        ensures memory { IfErr result (λ f. f ≡ Refusal.NoMemory) }
-    {
-        if self.items.len() < LIMIT {
-            self.items.push(item)?;
-        }
-        Ok(())
-    }
-
-    /// The whole list, with no room to spare, or its least fault.
-    pub(crate) fn answer(self) -> Result<BoundedVec<T, LIMIT>, Refusal>
-        requires fits { length self.items.items ≤ LIMIT }
+    /// The whole list of these values, with no room to spare, or its least fault.
+    pub(crate) fn answer<T: Read>(
+        self,
+        items: BoundedVec<T, LIMIT>,
+    ) -> Result<BoundedVec<T, LIMIT>, Refusal>
         ensures { (moment : ℤ) (ds : List Data)
-            → AreOf LIMIT T.faults (λ n. T.stands_for (record { moment = moment; place = pos n })) self.items.items self.count self.faults ds
+            → AreOf LIMIT T.faults (λ n. T.stands_for (record { moment = moment; place = pos n })) items self.entry.count self.entry.faults ds
             → Gives result (list_faults LIMIT T.faults (array (items_of ds)))
             (list_in (λ n. T.stands_for (record { moment = moment; place = pos n })) (array (items_of ds))) }
     {
-        let Elements { items, faults, .. } = self;
-        let items = faults.answer(items)?;
-        Ok(BoundedVec::from_vec(items))
+        let Elements { faults, .. } = self;
+        let mut items = faults.answer(items)?;
+        items.shrink_to_fit();
+        Ok(items)
     }
 }
 

@@ -9,7 +9,7 @@ ghost use Rattle.adr_read.specs.Tokens.{token_of, IsSound};
 ghost use Rattle.adr_read.specs.Values.{datum_faults, type_in, map_faults, values_in, target_in, payload_faults, payload_in};
 
 use crate::element::{Context, Read, Reading};
-use crate::elements::{Elements, next_element};
+use crate::elements::{Elements, next_context, next_element};
 use crate::members::{Member, read_members};
 use crate::name::MemberName;
 use crate::skip::skip;
@@ -39,12 +39,14 @@ impl<T: Read, const LIMIT: usize> Read for BoundedVec<T, LIMIT> {
         if depth == 0 {
             return Err(Refusal::BadJson);
         }
-        let mut elements = Elements::new(alloc);
+        let mut items = BoundedVec::new(alloc);
+        let mut elements = Elements::none::<T>();
         'elements: while let Some(token) = next_element(reader)? {
-            let context = elements.next_context(context.moment);
-            elements.add(T::read(alloc, &context, depth - 1, reader, token)?)?;
+            let context = next_context(&items, context.moment);
+            let element = T::read(alloc, &context, depth - 1, reader, token)?;
+            elements.add(alloc, &mut items, element)?;
         }
-        Ok(elements.answer())
+        Ok(elements.answer(items))
     }
 }
 

@@ -1,5 +1,5 @@
 //! Lists with a limit on their length.
-ghost use Rattle.std.specs.Prelude.{◌≡◌, ◌≤◌, ◌==◌, [], length, IfOk};
+ghost use Rattle.std.specs.Prelude.{◌≡◌, ◌≤◌, ◌<◌, ◌^◌, ◌==◌, ◌∷◌, ◌++◌, [], length, IfOk, OnOk, OnErr};
 ghost use Rattle.adr_value.specs.Answer.{OnlyNoMemory};
 ghost use Rattle.adr_value.specs.Copy.{IsCopyOf};
 
@@ -7,7 +7,7 @@ use crate::refusal::Refusal;
 use crate::try_clone::TryClone;
 use std::alloc::Global;
 use std::marker::Model;
-use std::slice;
+use std::{mem, slice};
 
 /// One element in place, as most lists of payloads and values have it, or any number in a vector.
 #[derive(Drop, Debug)]
@@ -71,6 +71,40 @@ impl<T: Drop, const LIMIT: usize> BoundedVec<T, LIMIT> {
         }
     }
 
+    /// Adds an element at the end: the first in place, and from the second on as a vector does. `NoMemory` where it can't
+    /// grow; then the list is as it was.
+    pub fn push(&mut self, alloc: Global, item: T) -> Result<(), Refusal>
+        requires { length self.old < LIMIT }
+        ensures added { OnOk result (self.new ≡ self.old ++ item ∷ []) }
+        ensures kept { OnErr result (self.new ≡ self.old) }
+        ensures memory { OnlyNoMemory result }
+    {
+        if let Items::Many(items) = &mut self.items {
+            if !items.is_empty() {
+                items.push(item)?;
+                return Ok(());
+            }
+            self.items = Items::One(item);
+            return Ok(());
+        }
+        let mut items = Vec::with_capacity(alloc, 4)?;
+        if let Items::One(first) = mem::replace(&mut self.items, Items::Many(Vec::new(alloc))) {
+            items.push_reserved(first);
+        }
+        items.push_reserved(item);
+        self.items = Items::Many(items);
+        Ok(())
+    }
+
+    /// Gives back the room that there is to spare.
+    pub fn shrink_to_fit(&mut self)
+        ensures { self.new ≡ self.old }
+    {
+        if let Items::Many(items) = &mut self.items {
+            items.shrink_to_fit();
+        }
+    }
+
     /// The elements, in order.
     pub fn as_slice(&self) -> &[T]
         ensures value { result.now ≡ self.now }
@@ -86,8 +120,12 @@ impl<T: Drop, const LIMIT: usize> BoundedVec<T, LIMIT> {
     pub fn len(&self) -> usize
         ensures value { result ≡ length self.now }
         ensures limit { result ≤ LIMIT }
+        ensures signed { result < 2 ^ 63 }
     {
-        self.as_slice().len()
+        match &self.items {
+            Items::One(_) => 1,
+            Items::Many(items) => items.len(),
+        }
     }
 
     /// Whether there are no elements.

@@ -27,8 +27,7 @@ returns-then-depth-eq0 g c _ =
 pub elements-init : goal.elements-init
 elements-init g c =
     let ts = c.args.reader.now in
-    let new = c.new-elements.ensures in
-    (length ts, [], omega arith, none_before (listed (c.args.depth - 1) (length ts) ts), new.none _, omega (arith, ap length new.empty))
+    (length ts, [], omega arith, none_before (listed (c.args.depth - 1) (length ts) ts), rw c.new-items.ensures (c.none-elements.ensures _))
 
 pub returns-in_err-token : goal.returns-in_err-token
 returns-in_err-token g c =
@@ -40,30 +39,30 @@ returns-in_err-token g c =
     let out = err_from_is_err_and c.from_residual-in_err-token.result c.from_residual-in_err-token.ensures.1 in
     rw (out.1, out.2) (λ _. (bad.0, opened ∙ ap (parse_map array) (so_far.3 ∙ ap (parse_map (items_before so_far.1)) (bad.1 depth so_far.0))))
 
-pub returns-in_err-read : goal.returns-in_err-read
-returns-in_err-read g c =
+pub returns-in_err-element : goal.returns-in_err-element
+returns-in_err-element g c =
     let ts = c.args.reader.now in
     let depth = c.args.depth - 1 in
     let opened = ap (λ t. coming c.args.depth (token_of t ∷ ts)) c.in-BeginArray.is ∙ coming-begin_array c.args.depth ts (omega (arith, c.if-depth-eq0.false)) in
     let so_far = c.elements.invariant in
     let s = token_of c.in-Some.token ∷ c.next_element.new.reader in
     let found : (after_end_array c.elements.reader ≡ None) × (c.elements.reader ≡ s) = rw c.in-Some.is at c.in_ok-token.ensures.found in
-    let out = err_from_is_err_and c.from_residual-in_err-read.result c.from_residual-in_err-read.ensures.1 in
+    let out = err_from_is_err_and c.from_residual-in_err-element.result c.from_residual-in_err-element.ensures.1 in
     rw (out.1, out.2) (
-    fault_of c.in_err-read.field-0.0 (coming depth s) (coming c.args.depth (token_of c.args.token ∷ ts))
-    (λ none. opened ∙ ap (parse_map array) (so_far.3 ∙ ap (parse_map (items_before so_far.1)) (item_refused (value depth) so_far.0 c.elements.reader found.0 (ap (coming depth) found.1 ∙ none)))) c.in_err-read.ensures
+    fault_of c.in_err-element.field-0.0 (coming depth s) (coming c.args.depth (token_of c.args.token ∷ ts))
+    (λ none. opened ∙ ap (parse_map array) (so_far.3 ∙ ap (parse_map (items_before so_far.1)) (item_refused (value depth) so_far.0 c.elements.reader found.0 (ap (coming depth) found.1 ∙ none)))) c.in_err-element.ensures
     )
 
 pub elements-smaller : goal.elements-smaller
 elements-smaller g c =
-    let told = c.in_ok-read.ensures in
+    let told = c.in_ok-element.ensures in
     let s = token_of c.in-Some.token ∷ c.next_element.new.reader in
     let found : (after_end_array c.elements.reader ≡ None) × (c.elements.reader ≡ s) = rw c.in-Some.is at c.in_ok-token.ensures.found in
     omega (arith, ap length found.1, coming-shorter (c.args.depth - 1) s c.read.new.reader told.0 told.1)
 
 pub elements-preserved : goal.elements-preserved
 elements-preserved g c =
-    let told = c.in_ok-read.ensures in
+    let told = c.in_ok-element.ensures in
     let so_far = c.elements.invariant in
     let depth = c.args.depth - 1 in
     let ts = c.elements.reader in
@@ -77,7 +76,6 @@ elements-preserved g c =
       omega (arith, so_far.2, less, len),
       so_far.3 ∙ ap (parse_map (items_before so_far.1)) (item_passed (value depth) so_far.0 ts r told.0 (omega (arith, so_far.2, less, len)) found.0 (ap (coming depth) found.1 ∙ told.1)) ∙ one_more_item so_far.1 told.0 (listed depth (so_far.0 - 1) r),
       c.in_ok-add.ensures.added c.args.context.now.moment so_far.1 told.0 so_far.4 (rw c.next_context-context.ensures at told.2),
-      c.in_ok-add.ensures.fits,
     )
 
 pub returns : goal.returns

@@ -11,8 +11,7 @@ invariant-elements g l =
     (n : ℕ) × (ds : List Data)
     × (length l.reader ≤ n)
     × (listed (l.depth - 1) (length l.initial.reader) l.initial.reader ≡ parse_map (items_before ds) (listed (l.depth - 1) n l.reader))
-    × AreOf g.row.LIMIT g.T.Read.faults (λ n. g.T.Read.stands_for (record { moment = l.fn.context.moment; place = pos n })) l.elements.items.items l.elements.count l.elements.faults ds
-    × (length l.elements.items.items ≤ g.row.LIMIT)
+    × AreOf g.row.LIMIT g.T.Read.faults (λ n. g.T.Read.stands_for (record { moment = l.fn.context.moment; place = pos n })) l.items l.elements.count l.elements.faults ds
 
 abbrev pub decreases-elements : goal.decreases-elements
 decreases-elements g l = length l.reader
