@@ -8,8 +8,8 @@ ghost use Rattle.adr_timeline.specs.Build.{most_compared, most_compared_all, Tak
 ghost use Rattle.adr_timeline.specs.Windows.{any_covers, are_apart};
 
 use crate::line::Line;
-use crate::near::{Near, meeting};
-use crate::step::{is_run, join_run, join_steps, ranked};
+use crate::near::{Near, find_meeting};
+use crate::step::{Step, is_run, join_run, join_steps, rank_anew};
 use adr_model::Entry;
 use adr_rule::Meter;
 use adr_time::Span;
@@ -31,12 +31,30 @@ pub trait Source {
         ensures refused { OnlyNoMemory result };
 }
 
+/// Lists that are filled anew for each window, so that their memory is taken once for all.
+#[derive(Drop)]
+struct Workspace {
+    found: Vec<Entry>,
+    steps: Vec<Step>,
+    other: Vec<Step>,
+}
+
+impl Workspace {
+    fn new(alloc: Global) -> Workspace {
+        Workspace {
+            found: Vec::new(alloc),
+            steps: Vec::new(alloc),
+            other: Vec::new(alloc),
+        }
+    }
+}
+
 /// Puts the segments of the winners inside the window, which lie among the entries near it, at the end of a line. Entries
 /// that come in turn, as one alone does, are put there straight away.
 #[tactic(auto, using(crate::proofs::Runs::run_taken))]
 fn join_window(
     line: &mut Line,
-    alloc: Global,
+    work: &mut Workspace,
     near: &[Entry],
     window: &Span,
     meter: &mut Meter,
@@ -46,13 +64,13 @@ fn join_window(
     ensures compared { meter.new ≤ meter.old + most_compared near.now window.now }
     ensures refused { OnlyNoMemory result }
 {
-    let found = meeting(alloc, near, window)?;
-    if is_run(&found) {
-        join_run(line, &found, window)?;
+    find_meeting(&mut work.found, near, window)?;
+    if is_run(&work.found) {
+        join_run(line, &work.found, window)?;
         return Ok(());
     }
-    let steps = ranked(alloc, &found, meter)?;
-    join_steps(line, &steps, *window)?;
+    rank_anew(&mut work.steps, &mut work.other, &work.found, meter)?;
+    join_steps(line, &work.steps, *window)?;
     Ok(())
 }
 
@@ -72,11 +90,12 @@ pub(crate) fn join_windows<S: Source>(
     ensures compared { meter.new ≤ meter.old + most_compared_all (S.entries source.now) windows.now }
     ensures refused { OnlyNoMemory result }
 {
+    let mut work = Workspace::new(alloc);
     let mut near = Near::nothing(alloc);
     let mut rest = windows;
     while let Some((window, later)) = rest.split_first() {
         near.go_to(alloc, source, window, later)?;
-        join_window(line, alloc, &near.entries, window, meter)?;
+        join_window(line, &mut work, &near.entries, window, meter)?;
         rest = later;
     }
     Ok(())

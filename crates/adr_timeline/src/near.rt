@@ -22,11 +22,26 @@ pub(crate) fn meeting(
 ) -> Result<Vec<Entry>, AllocError>
     ensures { IfOk result (λ found. found.items ≡ meeting entries.now window.now) }
 {
-    entries
-        .iter()
-        .filter(|entry| meets(&entry.span, window))
-        .copied()
-        .collect(alloc)
+    let mut found = Vec::new(alloc);
+    find_meeting(&mut found, entries, window)?;
+    Ok(found)
+}
+
+/// Puts the entries that meet the window in the place of those that were found before.
+pub(crate) fn find_meeting(
+    found: &mut Vec<Entry>,
+    entries: &[Entry],
+    window: &Span,
+) -> Result<(), AllocError>
+    ensures { OnOk result (found.new.items ≡ meeting entries.now window.now) }
+{
+    found.clear();
+    for entry in entries {
+        if meets(&entry.span, window) {
+            found.push(*entry)?;
+        }
+    }
+    Ok(())
 }
 
 /// Whether the end is no later than the other.

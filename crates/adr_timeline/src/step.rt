@@ -200,9 +200,32 @@ fn rank(
     Ok(())
 }
 
-/// The steps of the least rank among the entries, in two lists that are taken once, the second where there are halves to
-/// merge.
+/// Puts the steps of the least rank among the entries in the place of those that are there. Both lists have room for all
+/// of them before the first is put there, the second where there are halves to merge.
 #[tactic(auto, using(crate::proofs::Stepped::from_none))]
+pub(crate) fn rank_anew(
+    steps: &mut Vec<Step>,
+    other: &mut Vec<Step>,
+    entries: &[Entry],
+    meter: &mut Meter,
+) -> Result<(), AllocError>
+    requires { meter.old + length entries.now * (2 * length entries.now + 1) < 2 ^ 128 }
+    ensures order { OnOk result (IsInOrder steps.new.items) }
+    ensures few { OnOk result (length steps.new.items ≤ 2 * length entries.now) }
+    ensures ranks { OnOk result ((t : ℤ) → rank_from None steps.new.items t ≡ rank_at entries.now t) }
+    ensures compared { meter.new ≤ meter.old + length entries.now * (2 * length entries.now + 1) }
+{
+    let room = entries.len().saturating_mul(2);
+    steps.clear();
+    steps.reserve(room)?;
+    if entries.len() > 1 && !is_run(&entries[1..]) {
+        other.clear();
+        other.reserve(room)?;
+    }
+    rank(steps, other, entries, meter)
+}
+
+/// The steps of the least rank among the entries.
 pub(crate) fn ranked(
     alloc: Global,
     entries: &[Entry],
@@ -214,13 +237,9 @@ pub(crate) fn ranked(
     ensures ranks { IfOk result (λ steps. (t : ℤ) → rank_from None steps.items t ≡ rank_at entries.now t) }
     ensures compared { meter.new ≤ meter.old + length entries.now * (2 * length entries.now + 1) }
 {
-    let room = entries.len().saturating_mul(2);
-    let mut steps = Vec::with_capacity(alloc, room)?;
+    let mut steps = Vec::new(alloc);
     let mut other = Vec::new(alloc);
-    if entries.len() > 1 && !is_run(&entries[1..]) {
-        other.reserve(room)?;
-    }
-    rank(&mut steps, &mut other, entries, meter)?;
+    rank_anew(&mut steps, &mut other, entries, meter)?;
     drop(other);
     Ok(steps)
 }
