@@ -170,17 +170,22 @@ fn random_entries(
     Ok(entries)
 }
 
-/// Some windows, mostly in order and apart.
+/// Some windows, mostly in order and apart, most of which begin where the one before ends.
 fn random_windows(alloc: Global, seed: &mut u64, instants: u32) -> Result<Vec<Span>, Refusal> {
     let mut windows = Vec::new(alloc);
+    let last = instants.saturating_sub(1);
     let mut start = below(seed, instants / 2);
-    for _ in 0..below(seed, 6) {
-        let end = start.wrapping_add(below(seed, instants / 4));
+    for _ in 0..below(seed, 24) {
+        let length = below(seed, instants / 8).wrapping_add(below(seed, 8).min(1));
+        let end = start.wrapping_add(length).min(last);
         windows.push(Span {
             start: at(i128::from(start)),
             end: End::At(at(i128::from(end))),
         })?;
-        start = end.wrapping_add(below(seed, 9)).saturating_sub(1);
+        start = match below(seed, 4) {
+            0 => end.wrapping_add(below(seed, 9)).saturating_sub(1),
+            _ => end,
+        };
     }
     Ok(windows)
 }
