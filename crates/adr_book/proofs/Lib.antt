@@ -1,3 +1,4 @@
 pub mod Verdict
 pub mod Joined
 pub mod Bounds
+pub mod Crossing

@@ -7,7 +7,7 @@ use Rattle.adr_keys.specs.contracts.index.Index as Index
 use Rattle.adr_audience.specs.contracts.audience.Audience as Audience
 use Rattle.adr_audience.specs.contracts.targeting.Targeting as Targeting
 use Rattle.adr_audience.specs.contracts.audiences.Audiences as Audiences
-use Rattle.adr_bulk.proofs.Crossing.{name_sync, text_sync}
+use Rattle.adr_value.proofs.Crossing.{name_sync, text_sync}
 
 key_sync : IsSync Key.the_row
 key_sync = search (sendable, std.crosses, text_sync, name_sync) depth 60 fits 60000

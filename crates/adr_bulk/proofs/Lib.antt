@@ -1,4 +1,3 @@
-pub mod Crossing
 pub mod KeysCrossing
 pub mod Choosing
 pub mod Covering

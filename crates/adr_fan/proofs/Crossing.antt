@@ -14,7 +14,9 @@ use Rattle.adr_time.specs.contracts.moment.Moment as Moment
 use Rattle.adr_model.specs.contracts.entry.Tie as Tie
 use Rattle.adr_value.specs.contracts.payload.PayloadType as PayloadType
 use Rattle.adr_board.specs.declared.rule.Naming.{Ghosts as Names}
-use Rattle.adr_board.proofs.Crossing.{id_send, name_send, reader_send}
+use Rattle.adr_value.proofs.Crossing.{name_send}
+use Rattle.adr_object.proofs.Crossing.{id_send}
+use Rattle.adr_board.proofs.Crossing.{reader_send}
 use Rattle.adr_fan.specs.contracts.queries.Query as Query
 use Rattle.adr_fan.specs.contracts.queries.Sent as Sent
 use Rattle.adr_fan.specs.contracts.mailbox.Mailbox as Mailbox

@@ -1,3 +1,4 @@
+pub mod Crossing
 pub mod Gathered
 pub mod Halves
 pub mod Jobs

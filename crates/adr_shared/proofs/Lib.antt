@@ -4,3 +4,4 @@ pub mod Heights
 pub mod Edited
 pub mod LookUps
 pub mod Last
+pub mod Crossing

@@ -4,3 +4,4 @@ pub mod Tables
 pub mod Found
 pub mod Counted
 pub mod Accepted
+pub mod Crossing

@@ -17,3 +17,4 @@ pub mod Spliced
 pub mod Taken
 pub mod Within
 pub mod Words
+pub mod Crossing

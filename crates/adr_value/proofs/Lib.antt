@@ -1,5 +1,6 @@
 pub mod Agreeing
 pub mod BodyLemmas
+pub mod Crossing
 pub mod Judged
 pub mod NumbersLemmas
 pub mod OneCutLemmas

@@ -1,7 +1,8 @@
 use denote.Param.Send.{sendable}
 use Rattle.std.proofs.Common.{ap, ◌∙◌}
 use Rattle.std.proofs.Crossing as std
-use Rattle.adr_bulk.proofs.Crossing.{book_sync, writes_sync}
+use Rattle.adr_book.proofs.Crossing.{book_sync}
+use Rattle.adr_group.proofs.Crossing.{writes_sync}
 use Rattle.adr_bulk.proofs.Seats.{built_groups, built_refusal}
 use Rattle.adr_bulk.proofs.seating.build_all.Goals as goal
 

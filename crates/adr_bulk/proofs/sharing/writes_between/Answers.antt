@@ -1,7 +1,7 @@
 use denote.Param.Send.{sendable}
 use Rattle.std.proofs.Common.{ap, ◌∙◌}
 use Rattle.std.proofs.Crossing as std
-use Rattle.adr_bulk.proofs.Crossing.{book_sync}
+use Rattle.adr_book.proofs.Crossing.{book_sync}
 use Rattle.adr_bulk.proofs.KeysCrossing.{audiences_sync}
 use Rattle.adr_bulk.proofs.Seats.{all_ready, asked_refusal, asked_writes}
 use Rattle.adr_bulk.proofs.sharing.writes_between.Goals as goal
