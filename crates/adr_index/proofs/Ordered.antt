@@ -172,6 +172,13 @@ past_place e [] (suc i) o le h = tt
 past_place e (x ∷ xs) zero o le h = none_later e (x ∷ xs) zero o (omega arith) (h (omega arith))
 past_place e (x ∷ xs) (suc i) o le h = past_place e xs i o.1 (omega arith) (λ lt. h (omega (arith, lt)))
 
+-- what stands before an entry that comes before the new one comes before it too
+pub before_place : (e : Entry) (es : List Entry) (i : ℕ) → IsOrdered es → i < length es → ((d : Entry) → is_listed_before (slice_index_or es i d) e ≡ true) → AllByRecursion (λ x. is_listed_before x e ≡ true) (take (suc i) es)
+before_place e [] i o lt h = absurd (omega (arith, lt))
+before_place e (x ∷ xs) zero o lt h = (h x, tt)
+before_place e (x ∷ []) (suc i) o lt h = absurd (omega (arith, lt))
+before_place e (x ∷ (y ∷ ys)) (suc i) o lt h = let rest = before_place e (y ∷ ys) i o.1 (omega (arith, lt)) h in (listed_trans x y e o.0.0 rest.0, rest)
+
 -- ---- entries between others
 
 starts_asym : (s t : ℤ) (x y : Bool) → (x ≡ true → y ≡ false) → (int_lt s t || (int_eq s t && x)) ≡ true → (int_lt t s || (int_eq t s && y)) ≡ false

@@ -36,44 +36,53 @@ fn last_start(entries: &[Entry]) -> Moment
     }
 }
 
-/// Takes out the entry that stands in the same place, if there is one.
-fn take_out(entries: &mut Vec<Entry>, entry: &Entry)
+/// Takes out the entry that stands in the same place, if there is one, and answers where that is or would be. The
+/// search begins at `near`, if it can.
+fn take_out(entries: &mut Vec<Entry>, near: usize, entry: &Entry) -> usize
     requires order { IsOrdered entries.old.items }
+    requires near { near ≤ length entries.old.items }
     ensures entries { entries.new.items ≡ others entry.now entries.old.items }
+    ensures within { result ≤ length entries.new.items }
     ensures fewer { length entries.new.items ≤ length entries.old.items }
     ensures room { vec_capacity entries.old ≤ vec_capacity entries.new }
 {
-    let place = place_of(entries, entry);
+    let place = place_of(entries, near, entry);
     if place == entries.len() || comes_before(entry, &entries[place]) {
-        return;
+        return place;
     }
     let _ = entries.remove(place);
+    place
 }
 
-/// Takes out what stands in the places of these entries.
-fn take_each(entries: &mut Vec<Entry>, run: &[Entry])
+/// Takes out what stands in the places of these entries, of which the first is searched for from `near` on, if it can,
+/// and each later one from where the one before it stood.
+fn take_each(entries: &mut Vec<Entry>, near: usize, run: &[Entry])
     requires order { IsOrdered entries.old.items }
+    requires near { near ≤ length entries.old.items }
     ensures entries { entries.new.items ≡ others_all run.now entries.old.items }
     ensures fewer { length entries.new.items ≤ length entries.old.items }
     ensures room { vec_capacity entries.old ≤ vec_capacity entries.new }
 {
+    let mut near = near;
     for entry in run {
-        take_out(entries, entry);
+        near = take_out(entries, near, entry);
     }
 }
 
-/// Adds these entries, for which there is room, each in its place.
-fn insert_each(entries: &mut Vec<Entry>, run: &[Entry])
+/// Adds these entries, for which there is room, each in its place, which is searched for as `take_each` does.
+fn insert_each(entries: &mut Vec<Entry>, near: usize, run: &[Entry])
     requires order { IsOrdered entries.old.items }
+    requires near { near ≤ length entries.old.items }
     requires room { length entries.old.items + length run.now ≤ vec_capacity entries.old }
     requires fresh { AreNew run.now entries.old.items }
     ensures entries { entries.new.items ≡ inserted_all run.now entries.old.items }
     ensures room { vec_capacity entries.old ≤ vec_capacity entries.new }
     ensures more { length entries.new.items ≡ length entries.old.items + length run.now }
 {
+    let mut near = near;
     for entry in run {
-        let place = place_of(entries, entry);
-        let _ = entries.insert(place, *entry);
+        near = place_of(entries, near, entry);
+        let _ = entries.insert(near, *entry);
     }
 }
 
@@ -111,7 +120,7 @@ impl Chunk {
         ensures entries { self.new.entries.items ≡ entry ∷ [] }
         ensures chunk { IsChunk self.new }
     {
-        let place = place_of(&self.entries, &entry);
+        let place = place_of(&self.entries, 0, &entry);
         let _ = self.entries.insert(place, entry);
         self.refresh();
     }
@@ -144,7 +153,7 @@ impl Chunk {
         ensures pool { ArePooled pool.new.items }
         ensures taken { length pool.old.items ≤ length pool.new.items + 1 }
     {
-        let place = place_of(&self.entries, &entry);
+        let place = place_of(&self.entries, 0, &entry);
         let _ = self.entries.insert(place, entry);
         if self.entries.len() <= MOST {
             self.refresh();
@@ -166,8 +175,8 @@ impl Chunk {
         ensures room { IsRoomy self.new }
         ensures chunk { 0 < length self.new.entries.items → IsChunk self.new }
     {
-        take_out(&mut self.entries, first);
-        take_each(&mut self.entries, run);
+        let near = take_out(&mut self.entries, 0, first);
+        take_each(&mut self.entries, near, run);
         self.refresh();
     }
 
@@ -180,9 +189,9 @@ impl Chunk {
         ensures entries { self.new.entries.items ≡ inserted_all (first.now ∷ run.now) self.old.entries.items }
         ensures chunk { IsChunk self.new }
     {
-        let place = place_of(&self.entries, first);
+        let place = place_of(&self.entries, 0, first);
         let _ = self.entries.insert(place, *first);
-        insert_each(&mut self.entries, run);
+        insert_each(&mut self.entries, place, run);
         self.refresh();
     }
 

@@ -97,6 +97,12 @@ fn settle(chunks: &[Chunk], tops: &mut [Option<End>], is_kept: bool)
     }
 }
 
+/// Whether so few entries go or come that the tree over the chunks is written sooner along the paths to theirs than
+/// whole.
+fn are_few(entries: &[Entry], chunks: &[Chunk]) -> bool {
+    entries.len() <= chunks.len() / 32
+}
+
 /// Takes out what stands in the places of the old entries, those of one chunk together, and answers whether the tree over the chunks is kept.
 fn take_all(table: &mut Table, tops: &mut [Option<End>], old: &[Entry]) -> bool
     requires table { IsTable table.old }
@@ -109,11 +115,13 @@ fn take_all(table: &mut Table, tops: &mut [Option<End>], old: &[Entry]) -> bool
     ensures nodes { length tops.new ≡ length tops.old }
     ensures tops { result ≡ true → HasTops table.new.chunks.items tops.new }
 {
-    let mut is_kept = true;
+    let mut is_kept = are_few(old, &table.chunks);
+    let mut near = 0;
     let mut rest = old;
     while let Some((first, later)) = rest.split_first() {
-        let run = table.take(first, later);
+        let run = table.take(near, first, later);
         is_kept = update(&table.chunks, tops, run.place, is_kept);
+        near = run.place.unwrap_or(0);
         (_, rest) = later.split_at(run.given);
     }
     is_kept
@@ -133,11 +141,13 @@ fn put_all(table: &mut Table, tops: &mut [Option<End>], new: &[Entry], was_kept:
     ensures nodes { length tops.new ≡ length tops.old }
     ensures tops { result ≡ true → HasTops table.new.chunks.items tops.new }
 {
-    let mut is_kept = was_kept;
+    let mut is_kept = was_kept && are_few(new, &table.chunks);
+    let mut near = 0;
     let mut rest = new;
     while let Some((first, later)) = rest.split_first() {
-        let run = table.put_run(first, later);
+        let run = table.put_run(near, first, later);
         is_kept = update(&table.chunks, tops, run.place, is_kept);
+        near = run.place.unwrap_or(0);
         (_, rest) = later.split_at(run.given);
     }
     is_kept

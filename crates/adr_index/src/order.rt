@@ -27,16 +27,32 @@ pub(crate) fn is_entry(entry: &Entry, written: u64, place: u32) -> bool
     entry.rank.written == written && entry.rank.place == place
 }
 
+/// `near`, where the entries before it all come before the new one, else the first place.
+fn begin(entries: &[Entry], near: usize, entry: &Entry) -> usize
+    requires order { IsOrdered entries.now }
+    requires near { near ≤ length entries.now }
+    ensures within { result ≤ length entries.now }
+    ensures before { AllByRecursion (λ x. is_listed_before x entry.now ≡ true) (take result entries.now) }
+{
+    if near > 0 && comes_before(&entries[near - 1], entry) {
+        near
+    } else {
+        0
+    }
+}
+
 /// How many of the entries come before the new one. They are gone through in turn, which for those of a chunk is
-/// faster than to halve them: they are read from far memory, and in order that is foreseen.
-pub(crate) fn place_of(entries: &[Entry], entry: &Entry) -> usize
-    requires { IsOrdered entries.now }
+/// faster than to halve them: they are read from far memory, and in order that is foreseen. Where all before `near`
+/// come before it, as for the next of a run, they are gone through from there on.
+pub(crate) fn place_of(entries: &[Entry], near: usize, entry: &Entry) -> usize
+    requires order { IsOrdered entries.now }
+    requires near { near ≤ length entries.now }
     ensures within { result ≤ length entries.now }
     ensures place { insert entries.now result entry.now ≡ inserted entry.now entries.now }
     ensures before { AllByRecursion (λ x. is_listed_before x entry.now ≡ true) (take result entries.now) }
     ensures after { AllByRecursion (λ x. is_listed_before x entry.now ≡ false) (drop result entries.now) }
 {
-    let mut place = 0;
+    let mut place = begin(entries, near, entry);
     while place < entries.len() && comes_before(&entries[place], entry) {
         place += 1;
     }

@@ -11,8 +11,40 @@ use crate::order::{comes_before, is_entry};
 use adr_model::Entry;
 use std::alloc::{AllocError, Global};
 
-/// The place of the chunk to which the entry belongs.
-fn home(chunks: &[Chunk], entry: &Entry) -> usize
+/// The place behind `near`, where the chunk at `near` ends before the entry and is not the last, else the first place.
+fn begin(chunks: &[Chunk], near: usize, entry: &Entry) -> usize
+    requires some { 0 < length chunks.now }
+    requires chunks { AreChunks chunks.now }
+    requires order { IsOrdered (all_listed chunks.now) }
+    ensures within { result < length chunks.now }
+    ensures before { AllByRecursion (λ x. is_listed_before x entry.now ≡ true) (all_listed (take result chunks.now)) }
+{
+    if near < chunks.len() - 1 && ends_before(&chunks[near], entry) {
+        near + 1
+    } else {
+        0
+    }
+}
+
+/// The last place that needs to be looked at from `low` on: that itself, where its chunk does not end before the entry.
+fn end(chunks: &[Chunk], low: usize, entry: &Entry) -> usize
+    requires low { low < length chunks.now }
+    requires chunks { AreChunks chunks.now }
+    requires order { IsOrdered (all_listed chunks.now) }
+    ensures between { low ≤ result }
+    ensures within { result < length chunks.now }
+    ensures after { AllByRecursion (λ x. is_listed_before entry.now x ≡ true) (all_listed (drop (result + 1) chunks.now)) }
+{
+    if ends_before(&chunks[low], entry) {
+        chunks.len() - 1
+    } else {
+        low
+    }
+}
+
+/// The place of the chunk to which the entry belongs. The chunk behind that at `near` is tried first, which is mostly
+/// that of the next entry of an event.
+fn home(chunks: &[Chunk], near: usize, entry: &Entry) -> usize
     requires some { 0 < length chunks.now }
     requires chunks { AreChunks chunks.now }
     requires order { IsOrdered (all_listed chunks.now) }
@@ -20,8 +52,8 @@ fn home(chunks: &[Chunk], entry: &Entry) -> usize
     ensures before { AllByRecursion (λ x. is_listed_before x entry.now ≡ true) (all_listed (take result chunks.now)) }
     ensures after { AllByRecursion (λ x. is_listed_before entry.now x ≡ true) (all_listed (drop (result + 1) chunks.now)) }
 {
-    let mut low = 0;
-    let mut high = chunks.len() - 1;
+    let mut low = begin(chunks, near, entry);
+    let mut high = end(chunks, low, entry);
     while low < high {
         let middle = low + (high - low) / 2;
         if ends_before(&chunks[middle], entry) {
@@ -85,7 +117,7 @@ pub(crate) fn put_among(
     ensures length { length chunks.new.items ≤ length chunks.old.items + 1 }
     ensures changed { IfSome result (λ place. IsChangedAt place chunks.old.items chunks.new.items) }
 {
-    let place = home(chunks, &entry);
+    let place = home(chunks, 0, &entry);
     let later = chunks[place].put(entry, pool);
     if let Some(later) = later {
         let _ = chunks.insert(place + 1, later);
@@ -129,10 +161,12 @@ fn run_into(chunk: &Chunk, first: &Entry, later: &[Entry]) -> usize
 }
 
 /// Takes out what stands in the place of the first entry, and of those behind it that belong to the same chunk, and
-/// answers how many entries of the chunk that were. A chunk that it leaves empty goes to the pool.
+/// answers how many entries of the chunk that were. A chunk that it leaves empty goes to the pool. The chunk is searched
+/// for behind that at `near` first.
 pub(crate) fn take_among(
     chunks: &mut Vec<Chunk>,
     pool: &mut Vec<Chunk>,
+    near: usize,
     first: &Entry,
     later: &[Entry],
 ) -> (usize, Run)
@@ -150,7 +184,7 @@ pub(crate) fn take_among(
     ensures length { length chunks.new.items ≤ length chunks.old.items }
     ensures changed { IfSome result.1.place (λ place. IsChangedAt place chunks.old.items chunks.new.items) }
 {
-    let place = home(chunks, first);
+    let place = home(chunks, near, first);
     let given = run_into(&chunks[place], first, later);
     let (run, _) = later.split_at(given);
     let count = chunks[place].entries.len();
@@ -168,7 +202,12 @@ pub(crate) fn take_among(
 
 /// Adds the first entry and those behind it to the chunk to which they belong, as far as it has room; None where it has
 /// none, and nothing is changed.
-fn put_behind(chunks: &mut Vec<Chunk>, first: &Entry, later: &[Entry]) -> Option<(usize, usize)>
+fn put_behind(
+    chunks: &mut Vec<Chunk>,
+    near: usize,
+    first: &Entry,
+    later: &[Entry],
+) -> Option<(usize, usize)>
     requires chunks { AreChunks chunks.old.items }
     requires order { IsOrdered (all_listed chunks.old.items) }
     requires fresh { AreNew (first.now ∷ later.now) (all_listed chunks.old.items) }
@@ -183,7 +222,7 @@ fn put_behind(chunks: &mut Vec<Chunk>, first: &Entry, later: &[Entry]) -> Option
     if chunks.is_empty() {
         return None;
     }
-    let place = home(chunks, first);
+    let place = home(chunks, near, first);
     let room = chunks[place].room();
     if room == 0 {
         return None;
@@ -275,8 +314,9 @@ impl Table {
         changed
     }
 
-    /// Adds the first entry and some of those behind it, and answers how many of these, and the place of their chunk.
-    pub(crate) fn put_run(&mut self, first: &Entry, later: &[Entry]) -> Run
+    /// Adds the first entry and some of those behind it, and answers how many of these, and the place of their chunk,
+    /// which is searched for behind that at `near` first.
+    pub(crate) fn put_run(&mut self, near: usize, first: &Entry, later: &[Entry]) -> Run
         requires table { IsTable self.old }
         requires free { length later.now < free self.old }
         requires fresh { AreNew (first.now ∷ later.now) (all_listed self.old.chunks.items) }
@@ -287,7 +327,7 @@ impl Table {
         ensures length { length self.new.chunks.items ≤ length self.old.chunks.items + 1 }
         ensures changed { IfSome result.place (λ place. IsChangedAt place self.old.chunks.items self.new.chunks.items) }
     {
-        if let Some((given, place)) = put_behind(&mut self.chunks, first, later) {
+        if let Some((given, place)) = put_behind(&mut self.chunks, near, first, later) {
             self.count += given + 1;
             let place = Some(place);
             return Run { given, place };
@@ -297,8 +337,8 @@ impl Table {
     }
 
     /// Takes out what stands in the place of the first entry, and of some of those behind it, and answers how many of
-    /// these, and the place of their chunk.
-    pub(crate) fn take(&mut self, first: &Entry, later: &[Entry]) -> Run
+    /// these, and the place of their chunk, which is searched for behind that at `near` first.
+    pub(crate) fn take(&mut self, near: usize, first: &Entry, later: &[Entry]) -> Run
         requires { IsTable self.old }
         ensures given { result.given ≤ length later.now }
         ensures table { IsTable self.new }
@@ -311,7 +351,7 @@ impl Table {
             let place = None;
             return Run { given: 0, place };
         }
-        let (count, run) = take_among(&mut self.chunks, &mut self.pool, first, later);
+        let (count, run) = take_among(&mut self.chunks, &mut self.pool, near, first, later);
         self.count -= count;
         run
     }
@@ -327,7 +367,7 @@ impl Table {
     {
         let mut is_found = false;
         while let Some(entry) = find(&self.chunks, written, place) {
-            let _ = self.take(&entry, &[]);
+            let _ = self.take(0, &entry, &[]);
             is_found = true;
         }
         is_found

@@ -13,6 +13,7 @@ loop-entry-preserved c =
       order = rw new (ordered_inserted c.entry-item.result c.loop-entry.entries.items c.loop-entry.invariant.order fresh);
       entries = grind (arith, common_steps);
       fresh = grind (arith, common_steps);
+      near = rw (new, length_inserted c.entry-item.result c.loop-entry.entries.items) (omega (arith, c.place_of-near.ensures.within));
       more = rw (new, length_inserted c.entry-item.result c.loop-entry.entries.items) (omega (arith, c.loop-entry.invariant.more));
       room = search rules;
     }

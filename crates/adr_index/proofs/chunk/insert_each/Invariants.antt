@@ -7,6 +7,7 @@ invariant-loop-entry l = record {
   order : IsOrdered l.entries.items;
   entries : inserted_all (drop l.entry-index l.run) l.entries.items ≡ inserted_all l.run l.fn.entries.items;
   fresh : AreNew (drop l.entry-index l.run) l.entries.items;
+  near : l.near ≤ length l.entries.items;
   more : length l.entries.items ≡ length l.fn.entries.items + l.entry-index;
   room : vec_capacity l.fn.entries ≤ vec_capacity l.entries;
 }

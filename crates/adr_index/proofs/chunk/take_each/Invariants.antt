@@ -6,6 +6,7 @@ abbrev pub invariant-loop-entry : goal.invariant-loop-entry
 invariant-loop-entry l = record {
   order : IsOrdered l.entries.items;
   entries : others_all (drop l.entry-index l.run) l.entries.items ≡ others_all l.run l.fn.entries.items;
+  near : l.near ≤ length l.entries.items;
   fewer : length l.entries.items ≤ length l.fn.entries.items;
   room : vec_capacity l.fn.entries ≤ vec_capacity l.entries;
 }

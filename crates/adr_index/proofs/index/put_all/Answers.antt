@@ -6,7 +6,7 @@ use Rattle.adr_index.proofs.Runs.{inserted_rest, new_rest}
 use Rattle.adr_index.proofs.index.put_all.Goals as goal
 
 pub update-is_kept-requires-clause-tops : goal.update-is_kept-requires-clause-tops
-update-is_kept-requires-clause-tops c = λ kept. rw c.deref.ensures.value (still_kept c.put_run-run.result.place c.loop-first.table.chunks.items c.put_run-run.new.self.chunks.items c.loop-first.tops c.put_run-run.ensures.changed (c.loop-first.invariant.tops kept))
+update-is_kept-requires-clause-tops c = λ kept. rw c.deref-in-Some.ensures.value (still_kept c.put_run-run.result.place c.loop-first.table.chunks.items c.put_run-run.new.self.chunks.items c.loop-first.tops c.put_run-run.ensures.changed (c.loop-first.invariant.tops kept))
 
 pub loop-first-preserved : goal.loop-first-preserved
 loop-first-preserved c =
@@ -20,5 +20,5 @@ loop-first-preserved c =
       free = omega (arith, c.put_run-run.ensures.free, c.loop-first.invariant.free, count, left);
       nodes = search rules;
       length = omega (arith, c.put_run-run.ensures.length, c.loop-first.invariant.length, count, left);
-      tops = rw c.deref.ensures.value at c.update-is_kept.ensures;
+      tops = rw c.deref-in-Some.ensures.value at c.update-is_kept.ensures;
     }

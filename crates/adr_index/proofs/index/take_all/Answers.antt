@@ -5,7 +5,7 @@ use Rattle.adr_index.proofs.Runs.{others_rest}
 use Rattle.adr_index.proofs.index.take_all.Goals as goal
 
 pub update-is_kept-requires-clause-tops : goal.update-is_kept-requires-clause-tops
-update-is_kept-requires-clause-tops c = λ kept. rw c.deref.ensures.value (still_kept c.take-run.result.place c.loop-first.table.chunks.items c.take-run.new.self.chunks.items c.loop-first.tops c.take-run.ensures.changed (c.loop-first.invariant.tops kept))
+update-is_kept-requires-clause-tops c = λ kept. rw c.deref-in-Some.ensures.value (still_kept c.take-run.result.place c.loop-first.table.chunks.items c.take-run.new.self.chunks.items c.loop-first.tops c.take-run.ensures.changed (c.loop-first.invariant.tops kept))
 
 pub loop-first-preserved : goal.loop-first-preserved
 loop-first-preserved c =
@@ -16,5 +16,5 @@ loop-first-preserved c =
       free = omega (arith, c.take-run.ensures.free, c.loop-first.invariant.free);
       nodes = search rules;
       length = omega (arith, c.take-run.ensures.length, c.loop-first.invariant.length);
-      tops = rw c.deref.ensures.value at c.update-is_kept.ensures;
+      tops = rw c.deref-in-Some.ensures.value at c.update-is_kept.ensures;
     }
