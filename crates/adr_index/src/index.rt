@@ -27,9 +27,9 @@ use std::marker::Model;
 ///
 /// No two entries have one written number and place. An entry whose span covers no moment is kept, and never found.
 ///
-/// They lie in chunks of at most 64. An edit goes to one chunk, found by halving, and writes what the tree of greatest
-/// ends has over that chunk. Where a chunk is parted or emptied, all of the tree is written anew: with n entries a step
-/// for each of some n/48 chunks.
+/// They lie in chunks of at most 64. An edit goes to one chunk, found by halving or behind the last one, and writes what
+/// the tree of greatest ends has over that chunk. Where a chunk is parted or emptied or many are changed, all of the
+/// tree is written anew: with n entries a step for each of some n/48 chunks.
 pub struct Index {
     table: Table,
     tops: Vec<Option<End>>,
@@ -279,9 +279,10 @@ impl Index {
     }
 
     /// Takes out what stands in the place of an old entry, with its start, written number and place, and adds the new
-    /// ones, as when an event is written again. It takes no memory. Cost: for each entry of both some 64 steps in its
-    /// chunk, whose tree is written once for entries that come in order, and once a step for each chunk where one is parted
-    /// or emptied.
+    /// ones, as when an event is written again. It takes no memory. Cost: for entries that come in order each chunk of
+    /// theirs is gone through once, and its tree written once; for others some 64 steps each. The tree over the chunks
+    /// is written along the paths to theirs, or once whole, a step for each chunk, where a chunk is parted or emptied
+    /// or there are more entries than a 32nd of the chunks.
     pub fn replace(&mut self, old: &[Entry], new: &[Entry])
         requires room { length new.now ≤ self.old.spare }
         requires fresh { AreNew new.now (others_all old.now self.old.entries) }
