@@ -81,7 +81,7 @@ impl Plain {
     ///
     /// The least fault is answered: `NoStart`, `AfterEndless` or `TimeRange` from the earliest interval that has one,
     /// `Exists`, `NotThere`, `NoProgram`, `NoVen`, `InUse`, `Full`. `NoMemory` may come in place of any answer. A
-    /// refusal changes nothing. Cost: the edit's size, and for a delete the objects of the kind that come after.
+    /// refusal changes nothing. Cost: the edit's size, and some paths in trees.
     pub fn edit(&mut self, edit: Edit) -> Result<u64, Refusal>
         ensures ok { IfOk result (λ version. (step_to (full_at self.old.base) self.old.current edit ≡ Ok self.new.current) × (version ≡ self.new.current.version)) }
         ensures bound { IfOk result (λ version. version ≤ MOST_VERSION) }
@@ -95,7 +95,7 @@ impl Plain {
     }
 
     /// Publishes the objects as they are. `Full` after 1,000,000 publications, `NoMemory` where there is no room for
-    /// a copy; a refusal changes nothing. Cost: a copy of the book's tables and batches, which share their objects.
+    /// a copy; a refusal changes nothing. Cost: a copy of the book, which shares all, and its seal.
     pub fn publish(&mut self) -> Result<Published, Refusal>
         ensures ok { OnOk result ((self.old.number < MOST_PUBLICATIONS)
             × (self.new ≡ record self.old { published = self.old.current; number = self.old.number + 1 })) }
@@ -118,7 +118,7 @@ impl Plain {
     }
 
     /// Counts the accepted edits from the last publication on, and answers its version. `NoMemory` leaves all as it
-    /// was. Cost: a copy of the tables.
+    /// was. Cost: a copy of the book, which shares all.
     #[tactic(auto, unfolding(adr_model::specs::Edits::after_from))]
     pub fn condense(&mut self) -> Result<u64, Refusal>
         ensures answer { IfOk result (λ version. version ≡ self.old.published.version) }

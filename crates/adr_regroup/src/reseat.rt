@@ -139,7 +139,7 @@ fn reseated<C: Fn(&Indexes, &[Job]) -> Result<Vec<Done>, Refusal>>(
 }
 
 /// The schedule where each of the places has the writes of the events that apply to its resource. A place shares the group
-/// of the last one that was seen to, or of one a little before it, where that has the same writes.
+/// of the last one that was seen to, or of one near it, where that has the same writes.
 pub(crate) fn reseated_all<C: Fn(&Indexes, &[Job]) -> Result<Vec<Done>, Refusal>>(
     alloc: Global,
     crew: &C,

@@ -28,7 +28,8 @@ use std::thread::Threads;
 /// # Errors
 ///
 /// `Reading` and `Writing` where the reader or writer failed or took no byte, `Reads` after 4,294,967,296 reads,
-/// `Runtime` where a board could not be opened, for want of memory or of a reader's place.
+/// `Runtime` where there is no memory to begin with, or a board could not be opened, for want of memory or of a
+/// reader's place.
 pub fn run<R: Read, W: Write>(
     rt: &(impl AllocGlobal + Threads + Wait + Sync),
     reader: &mut R,
@@ -61,8 +62,8 @@ pub fn run<R: Read, W: Write>(
     run_logged(rt, reader, &mut reads, writer, &mut writes, workers, tie)
 }
 
-/// Does what [`run`] does, and notes what its reads and writes met: a fault comes only where a read or a write failed,
-/// or all the reads that there are were made, and none of these is passed over.
+/// Does what [`run`] does, and notes what its reads and writes met: a fault of reading or writing comes only where a
+/// read or a write failed, or all the reads that there are were made, and none of these is passed over.
 ///
 /// # Errors
 ///
