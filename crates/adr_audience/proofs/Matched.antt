@@ -40,10 +40,6 @@ none_in k f (t ∷ ts) = list_any-append (same_key k) (keys_of_target t) (keys_o
     by true = refl
     by false = f t.kind t.values
 
-or_false : (b : Bool) → (b || false) ≡ b
-or_false true = refl
-or_false false = refl
-
 module _ (r : OneResource) (v : OneVen) where
   none_of_both : (k : Key) → ((kind : List ℕ) (vs : List Datum) → list_any (same_key k) (map (λ x. Value kind x) vs) ≡ false)
       → (list_any (same_key k) (keys_of r.targets) || list_any (same_key k) (keys_of v.targets)) ≡ false

@@ -1,13 +1,9 @@
 -- Target lists, type by type and value by value.
-use Rattle.std.proofs.Common.{◌≡◌, ℕ, ◌<◌, ◌+◌, ◌&&◌, ◌||◌, ◌∷◌, [], true, false, cond, Bool, List, length, get_or, take, filter, zero, suc, refl, ap, sym, ◌∙◌, arith, bytes_eq}
+use Rattle.std.proofs.Common.{◌≡◌, ℕ, ◌<◌, ◌+◌, ◌&&◌, ◌||◌, ◌∷◌, [], true, false, cond, Bool, List, length, get_or, take, filter, zero, suc, refl, ap, sym, ◌∙◌, arith}
 use Rattle.std.proofs.lemmas.List.{take_more}
 use Rattle.std.proofs.lemmas.List.Folds.{list_any-append, list_all-append}
 use Rattle.std.specs.List.{list_any, list_all, range_with_len}
-use Rattle.adr_object.specs.declared.event.Event.{Event}
 use Rattle.adr_object.specs.declared.event.Target.{Target}
-use Rattle.adr_object.specs.declared.party.Program.{Program}
-use Rattle.adr_keys.specs.declared.key.Key.{Key}
-use Rattle.adr_audience.specs.Query.{is_fixed, is_called, is_offered, meets_value, meets_type}
 
 pub or_false : (b : Bool) → (b || false) ≡ b
 or_false true = refl
@@ -37,13 +33,6 @@ module _ {X : Type 0} (test : X → Bool) (xs : List X) (i : ℕ) (x : X) (h : i
   pub any_more : list_any test (take (i + 1) xs) ≡ (list_any test (take i xs) || test x)
   any_more = ap (list_any test) (take_more xs i x h) ∙ list_any-append test (take i xs) (get_or xs i x ∷ [])
       ∙ ap (λ y. list_any test (take i xs) || (test y || false)) (sym e) ∙ ap (λ b. list_any test (take i xs) || b) (or_false (test x))
-
-module _ (event : Event) (program : Program) (offered : Key → Bool) (targets : List Target) (kind : List ℕ) where
-  pub met_fixed : is_fixed kind ≡ true → meets_type (meets_value event program offered) targets kind ≡ meets_type (is_called event program) targets kind
-  met_fixed e = ap (λ b. list_any (λ u. bytes_eq u.kind kind && list_any (cond b (is_called event program kind) (is_offered offered kind)) u.values) targets) e
-
-  pub met_offered : is_fixed kind ≡ false → meets_type (meets_value event program offered) targets kind ≡ meets_type (is_offered offered) targets kind
-  met_offered e = ap (λ b. list_any (λ u. bytes_eq u.kind kind && list_any (cond b (is_called event program kind) (is_offered offered kind)) u.values) targets) e
 
 -- two tests that agree on the first places list the same
 pub filter-range : (f g : ℕ → Bool) (a n : ℕ) → ((p : ℕ) → p < a + n → f p ≡ g p) → filter f (range_with_len a n) ≡ filter g (range_with_len a n)

@@ -63,9 +63,6 @@ snapshot_send = search (sendable, std.crosses, resolution_send) depth 60 fits 60
 pub snapshot_sync : IsSync Snapshot.the_row
 snapshot_sync = search (sendable, std.crosses, resolution_sync) depth 60 fits 60000
 
-shown_send : IsSend Shown.the_row
-shown_send = search (sendable, std.crosses, snapshot_send, snapshot_sync, seen.the_send) depth 60 fits 60000
-
 shown_sync : IsSync Shown.the_row
 shown_sync = search (sendable, std.crosses, snapshot_send, snapshot_sync, seen.the_sync) depth 60 fits 60000
 

@@ -1,5 +1,5 @@
 -- Names of private types, over edits.
-use Rattle.std.proofs.Common.{◌≡◌, ℕ, List, [], ◌∷◌, refl, sym, ap, subst, ◌∙◌, Result, Ok, Err, OnOk, OnErr}
+use Rattle.std.proofs.Common.{◌≡◌, ℕ, List, [], ◌∷◌, refl, sym, ap, subst, ◌∙◌, Result, Ok, Err}
 use Rattle.std.specs.Result.{result_unwrap_or}
 use Rattle.std.specs.List.{flat_map}
 use Rattle.adr_value.specs.declared.refusal.Refusal.{Refusal}
@@ -13,12 +13,6 @@ use Rattle.adr_snapshot.specs.Types.{ArePrivate, edit_names, HasPrivateNames}
 
 abbrev pub StaysPrivate : Type 0
 StaysPrivate = (full : ℕ) (old new : Book) (x : Edit) → HasPrivateNames old → ArePrivate (edit_names x) → step_to full old x ≡ Ok new → HasPrivateNames new
-
--- an accepted edit leaves private names, a refused one leaves all
-pub applied_private : {X : Type 0} (r : Result X Refusal) (full : ℕ) (old new : Book) (x : Edit) → StaysPrivate → HasPrivateNames old → ArePrivate (edit_names x)
-    → OnOk r (step_to full old x ≡ Ok new) → OnErr r (new ≡ old) → HasPrivateNames new
-applied_private (Ok y) full old new x law names own ok err = law full old new x names own ok
-applied_private (Err e) full old new x law names own ok err = subst HasPrivateNames (sym err) names
 
 abbrev pub no_names : HasPrivateNames empty
 no_names name m = absurd m

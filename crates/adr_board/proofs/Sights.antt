@@ -1,5 +1,5 @@
 -- What a look finds.
-use Rattle.std.proofs.Common.{◌≡◌, ◌⊎◌, inl, ℕ, true, List, Option, Some, None, refl, sym, subst, arith, Result, Ok, Err, IfOk, IfErr, is_some}
+use Rattle.std.proofs.Common.{◌≡◌, ◌⊎◌, inl, ℕ, List, Option, Some, None, refl, sym, subst, arith, Result, Ok, Err, IfOk, IfErr}
 use Rattle.std.specs.Prelude.{IfSome, option_map}
 use Rattle.std.specs.Arc.{arc_value}
 use Rattle.std.specs.declared.sync.Arc.{Arc}
@@ -47,16 +47,6 @@ taken old new known log number attempt None (Some s) longer sight is last copies
     still_last old new log number attempt (arc_value s) longer sight same last
 taken old new known log number attempt (Some (Ok s)) own longer sight is last copies had = subst (λ (l : Publications). IsLast l s) (sym is) copies.0
 taken old new known log number attempt (Some (Err e)) own longer sight is last copies had = tt
-
--- a reader that takes no fresh copy has a snapshot
-pub has_own : {Z : Type 0} (number : ℕ) (fresh : Option (Result PublishedBook Refusal)) (own : Option (Arc PublishedBook Z))
-    → (fresh ≡ None → option_map (λ s. (arc_value {X = PublishedBook} s).number) own ≡ Some number) → fresh ≡ None → is_some own ≡ true
-has_own number fresh None had none = absurd (cc (had none))
-has_own number fresh (Some s) had none = refl
-
-pub fresh_refusal : (fresh : Option (Result PublishedBook Refusal)) (known : Publications) → IfSome fresh (λ copy. IfOk copy (IsLast known) × OnlyNoMemory copy) → IfSome fresh (λ copy. OnlyNoMemory copy)
-fresh_refusal None known copies = tt
-fresh_refusal (Some copy) known copies = copies.1
 
 -- one more share of a snapshot shows what it shows
 pub shared_last : {Z : Type 0} (r : Result (Arc PublishedBook Z) Refusal) (own : Arc PublishedBook Z) (seen : Publications)

@@ -454,6 +454,7 @@ impl<J: Naming> Editor<J> {
             of: PhantomData,
         }
     }
+
     /// Closes the open batch, and shows the desk to readers under the next number, also where nothing is new.
     ///
     /// It waits for readers that are just taking a share of the publication before the last. `Full` after 1,000,000
@@ -512,7 +513,8 @@ impl<J: Naming> Editor<J> {
     }
 
     /// Counts the accepted edits from the last publication on, lets the closed batches go and answers that publication's
-    /// version. Readers see nothing of it. `NoMemory` leaves all as it was.
+    /// version. Readers see nothing of it. Publications that stand share those batches, so their memory comes back as later
+    /// ones take their place. `NoMemory` leaves all as it was.
     pub fn condense(&mut self) -> Result<u64, Refusal>
         ensures version { IfOk result (λ version. version ≡ (last_of self.old.published).book.version) }
         ensures base { OnOk result (self.new.book.base ≡ (last_of self.old.published).book) }
@@ -689,9 +691,10 @@ fn names_of_first_batch(desk: &Desk)
 pub struct Board;
 
 impl Board {
-    /// A board with publication 0 alone, which is the empty book, an empty desk, and so many readers.
+    /// A board with publication 0 alone, which is the empty book, an empty desk, and so many readers, 1 to 64.
     ///
-    /// `NoRuntime` where a reader's place is refused, for which way out the handle is there; else `NoMemory`.
+    /// `NoRuntime` where a reader's place is refused: then the board is ended again, which may wait, by the handle; else
+    /// `NoMemory`.
     pub fn open<J: Naming, R: Wait>(
         alloc: Global,
         rt: &R,
@@ -714,7 +717,8 @@ impl Board {
         Board::over(alloc, rt, board, Desk::new(alloc, tie)?, readers)
     }
 
-    /// The same with a desk that stays the editor's, and the same refusals. Publication 0 is the empty book here too.
+    /// The same with a desk that stays the editor's, whose book has no base and no closed batch, and the same refusals.
+    /// Publication 0 is the empty book here too.
     pub fn over<J: Naming, R: Wait>(
         alloc: Global,
         rt: &R,

@@ -57,6 +57,8 @@ impl Outcome<Shown, View> for Add {
     ghost then = { Adds };
 }
 
+/// A reader of copies that are swapped (`left_right`), under the rule of a board.
 pub type RuledReader<J> = Reader<Shown, View, OneList<J>>;
 
+/// The one writer of such copies.
 pub type RuledWriter<J> = Writer<Shown, Shown, View, OneList<J>>;

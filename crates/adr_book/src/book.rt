@@ -250,7 +250,8 @@ impl Book {
 
     /// Makes the objects of `at` the base, lets the closed batches go and answers the base's version. `at` has the
     /// objects that the base and the closed batches lead to, as a copy made when the last of them was closed.
-    /// `NoMemory` leaves all as it was. Cost: the same whatever the book holds, and letting the old batches go.
+    /// `NoMemory` leaves all as it was. Cost: the same whatever the book holds, and letting the old batches and what the
+    /// old base alone holds go.
     pub fn condense(&mut self, at: &Book) -> Result<u64, Refusal>
         requires { at.now.objects ≡ sealed_of self.old }
         ensures base { OnOk result (self.new.base ≡ at.now.objects) }

@@ -2,14 +2,11 @@
 use Rattle.std.proofs.Common.{◌≡◌, ℕ, ℤ, ◌≤ℤ◌, ◌<◌, ◌^◌, ◌⊎◌, inl, inr, ◌||◌, Bool, true, false, List, [], ◌∷◌, ◌++◌, length, if◌then◌else◌, refl, ap, sym, subst, ◌∙◌, arith}
 use Rattle.std.specs.Prelude.{int_le}
 use Rattle.std.proofs.lemmas.Bool.{and_parts, or_cases}
-use Rattle.std.proofs.lemmas.Grind.{flat_map-append}
 use Rattle.std.proofs.lemmas.Int.{ints}
 use Rattle.std.proofs.lemmas.List.Sums.{sum_by-cons}
 use Rattle.adr_value.specs.Payload.{name_of}
 use Rattle.adr_value.specs.Same.{same_type}
 use Rattle.adr_value.specs.declared.payload.PayloadType.{PayloadType}
-use Rattle.adr_time.specs.declared.span.End.TheVariants.{Endless}
-use Rattle.adr_time.specs.declared.span.Span.{Span}
 use Rattle.adr_time.specs.Spans.{covers, is_before}
 use Rattle.adr_model.specs.declared.entry.Entry.{Entry}
 use Rattle.adr_model.proofs.Lists.{bytes_eq_self}
@@ -23,9 +20,6 @@ use Rattle.adr_bulk.proofs.Choosing.{any_left, any_right}
 
 le_from : (a b : ℤ) → int_le a b ≡ true → a ≤ℤ b
 le_from a b h = grind (arith, ints)
-
-le_to : (a b : ℤ) → a ≤ℤ b → int_le a b ≡ true
-le_to a b h = grind (arith, ints)
 
 le_both : (a b c : ℤ) → a ≤ℤ b → b ≤ℤ c → a ≤ℤ c
 le_both a b c h k = grind (arith, ints)
@@ -50,9 +44,6 @@ none_late from [] t none (inl c) = absurd (cc c)
 none_late from (e ∷ es) t none (inl c) = absurd (omega (arith, none))
 
 -- ---- a window that covers all from a moment on
-
-pub covers_from : (from t : ℤ) (span : Span) → span.start ≡ from → span.end ≡ Endless → from ≤ℤ t → covers span t ≡ true
-covers_from from t span start end le = rw (start, end, le_to from t le) refl
 
 -- windows of a type cover all of it
 pub typed_covers : (from : ℤ) (windows : List TypeEntries) (j k : PayloadType) (t : ℤ) → AreFrom from windows → has_type windows j ≡ true → same_type j k ≡ true
@@ -96,45 +87,12 @@ module _ (from : ℤ) (old new : List TypeEntries) (w : TypeEntries) (made : new
   pub pushed_from : AreFrom from old → IsFrom from w → AreFrom from new
   pushed_from all one = subst (AreFrom from) (sym made) (all_push from old w all one)
 
-  pub pushed_kept : (k : PayloadType) (t : ℤ) → any_covers_at (entries_under old k) t ≡ true → any_covers_at (entries_under new k) t ≡ true
-  pushed_kept k t c =
-      ap (λ gs. any_covers_at (entries_under gs k) t) made
-      ∙ ap (λ es. any_covers_at es t) (flat_map-append _ old (w ∷ []))
-      ∙ any_left (entries_under old k) (entries_under (w ∷ []) k) t c
-
   pub pushed_covers : (g : TypeEntries) → ((t : ℤ) → any_covers_at g.entries.items t ≡ true → from ≤ℤ t) → AreFrom from old → IsFrom from w → same_type w.payload_type g.payload_type ≡ true
       → (k : PayloadType) (t : ℤ) → any_covers_at (own_entries g k) t ≡ true → any_covers_at (entries_under new k) t ≡ true
   pushed_covers g late all one same =
       held_covers from g late new (pushed_from all one) (ap (λ gs. has_type gs g.payload_type) made ∙ has_last old w g.payload_type same)
 
 -- ---- one group after the other
-
-pub next_covered : (windows after rest more : List TypeEntries) (g : TypeEntries) (k : PayloadType) (t : ℤ) → rest ≡ g ∷ more
-    → (any_covers_at (entries_under windows k) t ≡ true → any_covers_at (entries_under after k) t ≡ true)
-    → (any_covers_at (own_entries g k) t ≡ true → any_covers_at (entries_under after k) t ≡ true)
-    → (any_covers_at (entries_under windows k) t ≡ true) ⊎ (any_covers_at (entries_under rest k) t ≡ true)
-    → (any_covers_at (entries_under after k) t ≡ true) ⊎ (any_covers_at (entries_under more k) t ≡ true)
-next_covered windows after rest more g k t first kept own (inl c) = inl (kept c)
-next_covered windows after rest more g k t first kept own (inr c) = by (parts (own_entries g k) (entries_under more k) (sym (ap (λ gs. any_covers_at (entries_under gs k) t) first) ∙ c))
-  where
-    parts : (xs ys : List Entry) → any_covers_at (xs ++ ys) t ≡ true → (any_covers_at xs t ≡ true) ⊎ (any_covers_at ys t ≡ true)
-    parts [] ys h = inr h
-    parts (x ∷ xs) ys h = at (covers x.span t) h (parts xs ys)
-      where
-        at : (b : Bool) → (b || any_covers_at (xs ++ ys) t) ≡ true → (any_covers_at (xs ++ ys) t ≡ true → (any_covers_at xs t ≡ true) ⊎ (any_covers_at ys t ≡ true))
-            → ((b || any_covers_at xs t) ≡ true) ⊎ (any_covers_at ys t ≡ true)
-        at true k later = inl refl
-        at false k later = later k
-
-    by : (any_covers_at (own_entries g k) t ≡ true) ⊎ (any_covers_at (entries_under more k) t ≡ true)
-        → (any_covers_at (entries_under after k) t ≡ true) ⊎ (any_covers_at (entries_under more k) t ≡ true)
-    by (inl h) = inl (own h)
-    by (inr h) = inr h
-
-pub none_covered : (windows rest : List TypeEntries) (k : PayloadType) (t : ℤ) → rest ≡ []
-    → (any_covers_at (entries_under windows k) t ≡ true) ⊎ (any_covers_at (entries_under rest k) t ≡ true) → any_covers_at (entries_under windows k) t ≡ true
-none_covered windows rest k t none (inl c) = c
-none_covered windows rest k t none (inr c) = absurd (cc (sym (ap (λ gs. any_covers_at (entries_under gs k) t) none) ∙ c))
 
 -- one entry in each window
 pub one_each : (from : ℤ) (windows : List TypeEntries) → AreFrom from windows → entries_in_groups windows ≡ length windows

@@ -23,9 +23,6 @@ use Rattle.adr_model.proofs.AnswerLaws.{same_from_winner, until_is_the_next_chan
 use Rattle.adr_model.proofs.QueryLaws.{segments_are_apart, segments_are_in_order, segments_begin_at_changes, segments_cover_all, segments_show_one}
 use Rattle.adr_calendar.specs.Segments.{governs_within, line_of_segment, segment_from, segments_within, IsCalendar, ListsTellTimelines}
 
-none_some : {X : Type 0} (x : X) → ◌≢◌ {A = Option X} None (Some x)
-none_some x h = cc
-
 -- ---- a row of instants, each of which begins a segment
 
 module _ (governor : ℤ → Option Winner) (end : ℤ → ℤ) where

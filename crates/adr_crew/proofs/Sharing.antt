@@ -1,7 +1,7 @@
 -- The parts of jobs that are shared out are all the jobs.
-use Rattle.std.proofs.Common.{◌≡◌, ℕ, zero, suc, ◌+◌, ◌*◌, ◌/◌, ◌-◌, ◌≤◌, ◌<◌, ◌^◌, List, [], ◌∷◌, ◌++◌, length, take, drop, sum_by, refl, sym, ap, subst, ◌∙◌, arith, append-nil}
+use Rattle.std.proofs.Common.{◌≡◌, ℕ, ◌+◌, ◌*◌, ◌/◌, ◌-◌, ◌≤◌, ◌<◌, List, [], ◌∷◌, ◌++◌, length, take, drop, sum_by, refl, sym, ap, subst, ◌∙◌, arith, append-nil}
 use Rattle.std.specs.List.{AllZip}
-use Rattle.std.proofs.Math.Seq.{take-add, take-length}
+use Rattle.std.proofs.Math.Seq.{take-add}
 use Rattle.std.proofs.Math.Nat.{div-mul-le_self}
 use Rattle.std.proofs.lemmas.List.Sums.{sum_by-append, sum_by-take-drop, sum_by-take-le}
 use Rattle.std.proofs.lemmas.Nat.{le-div, div-mul-add}
@@ -29,18 +29,6 @@ pub bound_last : (n w : ℕ) → 0 < w → w * n / w ≡ n
 bound_last n w pos =
     let e : w * n ≡ n * w + 0 = grind arith in
     ap (λ k. k / w) e ∙ div-mul-add n w 0 pos
-
-pub bound_first : (n w : ℕ) → 0 < w → 0 * n / w ≡ 0
-bound_first n w pos =
-    let e : 0 * n ≡ 0 * w + 0 = grind arith in
-    ap (λ k. k / w) e ∙ div-mul-add 0 w 0 pos
-
--- no bound is past the end
-pub bound_inside : (a n w : ℕ) → a ≤ w → 0 < w → a * n / w ≤ n
-bound_inside a n w le pos =
-    let more = bound_le a w n w le pos in
-    let last = bound_last n w pos in
-    omega (arith, more, last)
 
 -- ---- what parts compare
 

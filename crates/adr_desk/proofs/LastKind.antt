@@ -1,5 +1,5 @@
--- An edit is of one of four kinds.
-use Rattle.std.proofs.Common.{◌≡◌, ◌∙◌, true, false, Ok, refl, ap}
+-- What an edit of no event leaves.
+use Rattle.std.proofs.Common.{◌≡◌, ◌∙◌, false, Ok, refl, ap}
 use Rattle.adr_object.specs.declared.object.Object.TheVariants.{Program as program, Event as event_object, Ven as ven, Resource as resource}
 use Rattle.adr_object.specs.declared.object.Kind.TheVariants.{Program as program_kind, Event as event_kind, Ven as ven_kind, Resource as resource_kind}
 use Rattle.adr_object.specs.declared.object.Edit.{Edit}
@@ -7,25 +7,8 @@ use Rattle.adr_object.specs.declared.object.Edit.TheVariants.{Create, Change, Re
 use Rattle.adr_model.specs.Book.{Book}
 use Rattle.adr_model.specs.Edits.{made, step}
 use Rattle.adr_model.proofs.EditLemmas.{accepted}
-use Rattle.adr_regroup.specs.Party.{is_of_resource, is_of_ven}
-use Rattle.adr_regroup.specs.Program.{is_of_program}
 use Rattle.adr_desk.specs.Edited.{is_of_event}
 
-pub last_kind : (edit : Edit) → is_of_event edit ≡ false → is_of_program edit ≡ false → is_of_ven edit ≡ false → is_of_resource edit ≡ true
-last_kind (Create (resource r)) e p v = refl
-last_kind (Create (program x)) e p v = absurd (cc)
-last_kind (Create (event_object x)) e p v = absurd (cc)
-last_kind (Create (ven x)) e p v = absurd (cc)
-last_kind (Change (resource r)) e p v = refl
-last_kind (Change (program x)) e p v = absurd (cc)
-last_kind (Change (event_object x)) e p v = absurd (cc)
-last_kind (Change (ven x)) e p v = absurd (cc)
-last_kind (Remove resource_kind id) e p v = refl
-last_kind (Remove program_kind id) e p v = absurd (cc)
-last_kind (Remove event_kind id) e p v = absurd (cc)
-last_kind (Remove ven_kind id) e p v = absurd (cc)
-
--- one that is of none leaves the events
 made_events : (old : Book) (edit : Edit) → is_of_event edit ≡ false → old.events ≡ (made old edit).events
 made_events old (Create (program x)) h = refl
 made_events old (Create (event_object x)) h = absurd (cc)

@@ -1,5 +1,5 @@
 -- The indexes while an edit of an event is made, and the groups after it.
-use Rattle.std.proofs.Common.{◌≡◌, ℕ, ◌+◌, ◌*◌, ◌<◌, ◌≤◌, ◌^◌, inl, inr, true, List, [], ◌++◌, length, slice_get, Option, Some, None, refl, ap, sym, subst, ◌∙◌, arith}
+use Rattle.std.proofs.Common.{◌≡◌, ℕ, ◌+◌, ◌*◌, ◌<◌, ◌≤◌, ◌^◌, inl, inr, List, [], ◌++◌, length, slice_get, Option, Some, None, refl, ap, sym, subst, ◌∙◌, arith}
 use Rattle.std.specs.Prelude.{option_to_list}
 use Rattle.adr_value.specs.declared.payload.PayloadType.{PayloadType}
 use Rattle.adr_object.specs.declared.party.Resource.{Resource}
@@ -11,7 +11,7 @@ use Rattle.adr_index.specs.Index.{inserted_all, others_all, AreNew}
 use Rattle.adr_stretch.specs.declared.grouped.TypeEntries.{TypeEntries}
 use Rattle.adr_stretch.specs.Grouped.{entries_under}
 use Rattle.adr_lines.specs.declared.indexes.Indexes.{Indexes}
-use Rattle.adr_lines.specs.Exchange.{AreEntriesOf, FitsTheIndex, IsIndexOf, IsUndone, KeepsTheIndex, MakesTheIndex}
+use Rattle.adr_lines.specs.Exchange.{AreEntriesOf, FitsTheIndex, IsIndexOf, IsUndone, MakesTheIndex}
 use Rattle.adr_lines.specs.Indexes.{under}
 use Rattle.adr_group.specs.Group.{RightMoves}
 use Rattle.adr_group.specs.Repair.{most_possible}
@@ -19,7 +19,7 @@ use Rattle.adr_schedule.specs.declared.change.Change.{Change}
 use Rattle.adr_schedule.specs.declared.change.Side.{Side}
 use Rattle.adr_schedule.specs.Moves.{is_among}
 use Rattle.adr_schedule.specs.Seating.{Seating, AreRight, AreSeatedFor, IsShifted}
-use Rattle.adr_schedule.specs.Shift.{entries_in, number_in, sides_of, AreSidesOf, AreTwo}
+use Rattle.adr_schedule.specs.Shift.{entries_in, number_in, sides_of, AreSidesOf}
 use Rattle.adr_value.specs.Limits.{limits}
 use Rattle.adr_value.specs.declared.limits.TheConstants.{MOST_VERSION}
 use Rattle.adr_model.specs.Within.{IsWithin}
@@ -58,12 +58,6 @@ module _ (tie : Tie) (old new : Book) (gone come : Option Written) (x : IsExchan
       (undone old.events (with_come old come) [] (option_to_list come) (first_exchange old new gone come x)) i (entries_of_side tie come side c) no_entries e
 
 -- ---- the groups
-
-pub lone_side : (change : Change) → change.come ≡ None → AreTwo change
-lone_side change none n a b = absurd (no n (subst (λ s. Rattle.adr_group.specs.Writes.is_number (number_in s) n ≡ true) none b))
-  where
-    no : (n : ℕ) → Rattle.adr_group.specs.Writes.is_number None n ≡ true → ⊥
-    no n h = absurd (cc)
 
 module _ (law : (tie : Tie) → RightMoves tie) (tie : Tie) (old : Book) (gone come : Option Written) (indexes : Indexes) (change alone : Change)
     (g : IsSideOf tie gone change.gone) (c : IsSideOf tie come change.come) (a : IsSideOf tie gone alone.gone) (lone : alone.come ≡ None)
@@ -136,15 +130,6 @@ module _ (tie : Tie) (old new : Book) (gone come : Option Written) (x : IsExchan
     indexed = come_out tie old new gone come x undone makes with after change.come (come_indexed tie old new gone come x makes before with change.come desk.indexed c put) c taken;
     seated = desk.seated;
   }
-
--- where no entry changed it is the same desk
-pub desk_same : (tie : Tie) (book : Book) (keys : Keys) (before after : Indexes) (s : Seating) → KeepsTheIndex tie → IsDesk tie book keys before s
-    → ((k : PayloadType) → under after k ≡ under before k) → IsDesk tie book keys after s
-desk_same tie book keys before after s keeps desk same = record {
-  keys_are = desk.keys_are;
-  indexed = keeps book.events before after desk.indexed same;
-  seated = desk.seated;
-}
 
 -- ---- the room of an edit
 

@@ -89,8 +89,8 @@ impl Touched {
     }
 }
 
-/// What an accepted edit did: the version after it, where it may have changed what governs, and how many ranks its
-/// repairs compared.
+/// What an accepted edit did: the version after it, where it may have changed what governs, and how often its
+/// repairs compared two ranks.
 pub struct Receipt {
     /// The number of accepted edits.
     pub version: u64,

@@ -104,6 +104,3 @@ first_attempt log n a p is number place empty = record { earlier = []; log_is = 
 
 pub first_log : (log before : List Entry) (p q : Publication) → log ≡ before ++ begun q ∷ [] → before ≡ [] → q ≡ p → log ≡ begun p ∷ []
 first_log log before p q is empty same = is ∙ (ap (λ (l : List Entry). l ++ begun q ∷ []) empty ∙ ap (λ (r : Publication). begun r ∷ []) same)
-
-pub first_seen : (log : List Entry) (p : Publication) → log ≡ begun p ∷ [] → p ≡ opening → seen_by log ≡ opening ∷ []
-first_seen log p is empty = ap seen_by is ∙ ap (λ (q : Publication). q ∷ []) empty

@@ -1,8 +1,8 @@
 -- Texts written one behind the other, of which one may stop somewhere.
-use Rattle.std.proofs.Common.{◌≡◌, ℕ, List, [], ◌++◌, Option, refl, sym, ap, subst, ◌∙◌, append_assoc, append-nil}
+use Rattle.std.proofs.Common.{◌≡◌, ℕ, List, ◌++◌, Option, sym, ap, ◌∙◌, append_assoc}
 use Rattle.std.specs.Prelude.{Result, Ok, Err, OnErr}
 use Rattle.std.specs.Io.KnownBytes.{Appends}
-use Rattle.std.proofs.KnownBytes.{Appends-nil, Appends-trans}
+use Rattle.std.proofs.KnownBytes.{Appends-trans}
 use Rattle.adr_fan.specs.Levels.{WritesPart}
 
 abbrev Known : Type 0
@@ -12,14 +12,8 @@ Known = Option (List ℕ)
 abbrev pub Wrote : Known → Known → List ℕ → List ℕ → Type 0
 Wrote old new whole rest = (done : List ℕ) × Appends old new done × (whole ≡ done ++ rest)
 
-pub wrote_nothing : (a : Known) (whole : List ℕ) → Wrote a a whole whole
-wrote_nothing a whole = ([], Appends-nil a, refl)
-
 pub wrote_more : (a b c : Known) (whole text rest : List ℕ) → Wrote a b whole (text ++ rest) → Appends b c text → Wrote a c whole rest
 wrote_more a b c whole text rest (done, appended, is) more = (done ++ text, Appends-trans a b c done text appended more, is ∙ sym (append_assoc done text rest))
-
-pub wrote_all : (a b : Known) (whole : List ℕ) → Wrote a b whole [] → Appends a b whole
-wrote_all a b whole (done, appended, is) = subst (Appends a b) (sym (is ∙ append-nil done)) appended
 
 pub wrote_part : (a b c : Known) (whole text rest : List ℕ) → Wrote a b whole (text ++ rest) → WritesPart b c text → WritesPart a c whole
 wrote_part a b c whole text rest (done, appended, is) (part, more, cut, written) =
@@ -31,9 +25,6 @@ part_front a b text more (part, left, is, written) = (part, left ++ more, ap (λ
 pub part_behind : (a b c : Known) (text more : List ℕ) → Appends a b text → WritesPart b c more → WritesPart a c (text ++ more)
 part_behind a b c text more appended (part, left, is, written) =
     (text ++ part, left, ap (λ t. text ++ t) is ∙ sym (append_assoc text part left), Appends-trans a b c text part appended written)
-
-pub wrote_whole : (a b : Known) (whole rest : List ℕ) → Wrote a b whole rest → rest ≡ [] → Appends a b whole
-wrote_whole a b whole rest wrote none = wrote_all a b whole (subst (Wrote a b whole) none wrote)
 
 pub at_err : {T E : Type 0} (r : Result T E) (P : Type 0) → P → OnErr r P
 at_err (Ok x) P p = tt

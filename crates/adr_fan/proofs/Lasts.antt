@@ -1,5 +1,5 @@
 -- The last publication.
-use Rattle.std.proofs.Common.{◌≡◌, ℕ, ◌+◌, ◌-◌, ◌<◌, List, [], ◌∷◌, length, take, get_or, refl, sym, ap, ◌∙◌, arith}
+use Rattle.std.proofs.Common.{◌≡◌, ℕ, ◌+◌, ◌-◌, List, [], ◌∷◌, length, take, get_or, refl, sym, ap, ◌∙◌, arith}
 use Rattle.std.proofs.lemmas.List.{length_push, get_or_push}
 use Rattle.adr_model.specs.Machine.{Publication, opening}
 use Rattle.adr_diary.specs.Publications.{EndsWith}
@@ -21,9 +21,6 @@ at_end ps number p ends =
     let long : length (take number ps) + 1 ≡ number + 1 = sym (length_push (take number ps) p) ∙ sym (ap length ends.last_is) ∙ ends.numbered in
     ap (λ (qs : List Publication). get_or qs number opening) ends.last_is
     ∙ get_or_push (take number ps) p opening number (omega (arith, long))
-
-pub number_within : (ps : List Publication) (number : ℕ) (p : Publication) → EndsWith ps number p → number < length ps
-number_within ps number p ends = omega (arith, ends.numbered)
 
 -- the version of the last book
 pub version_at_end : (ps : List Publication) (number : ℕ) (p : Publication) → EndsWith ps number p → p.book.version ≡ (get_or ps (length ps - 1) opening).book.version

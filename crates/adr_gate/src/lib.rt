@@ -4,6 +4,7 @@
 /// What each worker passes before each piece of its work, with its number: of a repair before each job, of many readers
 /// before each answer. It decides nothing.
 pub trait Gate {
+    /// The worker comes to the gate, and may be held up there.
     fn pass(&self, worker: usize);
 }
 

@@ -1,48 +1,23 @@
 -- Jobs that are done one after the other, and windows that are alike.
-use Rattle.std.proofs.Common.{◌≡◌, ℕ, ℤ, ◌+◌, Bool, true, false, if◌then◌else◌, List, [], ◌∷◌, ◌++◌, ◌||◌, length, Option, None, refl, ap, sym, subst, ◌∙◌, append_assoc, append-nil}
+use Rattle.std.proofs.Common.{◌≡◌, ℕ, ℤ, ◌+◌, List, [], ◌∷◌, ◌++◌, ◌||◌, length, refl, ap, sym, subst, ◌∙◌, append-nil}
 use Rattle.std.specs.List.{AllZip}
 use Rattle.std.proofs.lemmas.List.Folds.{list_any-append}
 use Rattle.adr_time.specs.Spans.{covers}
 use Rattle.adr_value.specs.declared.payload.PayloadType.{PayloadType}
 use Rattle.adr_model.specs.declared.entry.Entry.{Entry}
-use Rattle.adr_model.specs.declared.timeline.Segment.{Segment}
-use Rattle.adr_model.specs.declared.timeline.Winner.{Winner}
-use Rattle.adr_model.specs.Timeline.{shows}
 use Rattle.adr_stretch.specs.declared.grouped.TypeEntries.{TypeEntries}
 use Rattle.adr_stretch.specs.Grouped.{any_covers_at, entries_under}
 use Rattle.adr_lines.specs.declared.indexes.Indexes.{Indexes}
 use Rattle.adr_lines.specs.Indexes.{own_entries, under}
-use Rattle.adr_group.specs.Jobs.{AreAlike, IsInside}
+use Rattle.adr_group.specs.Jobs.{AreAlike}
 use Rattle.adr_group.specs.Repair.{most_inside, most_repaired}
-use Rattle.adr_group.proofs.Turns.{most_both, under_both, wins}
+use Rattle.adr_group.proofs.Turns.{most_both, under_both}
 
 -- ---- one job after the other
-
-module _ {X D : Type 0} (R : X → D → Type 0) (all rest more : List X) (job : X) (done new : List D) (first : D) where
-  pub one_done : rest ≡ job ∷ more → R job first → new ≡ done ++ first ∷ []
-      → ((ys : List D) → AllZip R rest ys → AllZip R all (done ++ ys))
-      → (ys : List D) → AllZip R more ys → AllZip R all (new ++ ys)
-  one_done is right pushed before ys later =
-      subst (λ l. AllZip R all l)
-      (sym (append_assoc done (first ∷ []) ys) ∙ ap (λ l. l ++ ys) (sym pushed))
-      (before (first ∷ ys) (subst (λ l. AllZip R l (first ∷ ys)) (sym is) (right, later)))
 
 pub all_done : {X D : Type 0} (R : X → D → Type 0) (all rest : List X) (done : List D) → rest ≡ []
     → ((ys : List D) → AllZip R rest ys → AllZip R all (done ++ ys)) → AllZip R all done
 all_done R all rest done none before = subst (λ l. AllZip R all l) (append-nil done) (before [] (subst (λ l. AllZip R l []) (sym none) tt))
-
--- ---- what is put together
-
--- what was built goes in
-pub inside_taken : (wins : ℤ → Option Winner) (windows : List Entry) (inner line : List Segment) (old : ℤ → Option Winner)
-    → IsInside wins windows inner
-    → ((t : ℤ) → shows line t ≡ (if any_covers_at windows t then shows inner t else old t))
-    → (t : ℤ) → shows line t ≡ (if any_covers_at windows t then wins t else old t)
-inside_taken wins windows inner line old inside spliced t = by (any_covers_at windows t) (inside t) (spliced t)
-  where
-    by : (b : Bool) → shows inner t ≡ (if b then wins t else None) → shows line t ≡ (if b then shows inner t else old t) → shows line t ≡ (if b then wins t else old t)
-    by true i s = s ∙ i
-    by false i s = s
 
 -- ---- windows that are alike
 

@@ -1,11 +1,8 @@
 -- What is seen inside windows.
-use Rattle.std.proofs.Common.{◌≡◌, ℕ, ◌+◌, ◌≤◌, ℤ, Bool, true, false, cond, if◌then◌else◌, ◌&&◌, ◌||◌, int_le, int_lt, List, [], ◌∷◌, ◌++◌, take, drop, Option, None, refl, ap, sym, ◌∙◌, arith}
-use Rattle.std.proofs.lemmas.Int.{ints}
+use Rattle.std.proofs.Common.{◌≡◌, ℕ, ◌+◌, ◌≤◌, ℤ, Bool, true, false, cond, if◌then◌else◌, ◌&&◌, ◌||◌, List, [], ◌∷◌, ◌++◌, take, drop, Option, None, refl, ap, sym, ◌∙◌, arith}
 use Rattle.std.proofs.lemmas.List.{take-append-drop}
-use Rattle.std.proofs.lemmas.Bool.{false≢true, and_parts}
+use Rattle.std.proofs.lemmas.Bool.{and_parts}
 use Rattle.adr_time.specs.Spans.{covers, meets, is_before}
-use Rattle.adr_time.specs.declared.span.End.{End}
-use Rattle.adr_time.specs.declared.span.End.TheVariants.{At, Endless}
 use Rattle.adr_time.specs.declared.span.Span.{Span}
 use Rattle.adr_model.specs.declared.entry.Entry.{Entry}
 use Rattle.adr_model.specs.declared.timeline.Winner.{Winner}
@@ -95,11 +92,6 @@ half_inside front back all ws es is =
 pub halves : (front back all : List Entry) (n : ℕ) → front ≡ take n all → back ≡ drop n all → all ≡ front ++ back
 halves front back all n f b = rw (f, b) (sym (take-append-drop n all))
 
--- one window with the span of another
-pub same_window : (e o : Entry) (more others : List Entry) (left right : List Entry) → left ≡ e ∷ more → right ≡ o ∷ others → e.span ≡ o.span
-    → ((t : ℤ) → any_covers_at more t ≡ any_covers_at others t) → (t : ℤ) → any_covers_at left t ≡ any_covers_at right t
-same_window e o more others left right l r s rest t = rw (l, r) (rw (s, rest t) refl)
-
 -- ---- windows that last
 
 -- what was found of the windows before those that are left
@@ -107,13 +99,6 @@ pub record AreLasting (windows left : List Entry) (spans : List Span) : Type 0 w
   pub covers : (t : ℤ) → (any_covers spans t || any_covers_at left t) ≡ any_covers_at windows t
   pub last : all_last spans ≡ true
   pub cost : (ws : List ℕ) (es : List Entry) → most_compared_all (written_in ws es) spans + most_inside ws es left ≤ most_inside ws es windows
-
-pub none_lasting : (windows : List Entry) (spans : List Span) → spans ≡ [] → AreLasting windows windows spans
-none_lasting windows spans is = rw is (record { covers = λ t. refl; last = refl; cost = λ ws es. omega arith })
-
-unseen : (a : ℤ) (e : End) (t : ℤ) → is_before a e ≡ false → (int_le a t && is_before t e) ≡ false
-unseen a (At u) t h = grind (arith, ints)
-unseen a Endless t h = absurd (false≢true (sym h))
 
 module _ (windows left more : List Entry) (e : Entry) (spans new : List Span) (is : left ≡ e ∷ more) (so_far : AreLasting windows left spans) where
   pub lasting_taken : is_before e.span.start e.span.end ≡ true → new ≡ spans ++ e.span ∷ [] → AreLasting windows more new
@@ -134,26 +119,6 @@ module _ (windows left more : List Entry) (e : Entry) (spans new : List Span) (i
       or_rest false true c = refl
       or_rest false false c = refl
 
-  pub lasting_passed : is_before e.span.start e.span.end ≡ false → AreLasting windows more spans
-  lasting_passed n = record {
-    covers = λ t. ap (λ b. any_covers spans t || (b || any_covers_at more t)) (sym (unseen e.span.start e.span.end t n))
-        ∙ (ap (λ (es : List Entry). any_covers spans t || any_covers_at es t) (sym is) ∙ so_far.covers t);
-    last = so_far.last;
-    cost = λ ws es.
-        let split : most_inside ws es left ≡ most_compared (written_in ws es) e.span + most_inside ws es more = ap (λ (xs : List Entry). most_inside ws es xs) is in
-        omega (arith, split, so_far.cost ws es);
-  }
-
-pub lasting_covers : (windows left : List Entry) (spans : List Span) → left ≡ [] → AreLasting windows left spans → (t : ℤ) → any_covers spans t ≡ any_covers_at windows t
-lasting_covers windows left spans none found t = or_none (any_covers spans t) ∙ (ap (λ (es : List Entry). any_covers spans t || any_covers_at es t) (sym none) ∙ found.covers t)
-  where
-    or_none : (a : Bool) → a ≡ (a || false)
-    or_none true = refl
-    or_none false = refl
-
-pub lasting_cost : (windows left : List Entry) (spans : List Span) → AreLasting windows left spans → (ws : List ℕ) (es : List Entry) → most_compared_all (written_in ws es) spans ≤ most_inside ws es windows
-lasting_cost windows left spans found ws es = omega (arith, found.cost ws es)
-
 -- ---- spans that touch
 
 -- the wide spans, the one that may grow, and those that are left cover what all cover
@@ -163,41 +128,12 @@ pub record AreTogether (spans left : List Span) (current : Span) (wide : List Sp
   pub current_lasts : is_before current.start current.end ≡ true
   pub left_last : all_last left ≡ true
 
-pub first_current : (spans left : List Span) (first : Span) (wide : List Span) → spans ≡ first ∷ left → all_last spans ≡ true → wide ≡ [] → AreTogether spans left first wide
-first_current spans left first wide is lasting none =
-    let parts = and_parts (is_before first.start first.end) (all_last left) (rw is at lasting) in
-    rw (none, is) (record { covers = λ t. refl; wide_last = refl; current_lasts = parts.0; left_last = parts.1 })
-
-touching : (a u : ℤ) (f : End) (t : ℤ) → int_lt a u ≡ true → is_before u f ≡ true → (int_le a t && is_before t f) ≡ ((int_le a t && int_lt t u) || (int_le u t && is_before t f))
-touching a u (At v) t h k = grind (arith, ints)
-touching a u Endless t h k = grind (arith, ints)
-
-longer : (a u : ℤ) (f : End) → int_lt a u ≡ true → is_before u f ≡ true → is_before a f ≡ true
-longer a u (At v) h k = grind (arith, ints)
-longer a u Endless h k = refl
-
 module _ (spans left more : List Span) (span current : Span) (wide : List Span) (is : left ≡ span ∷ more) (so_far : AreTogether spans left current wide) where
   abbrev parts : (is_before span.start span.end ≡ true) × (all_last more ≡ true)
   parts = and_parts (is_before span.start span.end) (all_last more) (rw is at so_far.left_last)
 
   covered : (t : ℤ) → (any_covers wide t || (covers current t || (covers span t || any_covers more t))) ≡ any_covers spans t
   covered t = ap (λ (ss : List Span). any_covers wide t || (covers current t || any_covers ss t)) (sym is) ∙ so_far.covers t
-
-  pub current_grown : current.end ≡ At span.start → AreTogether spans more (record current { end = span.end }) wide
-  current_grown touch =
-      let starts : int_lt current.start span.start ≡ true = rw touch at so_far.current_lasts in record {
-        covers = λ t.
-            ap (λ b. any_covers wide t || (b || any_covers more t)) (touching current.start span.start span.end t starts parts.0 ∙ sym (ap (λ (x : End). (int_le current.start t && is_before t x) || covers span t) touch))
-            ∙ (or_moved (any_covers wide t) (covers current t) (covers span t) (any_covers more t) ∙ covered t);
-        wide_last = so_far.wide_last;
-        current_lasts = longer current.start span.start span.end starts parts.0;
-        left_last = parts.1;
-      }
-    where
-      or_moved : (w o s m : Bool) → (w || ((o || s) || m)) ≡ (w || (o || (s || m)))
-      or_moved true o s m = refl
-      or_moved false true s m = refl
-      or_moved false false s m = refl
 
   pub current_closed : (new : List Span) → new ≡ wide ++ current ∷ [] → AreTogether spans more span new
   current_closed new made = record {
@@ -215,15 +151,6 @@ module _ (spans left more : List Span) (span current : Span) (wide : List Span) 
       or_rest false true c = refl
       or_rest false false c = refl
 
-module _ (spans left : List Span) (current : Span) (wide new : List Span) (none : left ≡ []) (so_far : AreTogether spans left current wide) (made : new ≡ wide ++ current ∷ []) where
-  pub together_covers : (t : ℤ) → any_covers new t ≡ any_covers spans t
-  together_covers t =
-      ap (λ (xs : List Span). any_covers xs t) made ∙ (covers_append wide (current ∷ []) t
-      ∙ (ap (λ (ss : List Span). any_covers wide t || (covers current t || any_covers ss t)) (sym none) ∙ so_far.covers t))
-
-  pub together_last : all_last new ≡ true
-  together_last = ap all_last made ∙ (last_append wide (current ∷ []) ∙ (rw (so_far.wide_last, so_far.current_lasts) refl))
-
 -- ---- run by run
 
 pub record IsParted (run more all : List Span) : Type 0 where
@@ -234,9 +161,6 @@ pub parted : (run more all : List Span) (n : ℕ) → run ≡ take n all → mor
 parted run more all n r m lasting =
     let whole : all ≡ run ++ more = rw (r, m) (sym (take-append-drop n all)) in
     record { whole = whole; last = (and_parts (all_last run) (all_last more) (sym (last_append run more) ∙ (ap all_last (sym whole) ∙ lasting))).1 }
-
-pub run_apart : (run all : List Span) (n : ℕ) → run ≡ take n all → are_apart (take n all) ≡ true → are_apart run ≡ true
-run_apart run all n r h = ap are_apart r ∙ h
 
 pub parted_cost : (es : List Entry) (run more all : List Span) → IsParted run more all → most_compared_all es all ≡ most_compared_all es run + most_compared_all es more
 parted_cost es run more all p = ap (λ (xs : List Span). most_compared_all es xs) p.whole ∙ compared_append es run more

@@ -51,23 +51,6 @@ type_repaired g indexes writes lines new line repaired put k t = by (same_type g
         ∙ ap (λ (o : Option Winner). if any_covers_at g.entries.items t then wins indexes writes k t else o) (one_shown lines g.payload_type k t same)
     by false same h = h
 
--- then the others
-module _ (k : PayloadType) (t : ℤ) (w line new total : Option Winner) (rest more : List TypeEntries) (g : TypeEntries) where
-  pub type_taken : rest ≡ g ∷ more → new ≡ (if any_covers_at (own_entries g k) t then w else line)
-      → (if any_covers_at (entries_under rest k) t then w else line) ≡ total
-      → (if any_covers_at (entries_under more k) t then w else new) ≡ total
-  type_taken is repaired whole =
-      by (any_covers_at (entries_under more k) t) (any_covers_at (own_entries g k) t) repaired
-      ∙ ap (λ (b : Bool). if b then w else line) (sym (list_any-append (λ e. covers e.span t) (own_entries g k) (entries_under more k)))
-      ∙ ap (λ (gs : List TypeEntries). if any_covers_at (entries_under gs k) t then w else line) (sym is)
-      ∙ whole
-    where
-      by : (a b : Bool) → new ≡ (if b then w else line) → (if a then w else new) ≡ (if b || a then w else line)
-      by true true h = refl
-      by true false h = refl
-      by false true h = h
-      by false false h = h
-
 -- ---- two lists of windows
 
 pub under_both : (xs ys : List TypeEntries) (k : PayloadType) → entries_under (xs ++ ys) k ≡ entries_under xs k ++ entries_under ys k

@@ -1,5 +1,5 @@
 -- A tree of greatest ends is made of those of its halves.
-use Rattle.std.proofs.Common.{◌≡◌, ℕ, zero, suc, ◌+◌, ◌-◌, ◌*◌, ◌/◌, ◌^◌, ◌<◌, ◌≤◌, Bool, true, false, ◌&&◌, ◌||◌, List, [], ◌∷◌, ◌++◌, length, take, drop, get_or, set, Option, Some, None, if◌then◌else◌, refl, sym, ◌∙◌, ap, subst, arith, ℤ, int_lt}
+use Rattle.std.proofs.Common.{◌≡◌, ℕ, zero, suc, ◌+◌, ◌-◌, ◌*◌, ◌/◌, ◌^◌, ◌<◌, ◌≤◌, Bool, true, false, ◌||◌, List, [], ◌∷◌, ◌++◌, length, take, drop, get_or, set, Option, Some, None, refl, sym, ◌∙◌, ap, subst, arith, ℤ, int_lt}
 use Rattle.std.specs.List.{flat_map}
 use Rattle.std.proofs.lemmas.Int.{ints}
 use Rattle.std.proofs.lemmas.Nat.{leading_length}
@@ -10,7 +10,7 @@ use Rattle.adr_time.specs.declared.span.End.TheVariants.{At, Endless}
 use Rattle.adr_model.specs.declared.entry.Entry.{Entry}
 use Rattle.adr_time.specs.Spans.{is_before, later_end}
 use Rattle.adr_index.specs.Index.{digits}
-use Rattle.adr_index.specs.Tree.{any_lasts, comes_after, only, IsGreatest, IsTree, greater_end, own_end}
+use Rattle.adr_index.specs.Tree.{any_lasts, comes_after, only, IsGreatest, IsTree, greater_end}
 use Rattle.adr_index.specs.Query.{lasts_past}
 use Rattle.adr_index.proofs.Ordered.{or_grouped}
 
@@ -56,13 +56,6 @@ pub later_after : (g h : Option End) (t : ℤ) → comes_after (greater_end g h)
 later_after None h t = refl
 later_after (Some e) None t = or_false (is_before t e)
 later_after (Some e) (Some f) t = max_after e f t
-
-pub own_after : (e : Entry) (t : ℤ) → comes_after (own_end e) t ≡ lasts_past e t
-own_after e t = either (is_before e.span.start e.span.end)
-  where
-    either : (x : Bool) → comes_after (if x then Some e.span.end else None) t ≡ (x && is_before t e.span.end)
-    either true = refl
-    either false = refl
 
 pub lasts_append : (xs ys : List Entry) (t : ℤ) → any_lasts (xs ++ ys) t ≡ (any_lasts xs t || any_lasts ys t)
 lasts_append [] ys t = refl

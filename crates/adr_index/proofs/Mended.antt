@@ -11,11 +11,6 @@ use Rattle.adr_index.specs.Tree.{IsTree, IsTreeBut}
 use Rattle.adr_index.proofs.Grown.{tree_levels, tree_short}
 
 module _ {A : Type 0} (f : A → List Entry) where
-  -- nothing is to be written
-  pub but_none : (n from to : ℕ) (xs : List A) (gs : List (Option End)) → to ≤ from → IsTreeBut f n from to xs gs → IsTree f n xs gs
-  but_none zero from to xs gs le h = tt
-  but_none (suc n) from to xs gs le h = h.0 le
-
   pub none_but : (n from to : ℕ) (xs : List A) (gs : List (Option End)) → to ≤ from → IsTree f n xs gs → IsTreeBut f n from to xs gs
   none_but zero from to xs gs le t = tt
   none_but (suc n) from to xs gs le t = (

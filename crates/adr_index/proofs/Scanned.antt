@@ -79,9 +79,6 @@ module _ (cs : List Chunk) (i : ℕ) (c : Chunk) (inside : i < length cs) (read 
 
 -- ---- looks at all levels
 
-pub short_paid : (n k c r : ℕ) → c ≤ 1 → c + 2 * k * r ≤ 1 + 2 * (n + k) * r
-short_paid n k c r h = omega arith
-
 pub few_chunks_paid : (n k c r : ℕ) → 1 ≤ r → c ≤ 2 * n → 1 + c + 2 * k * r ≤ 1 + 2 * (n + k) * r
 few_chunks_paid n k c r some h = omega (arith, mul-le-mul_left (2 * n) some)
 

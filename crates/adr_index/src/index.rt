@@ -29,7 +29,8 @@ use std::marker::Model;
 ///
 /// They lie in chunks of at most 64. An edit goes to one chunk, found by halving or behind the last one, and writes what
 /// the tree of greatest ends has over that chunk. Where a chunk is parted or emptied or many are changed, all of the
-/// tree is written anew: with n entries a step for each of some n/48 chunks.
+/// tree is written anew, a step for each chunk: n/48 of them where an index of n entries is filled at once. A chunk that
+/// loses entries is not put together with others.
 pub struct Index {
     table: Table,
     tops: Vec<Option<End>>,
@@ -205,7 +206,7 @@ impl Index {
         Ok(index)
     }
 
-    /// An index of the same entries. `NoMemory` where there is no room.
+    /// An index of the same entries, with no room to spare. `NoMemory` where there is no room. Cost: a copy of all chunks.
     pub fn copy(&self) -> Result<Index, Refusal>
         ensures entries { IfOk result (λ index. index.entries ≡ self.now.entries) }
         ensures refused { OnlyNoMemory result }
@@ -262,7 +263,8 @@ impl Index {
     }
 
     /// Adds an entry in its place. `NoMemory` where there is no room; then the list is as it was. With room to spare
-    /// it is never refused. Cost: some 64 steps in its chunk, and where that is parted a step for each chunk.
+    /// it is never refused. Cost: some 64 steps in its chunk, and where that is parted a step for each chunk; with no room
+    /// to spare also an empty chunk, and a step for each chunk.
     pub fn insert(&mut self, entry: Entry) -> Result<(), Refusal>
         requires { list_any (is_entry entry.rank.written entry.rank.place) self.old.entries ≡ false }
         ensures ok { OnOk result (self.new.entries ≡ inserted entry self.old.entries) }
@@ -279,10 +281,11 @@ impl Index {
     }
 
     /// Takes out what stands in the place of an old entry, with its start, written number and place, and adds the new
-    /// ones, as when an event is written again. It takes no memory. Cost: for entries that come in order each chunk of
-    /// theirs is gone through once, and its tree written once; for others some 64 steps each. The tree over the chunks
-    /// is written along the paths to theirs, or once whole, a step for each chunk, where a chunk is parted or emptied
-    /// or there are more entries than a 32nd of the chunks.
+    /// ones, as when an event is written again. It needs no memory: a chunk that is emptied is kept for later where memory
+    /// for its place is there, and else let go. Cost: each entry moves those behind it in its chunk, at most 64. For entries
+    /// that come in order each chunk of theirs is searched once, and its tree written once. The tree over the chunks is
+    /// written along the paths to theirs, or once whole, a step for each chunk, where there are more entries than a 32nd
+    /// of the chunks, or where a chunk is parted or emptied, which also moves the chunks behind it.
     pub fn replace(&mut self, old: &[Entry], new: &[Entry])
         requires room { length new.now ≤ self.old.spare }
         requires fresh { AreNew new.now (others_all old.now self.old.entries) }
@@ -294,7 +297,8 @@ impl Index {
         settle(&self.table.chunks, &mut self.tops, is_kept);
     }
 
-    /// Takes out the entry of that written number and place, and answers whether it was there. It takes no memory.
+    /// Takes out the entry of that written number and place, and answers whether it was there. It needs no memory, as
+    /// `replace`.
     /// Cost: a step for each entry; `replace` takes out entries that are known whole at less.
     pub fn remove(&mut self, written: u64, place: u32) -> bool
         ensures answer { result ≡ list_any (is_entry written place) self.old.entries }

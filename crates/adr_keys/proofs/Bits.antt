@@ -3,7 +3,7 @@ use Rattle.std.proofs.Common.{◌≡◌, ℕ, ◌+◌, ◌-◌, ◌*◌, ◌/◌
 use Rattle.std.proofs.lemmas.Bool.{eqb-false}
 use Rattle.std.proofs.lemmas.Bool.Decides.{nat_tests}
 use Rattle.std.proofs.lemmas.Nat.{one_shl, pow_pos, pow_below, div-add-mod'}
-use Rattle.std.proofs.lemmas.Nat.Bits.{bit_at_and, bit_at_or, bit_at_ones, bit_at-lt, bit_at_set_same, bit_at_set_other, bit_at_clear_same, bit_at_clear_other, shr_and_one, bit_at_above, bit_at-suc, bit_at_ones_above, bit_at_not, bit_at_cat_low, bit_at_cat_high, bit_at-zero}
+use Rattle.std.proofs.lemmas.Nat.Bits.{bit_at_and, bit_at_or, bit_at_ones, bit_at-lt, bit_at_set_same, bit_at_set_other, bit_at_clear_same, bit_at_clear_other, bit_at_above, bit_at-suc, bit_at_ones_above, bit_at_not, bit_at_cat_low, bit_at_cat_high, bit_at-zero}
 use Rattle.std.proofs.Math.Nat.{mod-lt}
 use Rattle.std.specs.Int.{bit_at, bit_not}
 use Rattle.adr_keys.specs.Places.{bit}
@@ -20,9 +20,6 @@ bit-or a b i = ap (λ x. eqb x 1) (bit_at_or a b i) ∙ max_set (bit_at a i) (bi
 
 pub bit-and : (a b i : ℕ) → bit (bit_and a b) i ≡ (bit a i && bit b i)
 bit-and a b i = ap (λ x. eqb x 1) (bit_at_and a b i) ∙ min_set (bit_at a i) (bit_at b i) (bit_at-lt a i) (bit_at-lt b i)
-
-pub bit-test : (w k : ℕ) → eqb (bit_and (w / 2 ^ k) 1) 1 ≡ bit w k
-bit-test w k = ap (λ x. eqb x 1) (shr_and_one w k)
 
 pub bit-set : (w k : ℕ) → k < 64 → (i : ℕ) → bit (bit_or w (1 * 2 ^ k % 2 ^ 64)) i ≡ (eqb i k || bit w i)
 bit-set w k h i = by (eqb i k) refl

@@ -1,7 +1,6 @@
 -- Sets of places, by their blocks.
-use Rattle.std.proofs.Common.{◌≡◌, ℕ, ◌+◌, ◌-◌, ◌<◌, ◌≤◌, Bool, true, false, not, ◌&&◌, ◌||◌, cond, eqb, ltb, leb, List, [], ◌∷◌, ◌++◌, filter, length, get_or, set, take, drop, zero, suc, refl, ap, sym, ◌∙◌, arith, ltb-true, ltb-false, lt-ltb, le-ltb, leb-true, le-leb, eqb-true, eq-eqb, ne_eqb}
+use Rattle.std.proofs.Common.{◌≡◌, ℕ, ◌+◌, ◌-◌, ◌<◌, ◌≤◌, Bool, true, false, ◌&&◌, ◌||◌, cond, eqb, ltb, leb, List, [], ◌∷◌, ◌++◌, filter, length, get_or, set, take, zero, suc, refl, ap, sym, ◌∙◌, arith, ltb-true, ltb-false, lt-ltb, le-ltb, leb-true, le-leb, eqb-true, eq-eqb, ne_eqb}
 use Rattle.std.proofs.lemmas.Bool.{false≢true, eqb-false}
-use Rattle.std.proofs.lemmas.List.{take_more, take-set, get_or-set_same}
 use Rattle.std.proofs.lemmas.List.Folds.{list_any-append}
 use Rattle.std.specs.List.{list_any}
 use Rattle.adr_keys.specs.Blocks.{covers, is_set, includes, has_block}
@@ -50,33 +49,10 @@ any-put f c (b ∷ bs) (suc i) x y h e k = ap (λ v. f b || v) (any-put f c bs i
     or_swap true false d = refl
     or_swap false b d = refl
 
--- the blocks from a place on
-pub any-back : (f : Block → Bool) (bs : List Block) (i : ℕ) (x : Block) → i < length bs → x ≡ get_or bs i x → f x ≡ false → list_any f (drop (i + 1) bs) ≡ false → list_any f (drop i bs) ≡ false
-any-back f [] i x h e k r = absurd (omega arith)
-any-back f (b ∷ bs) zero x h e k r = ap (λ v. v || list_any f bs) (ap f (sym e) ∙ k) ∙ r
-any-back f (b ∷ bs) (suc i) x h e k r =
-    let q : suc i + 1 ≡ suc (i + 1) = omega arith in
-    any-back f bs i x (omega arith) e k (ap (λ n. list_any f (drop n (b ∷ bs))) (sym q) ∙ r)
-
 pub any-and : (c : Bool) (f : Block → Bool) (bs : List Block) → list_any (λ b. c && f b) bs ≡ (c && list_any f bs)
 any-and true f bs = refl
 any-and false f [] = refl
 any-and false f (b ∷ bs) = any-and false f bs
-
--- one block more is written
-pub any-next : (f g : Block → Bool) (old now : List Block) (i : ℕ) (x y : Block) → i < length now → length now ≡ length old → x ≡ get_or now i x → get_or now i x ≡ get_or old i x → f y ≡ g x
-    → list_any f (take i now) ≡ list_any g (take i old) → list_any f (take (i + 1) (set now i y)) ≡ list_any g (take (i + 1) old)
-any-next f g old now i x y h l e o k s =
-    ap (list_any f) (take_more (set now i y) i x (omega (arith, length-set' now i y))) ∙ list_any-append f (take i (set now i y)) (get_or (set now i y) i x ∷ [])
-    ∙ ap (λ xs. list_any f xs || (f (get_or (set now i y) i x) || false)) (take-set now i y)
-    ∙ ap (λ b. list_any f (take i now) || (f b || false)) (get_or-set_same now i y x h)
-    ∙ ap (λ v. v || (f y || false)) s ∙ ap (λ v. list_any g (take i old) || (v || false)) (k ∙ ap g (e ∙ o))
-    ∙ sym (ap (list_any g) (take_more old i x (omega arith)) ∙ list_any-append g (take i old) (get_or old i x ∷ []))
-  where
-    length-set' : (xs : List Block) (j : ℕ) (z : Block) → length (set xs j z) ≡ length xs
-    length-set' [] j z = refl
-    length-set' (b ∷ bs) zero z = refl
-    length-set' (b ∷ bs) (suc j) z = ap suc (length-set' bs j z)
 
 pub any-all : (f g : Block → Bool) (old now : List Block) (i : ℕ) → length now ≡ length old → length old ≤ i → list_any f (take i now) ≡ list_any g (take i old) → list_any f now ≡ list_any g old
 any-all f g old now i l h s = ap (list_any f) (sym (take_all' now i (omega arith))) ∙ s ∙ ap (list_any g) (take_all' old i h)
@@ -130,27 +106,6 @@ module _ (b : Block) (new : ℕ) (place : ℕ) (own : covers place b ≡ true) w
       by true e x y = ap (λ q. eqb (q - b.start) (place - b.start)) (eqb-true p place e) ∙ eq-eqb (place - b.start) (place - b.start) refl
       by false e x y = ne_eqb (p - b.start) (place - b.start) (λ q. eqb-false p place e (omega (arith, x.0, y.0)))
 
-  pub put-block : ((i : ℕ) → bit new i ≡ (eqb i (place - b.start) || bit b.bits i)) → (p : ℕ) → is_set p (record { start = b.start; bits = new }) ≡ (eqb p place || is_set p b)
-  put-block f p = by (covers p b) refl
-    where
-      by : (v : Bool) → covers p b ≡ v → (v && bit new (p - b.start)) ≡ (eqb p place || (v && bit b.bits (p - b.start)))
-      by true e = f (p - b.start) ∙ ap (λ v. v || bit b.bits (p - b.start)) (at p e)
-      by false e = sym (ap (λ v. v || false) (ne_eqb p place (λ q. false≢true (sym e ∙ ap (λ x. covers x b) q ∙ own))))
-
-  pub take-block : ((i : ℕ) → i < 64 → bit new i ≡ (not (eqb i (place - b.start)) && bit b.bits i)) → (p : ℕ) → is_set p (record { start = b.start; bits = new }) ≡ (not (eqb p place) && is_set p b)
-  take-block f p = by (covers p b) refl
-    where
-      by : (v : Bool) → covers p b ≡ v → (v && bit new (p - b.start)) ≡ (not (eqb p place) && (v && bit b.bits (p - b.start)))
-      by true e = f (p - b.start) (let x = covers-from b p e in omega (arith, x.0, x.1)) ∙ ap (λ v. not v && bit b.bits (p - b.start)) (at p e)
-      by false e = sym (or_false_and (not (eqb p place)))
-
-pub untaken-block : (b : Block) (place p : ℕ) → covers place b ≡ false → is_set p b ≡ (not (eqb p place) && is_set p b)
-untaken-block b place p h = by (eqb p place) refl
-  where
-    by : (v : Bool) → eqb p place ≡ v → is_set p b ≡ (not v && is_set p b)
-    by true e = ap (λ q. is_set q b) (eqb-true p place e) ∙ ap (λ v. v && bit b.bits (place - b.start)) h
-    by false e = refl
-
 -- an empty block is added
 pub includes-more : (bs : List Block) (b : Block) (p : ℕ) → b.bits ≡ 0 → includes (bs ++ b ∷ []) p ≡ includes bs p
 includes-more bs b p e =
@@ -174,51 +129,6 @@ module _ (b : Block) (place : ℕ) where
 
   out' : (s n p : ℕ) → covers p (record { start = s; bits = n }) ≡ false → is_set p (record { start = s; bits = n }) ≡ false
   out' s n p e = ap (λ v. v && bit n (p - s)) e
-
-  -- the place is before the block
-  pub close-before : place < b.start → (p : ℕ) → is_set p (record { start = b.start - 1; bits = b.bits }) ≡ is_set (before_closing place p) b
-  close-before h p = by (ltb p place) refl (ltb p (b.start - 1)) refl
-    where
-      by : (u : Bool) → ltb p place ≡ u → (v : Bool) → ltb p (b.start - 1) ≡ v → is_set p (record { start = b.start - 1; bits = b.bits }) ≡ is_set (before_closing place p) b
-      by true e v d =
-          let l = ltb-true p place e in
-          out' (b.start - 1) b.bits p (covers-below (record { start = b.start - 1; bits = b.bits }) p (omega arith)) ∙ sym (out p (covers-below b p (omega arith))) ∙ low p l
-      by false e true d =
-          let l = ltb-false p place e in
-          let k = ltb-true p (b.start - 1) d in
-          out' (b.start - 1) b.bits p (covers-below (record { start = b.start - 1; bits = b.bits }) p k) ∙ sym (out (p + 1) (covers-below b (p + 1) (omega arith))) ∙ high p l
-      by false e false d =
-          let l = ltb-false p place e in
-          let k = ltb-false p (b.start - 1) d in
-          inside (ltb p (b.start - 1 + 64)) refl k ∙ high p l
-        where
-          inside : (w : Bool) → ltb p (b.start - 1 + 64) ≡ w → b.start - 1 ≤ p → is_set p (record { start = b.start - 1; bits = b.bits }) ≡ is_set (p + 1) b
-          inside true f k =
-              let m = ltb-true p (b.start - 1 + 64) f in
-              let same : p - (b.start - 1) ≡ p + 1 - b.start = omega arith in
-              ap (λ v. v && bit b.bits (p - (b.start - 1))) (covers-to (record { start = b.start - 1; bits = b.bits }) p k m)
-              ∙ ap (bit b.bits) same ∙ sym (ap (λ v. v && bit b.bits (p + 1 - b.start)) (covers-to b (p + 1) (omega arith) (omega arith)))
-          inside false f k =
-              let m = ltb-false p (b.start - 1 + 64) f in
-              out' (b.start - 1) b.bits p (covers-above (record { start = b.start - 1; bits = b.bits }) p m) ∙ sym (out (p + 1) (covers-above b (p + 1) (omega arith)))
-
-  -- the place is after the block
-  pub close-after : b.start ≤ place → covers place b ≡ false → (p : ℕ) → is_set p b ≡ is_set (before_closing place p) b
-  close-after h c p = by (ltb p place) refl
-    where
-      past : b.start + 64 ≤ place
-      past = by (ltb place (b.start + 64)) refl
-        where
-          by : (v : Bool) → ltb place (b.start + 64) ≡ v → b.start + 64 ≤ place
-          by true e = absurd (false≢true (sym c ∙ covers-to b place h (ltb-true place (b.start + 64) e)))
-          by false e = ltb-false place (b.start + 64) e
-
-      by : (u : Bool) → ltb p place ≡ u → is_set p b ≡ is_set (before_closing place p) b
-      by true e = low p (ltb-true p place e)
-      by false e =
-          let l = ltb-false p place e in
-          let q = past in
-          out p (covers-above b p (omega arith)) ∙ sym (out (p + 1) (covers-above b (p + 1) (omega arith))) ∙ high p l
 
   -- the place is in the block
   pub close-in : (new : ℕ) → bit b.bits 64 ≡ false → covers place b ≡ true → ((i : ℕ) → i < 64 → bit new i ≡ cond (ltb i (place - b.start)) (bit b.bits i) (bit b.bits (i + 1)))

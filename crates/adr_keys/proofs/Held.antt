@@ -1,5 +1,5 @@
 -- The sets of places, key by key, after one of them is written.
-use Rattle.std.proofs.Common.{◌≡◌, ℕ, Bool, true, false, not, ◌&&◌, ◌||◌, cond, eqb, ltb, List, [], ◌∷◌, ◌<◌, ◌≤◌, ◌+◌, zero, suc, arith, take, drop, get_or, set, length, Option, Some, None, ◌⊎◌, inl, inr, subst, lt-ltb, le-ltb, ltb-false, refl, ap, sym, ◌∙◌}
+use Rattle.std.proofs.Common.{◌≡◌, ℕ, Bool, true, false, not, ◌&&◌, ◌||◌, cond, eqb, ltb, List, [], ◌∷◌, ◌<◌, ◌≤◌, ◌+◌, zero, suc, arith, take, drop, get_or, set, length, Option, Some, ◌⊎◌, inl, inr, subst, lt-ltb, le-ltb, ltb-false, refl, ap, sym, ◌∙◌}
 use Rattle.std.proofs.lemmas.Bool.{or_cases, or_right}
 use Rattle.std.proofs.lemmas.List.{take_more, get_or-set_same, get_or-set_other, get_or_past}
 use Rattle.std.proofs.lemmas.List.Folds.{list_any-append}
@@ -67,19 +67,6 @@ module _ {S : Type 0} (m n : IndexMap Key (List Block) S) (key : Key) where
         by : (b : Bool) → same_key key k ≡ b → cond b (tells f new p) (tells f (get same_key m k) p) ≡ (not (b && eqb p place) && tells f (get same_key m k) p)
         by true e = h ∙ ap (λ o. not (eqb p place) && tells f o p) (sym (own k e))
         by false e = refl
-
--- a place that is put, or taken, where the key includes no set
-pub absent_taken : {S : Type 0} (m : IndexMap Key (List Block) S) (key k : Key) (place p : ℕ) → get same_key m key ≡ None
-    → holds m k p ≡ (not (same_key k key && eqb p place) && holds m k p)
-absent_taken m key k place p none = by (same_key k key) refl
-  where
-    by : (b : Bool) → same_key k key ≡ b → holds m k p ≡ (not (b && eqb p place) && holds m k p)
-    by true e = let q : holds m k p ≡ false = ap (λ o. tells includes o p) (ap (get same_key m) (same_key_true k key e) ∙ none) in q ∙ sym (ap (λ x. not (eqb p place) && x) q ∙ and_false (not (eqb p place)))
-      where
-        and_false : (b : Bool) → (b && false) ≡ false
-        and_false true = refl
-        and_false false = refl
-    by false e = refl
 
 -- ---- the keys of a row
 

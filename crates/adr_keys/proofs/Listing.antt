@@ -163,9 +163,6 @@ words-past ws last count p e h = ap (λ b. ltb p count && b) (has-past ws p (ome
     none true = refl
     none false = refl
 
-pub count-past : (ws : List ℕ) (last count p : ℕ) → last ≡ count / 64 + 1 → 64 * last ≤ p → first_places ws count p ≡ false
-count-past ws last count p e h = ap (λ b. b && has ws p) (le-ltb p count (omega arith))
-
 -- ---- a block in the words
 
 module _ (b : Block) (up over : ℕ) (f : (i : ℕ) → i < 64 → bit up i ≡ (leb (b.start % 64) i && bit b.bits (i - b.start % 64))) (g : (i : ℕ) → i < 64 → bit over i ≡ (ltb i (b.start % 64) && bit b.bits (i + 64 - b.start % 64))) where

@@ -4,7 +4,7 @@ use Rattle.std.proofs.lemmas.Map.Text.{hash_map_updates_text}
 use Rattle.std.proofs.lemmas.Slice.Eq.{bytes_eq-Decides}
 use Rattle.std.specs.HashMap.{HashMap, UpdatesBy, get_by_text}
 use Rattle.std.specs.Option.{option_map_or}
-use Rattle.std.specs.Prelude.{String, Result, Ok, Err, OnOk}
+use Rattle.std.specs.Prelude.{String}
 use Rattle.std.specs.Str.{bytes_eq}
 use Rattle.std.specs.String.{string_bytes, string_eq}
 use Rattle.adr_model.specs.declared.entry.Entry.{Entry}
@@ -77,9 +77,6 @@ module _ {Y S : Type 0} (m : HashMap (String Y) Indexed S) (key : List ℕ) (non
   pub no_entries : entries_at m key ≡ []
   no_entries = ap (λ (o : Option Indexed). option_map_or (λ i. i.entries) o []) none
 
-  pub no_spare : spare_at m key ≡ 0
-  no_spare = ap (λ (o : Option Indexed). option_map_or (λ i. i.spare) o 0) none
-
   pub none_changed : (f : List Entry → List Entry) → f [] ≡ [] → (id : List ℕ) → entries_at m id ≡ (if bytes_eq key id then f (entries_at m id) else entries_at m id)
   none_changed f empty id = by (bytes_eq key id) refl
     where
@@ -88,11 +85,6 @@ module _ {Y S : Type 0} (m : HashMap (String Y) Indexed S) (key : List ℕ) (non
           let nothing : entries_at m id ≡ [] = ap (λ (k : List ℕ). entries_at m k) (sym ((bytes_eq-Decides key id).0 t)) ∙ no_entries in
           nothing ∙ sym (ap f nothing ∙ empty)
       by false t = refl
-
--- what holds of an answer that is `Ok`
-pub ok_holds : {T E P : Type 0} (r : Result T E) (x : T) → r ≡ Ok x → OnOk r P → P
-ok_holds (Ok y) x e p = p
-ok_holds (Err f) x e p = absurd (cc)
 
 module _ {Y S : Type 0} (m n : HashMap (String Y) Indexed S) (key : List ℕ) (v : Indexed) (u : UpdatesBy string_eq (λ k. bytes_eq key (string_bytes k)) m n (Some v)) (none : get_by_text m key ≡ None) where
   -- a new index with no entries changes none

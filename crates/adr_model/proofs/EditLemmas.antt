@@ -55,9 +55,6 @@ after_from_push book edits x old new e s =
     ∙ ap (λ b. result_unwrap_or (step b x) b) e
     ∙ ap (λ r. result_unwrap_or r old) s
 
-pub after_push : (edits : List Edit) (x : Edit) (old new : Book) → after edits ≡ old → step old x ≡ Ok new → after (edits ++ x ∷ []) ≡ new
-after_push edits x old new e s = after_from_push empty edits x old new e s
-
 -- a list of edits of which each meets no fault
 
 abbrev pub AllAccepted : Book → List Edit → Type 0

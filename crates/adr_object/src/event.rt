@@ -38,7 +38,8 @@ impl Drop for Payload {
     }
 }
 
-/// When an interval starts, and how long it lasts (OpenADR 3.0 Definition, intervalPeriod). `randomize` is kept for
+/// When an interval starts, and how long it lasts (OpenADR 3.0 Definition, intervalPeriod). With no `duration` of its own
+/// it lasts as long as the event's period says, and covers nothing where that says nothing. `randomize` is kept for
 /// clients; it moves nothing here.
 #[derive(Clone, Copy)]
 pub struct Period {
@@ -71,7 +72,8 @@ impl Drop for Interval {
 }
 
 /// Intervals for the resources that the targets match (OpenADR 3.0 Definition, event). A lower `priority` goes first;
-/// none goes last. An interval without a period of its own takes the event's.
+/// none goes last. An interval without a period of its own starts where the one before it ends, the first where the
+/// event's period does, and lasts as long as the event's period says.
 pub struct Event {
     pub id: Id,
     pub program_id: Id,
@@ -103,7 +105,7 @@ impl Drop for Event {
 }
 
 impl Target {
-    /// A target equal to this one.
+    /// A target equal to this one. `NoMemory` where there is no room. Cost: a copy of its values.
     pub fn copy(&self) -> Result<Target, Refusal>
         ensures { IsCopyOf result self.now }
     {
@@ -121,7 +123,7 @@ impl TryClone for Target {
 }
 
 impl Payload {
-    /// A payload equal to this one.
+    /// A payload equal to this one. `NoMemory` where there is no room. Cost: a copy of its values.
     pub fn copy(&self) -> Result<Payload, Refusal>
         ensures { IsCopyOf result self.now }
     {
@@ -139,7 +141,8 @@ impl TryClone for Payload {
 }
 
 impl Interval {
-    /// An interval equal to this one.
+    /// An interval equal to this one. `NoMemory` where there is no room. Cost: a copy of its payloads; the period is
+    /// shared.
     pub fn copy(&self) -> Result<Interval, Refusal>
         ensures { IsCopyOf result self.now }
     {
@@ -158,7 +161,8 @@ impl TryClone for Interval {
 }
 
 impl Event {
-    /// An event equal to this one.
+    /// An event equal to this one. `NoMemory` where there is no room. Cost: a copy of all it has, but for the periods of
+    /// its intervals, which are shared.
     pub fn copy(&self) -> Result<Event, Refusal>
         ensures { IsCopyOf result self.now }
     {

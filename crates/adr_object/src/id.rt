@@ -93,7 +93,7 @@ impl Id {
         self.text() == other.text()
     }
 
-    /// The same id, which takes no growth.
+    /// The same id, which takes no growth. `NoMemory` only where the count of its owners is full.
     pub fn copy(&self) -> Result<Id, Refusal>
         ensures { IsCopyOf result self.now }
     {

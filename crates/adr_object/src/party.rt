@@ -72,7 +72,7 @@ impl Drop for Resource {
 }
 
 impl Program {
-    /// A program equal to this one.
+    /// A program equal to this one. `NoMemory` where there is no room. Cost: a copy of all it has.
     pub fn copy(&self) -> Result<Program, Refusal>
         ensures { IsCopyOf result self.now }
     {
@@ -91,7 +91,7 @@ impl TryClone for Program {
 }
 
 impl Ven {
-    /// A ven equal to this one.
+    /// A ven equal to this one. `NoMemory` where there is no room. Cost: a copy of all it has.
     pub fn copy(&self) -> Result<Ven, Refusal>
         ensures { IsCopyOf result self.now }
     {
@@ -110,7 +110,7 @@ impl TryClone for Ven {
 }
 
 impl Resource {
-    /// A resource equal to this one.
+    /// A resource equal to this one. `NoMemory` where there is no room. Cost: a copy of all it has.
     pub fn copy(&self) -> Result<Resource, Refusal>
         ensures { IsCopyOf result self.now }
     {

@@ -24,10 +24,6 @@ placed_entries-from kind w n [] spans = refl
 placed_entries-from kind w n (i ∷ is) [] = refl
 placed_entries-from kind w n (i ∷ is) (s ∷ spans) = ap (cons_option (then_some (carries i kind) (entry_at w n s))) (placed_entries-from kind w (n + 1) is spans)
 
-pub no_interval : (kind : PayloadType) (w : Written) (is : List Interval) (ps : List Placed) → length is ≡ 0 → placed_entries kind w is ps ≡ []
-no_interval kind w [] ps h = refl
-no_interval kind w (i ∷ is) ps h = absurd (omega arith)
-
 pub no_place : (kind : PayloadType) (w : Written) (is : List Interval) (ps : List Placed) → length ps ≡ 0 → placed_entries kind w is ps ≡ []
 no_place kind w [] ps h = refl
 no_place kind w (i ∷ is) [] h = refl

@@ -1,10 +1,9 @@
 -- The tokens of a body as they are seen, and a body without a NUL as it is read.
-use Rattle.std.proofs.Common.{◌≡◌, ◌≢◌, ℕ, Bool, true, false, List, [], ◌∷◌, Option, Some, None, is_some, refl, sym, ap, ◌∙◌, true≢false}
+use Rattle.std.proofs.Common.{◌≡◌, ◌≢◌, ℕ, Bool, true, false, List, ◌∷◌, Option, Some, None, is_some, refl, sym, ap, ◌∙◌, true≢false}
 use Rattle.std.specs.Prelude.{Result, Ok, Err, OnOk, IfErr, MatchResult, if◌then◌else◌}
 use Rattle.std.specs.Option.{ok_or}
 use Rattle.json.specs.Token as json
-use Rattle.json.specs.Token.{begin_object, end_object, begin_array, end_array, key, string, number, boolean, null, bad}
-use Rattle.json.specs.Json.{after_end_array, read_key}
+use Rattle.json.specs.Token.{string, number, bad}
 use Rattle.serde_json.specs.Data.{string as text}
 use Rattle.adr_value.specs.Faults.{Gives}
 use Rattle.adr_value.specs.Number.{Number as Decimal}
@@ -12,7 +11,7 @@ use Rattle.adr_value.specs.Value.{number_of}
 use Rattle.adr_value.specs.declared.datum.Datum.TheVariants.{Number as NumberDatum}
 use Rattle.adr_value.specs.declared.refusal.Refusal.{Refusal}
 use Rattle.adr_value.specs.declared.refusal.Refusal.TheVariants.{BadJson, NoMemory}
-use Rattle.adr_read.specs.Tokens.{fits, shielded_token, shielded_tokens, seen}
+use Rattle.adr_read.specs.Tokens.{fits, shielded_token, seen}
 use Rattle.adr_read.specs.Values.{datum_faults, datum_in}
 use Rattle.json.proofs.Grammar.{value_is}
 use Rattle.serde_json.specs.Read.{of_json, converted}
@@ -73,64 +72,3 @@ pub not_passed : (r : Result (Unit {0}) Refusal) (depth : ℕ) (s : List ℕ) (t
     → IfErr r (λ f. f ≢ NoMemory → (f ≡ BadJson) × (coming depth (number_seen s ∷ ts) ≡ None))
 not_passed (Ok u) depth s ts h = tt
 not_passed (Err f) depth s ts h = λ _. (h.0, number_fails depth s ts h.1)
-
--- ---- the tokens to come
-
--- the token of a number is no key and no bracket
-number_no_key : (b : Bool) (s : List ℕ) (ts : List json.Token) → read_key ((if b then string (0 ∷ s) else bad) ∷ ts) ≡ None
-number_no_key true s ts = refl
-number_no_key false s ts = refl
-
-number_no_end : (b : Bool) (s : List ℕ) (ts : List json.Token) → after_end_array ((if b then string (0 ∷ s) else bad) ∷ ts) ≡ None
-number_no_end true s ts = refl
-number_no_end false s ts = refl
-
-abbrev seen_key : Option (Option (List ℕ) × List json.Token) → Option (Option (List ℕ) × List json.Token)
-seen_key None = None
-seen_key (Some p) = Some (p.0, shielded_tokens p.1)
-
-abbrev seen_end : Option (List json.Token) → Option (List json.Token)
-seen_end None = None
-seen_end (Some ts) = Some (shielded_tokens ts)
-
-shielded_key : (ts : List json.Token) → read_key (shielded_tokens ts) ≡ seen_key (read_key ts)
-shielded_key [] = refl
-shielded_key (begin_object ∷ ts) = refl
-shielded_key (end_object ∷ ts) = refl
-shielded_key (begin_array ∷ ts) = refl
-shielded_key (end_array ∷ ts) = refl
-shielded_key (key s ∷ ts) = refl
-shielded_key (string s ∷ ts) = refl
-shielded_key (number s ∷ ts) = number_no_key (fits s) s (shielded_tokens ts)
-shielded_key (boolean b ∷ ts) = refl
-shielded_key (null ∷ ts) = refl
-shielded_key (bad ∷ ts) = refl
-
-shielded_end : (ts : List json.Token) → after_end_array (shielded_tokens ts) ≡ seen_end (after_end_array ts)
-shielded_end [] = refl
-shielded_end (begin_object ∷ ts) = refl
-shielded_end (end_object ∷ ts) = refl
-shielded_end (begin_array ∷ ts) = refl
-shielded_end (end_array ∷ ts) = refl
-shielded_end (key s ∷ ts) = refl
-shielded_end (string s ∷ ts) = refl
-shielded_end (number s ∷ ts) = number_no_end (fits s) s (shielded_tokens ts)
-shielded_end (boolean b ∷ ts) = refl
-shielded_end (null ∷ ts) = refl
-shielded_end (bad ∷ ts) = refl
-
-pub key_seen : (b : Bool) (ts : List json.Token) (k : Option (List ℕ)) (r : List json.Token) → read_key ts ≡ Some (k, r) → read_key (seen b ts) ≡ Some (k, seen b r)
-key_seen true ts k r e = e
-key_seen false ts k r e = shielded_key ts ∙ ap seen_key e
-
-pub no_key_seen : (b : Bool) (ts : List json.Token) → read_key ts ≡ None → read_key (seen b ts) ≡ None
-no_key_seen true ts e = e
-no_key_seen false ts e = shielded_key ts ∙ ap seen_key e
-
-pub end_seen : (b : Bool) (ts r : List json.Token) → after_end_array ts ≡ Some r → after_end_array (seen b ts) ≡ Some (seen b r)
-end_seen true ts r e = e
-end_seen false ts r e = shielded_end ts ∙ ap seen_end e
-
-pub no_end_seen : (b : Bool) (ts : List json.Token) → after_end_array ts ≡ None → after_end_array (seen b ts) ≡ None
-no_end_seen true ts e = e
-no_end_seen false ts e = shielded_end ts ∙ ap seen_end e

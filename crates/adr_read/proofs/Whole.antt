@@ -16,9 +16,6 @@ whole o = option_and_then of_json (option_and_then (λ p. if_last p.0 p.1) o)
 pub read_whole : (ts : List Token) (d : Data) → coming max_depth ts ≡ Some (d, []) → whole_value ts ≡ Some d
 read_whole ts d comes = let j = converted_parts of_json (value max_depth ts) d [] comes in ap whole j.1 ∙ j.2
 
-pub read_more : (ts : List Token) (d : Data) (t : Token) (rest : List Token) → coming max_depth ts ≡ Some (d, t ∷ rest) → whole_value ts ≡ None
-read_more ts d t rest comes = ap whole (converted_parts of_json (value max_depth ts) d (t ∷ rest) comes).1
-
 none_at : (o : Option (json.Json × List Token)) → converted of_json o ≡ None → whole o ≡ None
 none_at None e = refl
 none_at (Some (j, [])) e = not_converted [] (of_json j) e

@@ -57,7 +57,8 @@ fn has_no_nul(body: &[u8]) -> bool
 /// The members of a body's object. `BadNumber` where a number doesn't fit, `BadJson` where the body isn't JSON
 /// (RFC 8259), `NotObject` where it is another JSON value.
 ///
-/// The body is read as it is. Only where that tells of no object is it shielded, to learn what is wrong with it.
+/// The body is read as it is, if no escape of a NUL stands in it. Only where that tells of no object is it shielded, to
+/// learn what is wrong with it.
 #[tactic(auto, unfolding(crate::specs::Body::object_named))]
 pub(crate) fn read_object<M: Members>(
     alloc: Global,

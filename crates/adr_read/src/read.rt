@@ -3,7 +3,8 @@
 //! A body is one JSON object (RFC 8259). An unknown member is ignored, a null one is absent, and of two members of one
 //! name the last counts. Numbers go by their exact value. Every part is looked at, so what is refused is refused with the
 //! least of the body's faults; `NoMemory` may come in place of any answer. A body is read once, token by token, in memory
-//! of its length beside the object's; where something is wrong also in that of the shielded text, and of as much again.
+//! of its length beside the object's; where something is wrong, or the bytes `\u0000` stand in it, once more as a
+//! shielded text, in memory of that too.
 ghost use Rattle.adr_value.specs.Answer.{Answers};
 ghost use Rattle.adr_read.specs.Body.{program_named, ven_named, resource_named, event_named};
 ghost use Rattle.adr_read.specs.Larger.{LargerLimitsReadTheSame};
@@ -18,8 +19,14 @@ use adr_time::Moment;
 use adr_value::Refusal;
 use std::alloc::Global;
 
-/// The program (OpenADR 3.0 Definition, program) of a body on a line that names this id. Besides `BadNumber`, `BadJson`
-/// and `NotObject`, which stand alone: `WrongKind`, `IdMismatch`, `Missing`, `WrongType`, `BadText`, `TooMany`.
+/// The program (OpenADR 3.0 Definition, program) of a body, one JSON object (RFC 8259), on a line that names this id. A
+/// null member is absent, of two members of one name the last counts, and an unknown one is ignored. The moment is that
+/// of the edit; only an event has something that turns on it.
+///
+/// The least of the body's faults is answered: `BadNumber`, `BadJson` or `NotObject`, which stand alone, else `WrongKind`,
+/// `IdMismatch`, `Missing`, `WrongType`, `BadText`, `TooMany`. `NoMemory` may come in place of any answer. Cost: a pass
+/// over the body, in memory of its length beside the object's; a body with a fault, or with the bytes `\u0000`, is gone
+/// through again.
 pub fn read_program(alloc: Global, body: &[u8], id: &Id, now: Moment) -> Result<Program, Refusal>
     ensures { Answers result (program_named body.now id.now) }
 {
@@ -28,15 +35,15 @@ pub fn read_program(alloc: Global, body: &[u8], id: &Id, now: Moment) -> Result<
 }
 
 /// The event (OpenADR 3.0 Definition, event) of a body on a line that names this id, in an edit at this moment, which a
-/// zero start stands for. Besides the refusals of a program: `BadDateTime`, `BadDuration`, `NegativeDuration`,
-/// `BadPriority`, `BadShape`.
+/// zero start stands for. As of a program, with these refusals besides: `BadDateTime`, `BadDuration`,
+/// `NegativeDuration`, `BadPriority`, `BadShape`.
 pub fn read_event(alloc: Global, body: &[u8], id: &Id, now: Moment) -> Result<Event, Refusal>
     ensures { Answers result (event_named now body.now id.now) }
 {
     event(alloc, id, read_object(alloc, now, body, event_members())?)
 }
 
-/// The ven (OpenADR 3.0 Definition, ven) of a body on a line that names this id. The refusals are those of a program.
+/// The ven (OpenADR 3.0 Definition, ven) of a body on a line that names this id, as of a program.
 pub fn read_ven(alloc: Global, body: &[u8], id: &Id, now: Moment) -> Result<Ven, Refusal>
     ensures { Answers result (ven_named body.now id.now) }
 {
@@ -44,8 +51,7 @@ pub fn read_ven(alloc: Global, body: &[u8], id: &Id, now: Moment) -> Result<Ven,
     ven(alloc, id, read_object(alloc, now, body, members)?)
 }
 
-/// The resource (OpenADR 3.0 Definition, resource) of a body on a line that names this id. The refusals are those of a
-/// program.
+/// The resource (OpenADR 3.0 Definition, resource) of a body on a line that names this id, as of a program.
 pub fn read_resource(alloc: Global, body: &[u8], id: &Id, now: Moment) -> Result<Resource, Refusal>
     ensures { Answers result (resource_named body.now id.now) }
 {

@@ -102,11 +102,6 @@ pub applying_rise : (book : Book) (event : Event) (program : Program) → IsStri
 applying_rise book event program =
     IsStrictlyIncreasing-filter (λ place. option_map_or (applies_in book event program) (slice_get book.resources place) false) (range_with_len 0 (length book.resources)) (range_rises (length book.resources))
 
--- they are no more than the resources
-pub applying_count : (book : Book) (event : Event) (program : Program) → length (applying_places book event program) ≤ length book.resources
-applying_count book event program =
-    omega (arith, fewer (λ place. option_map_or (applies_in book event program) (slice_get book.resources place) false) (range_with_len 0 (length book.resources)), length-range_with_len 0 (length book.resources))
-
 -- each stands once
 pub applying_once : (book : Book) (event : Event) (program : Program) → StandOnce (applying_places book event program) (length book.resources)
 applying_once book event program = range_stands (λ place. option_map_or (applies_in book event program) (slice_get book.resources place) false) (length book.resources)

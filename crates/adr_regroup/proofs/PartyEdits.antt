@@ -1,5 +1,5 @@
 -- Edits of vens and resources: what they leave as it was, and which places they leave to be seen to.
-use Rattle.std.proofs.Common.{◌≡◌, ℕ, zero, suc, ◌+◌, ◌<◌, ◌≤◌, ◌==◌, ◌||◌, inl, inr, Bool, true, false, not, cond, if◌then◌else◌, List, [], ◌∷◌, ◌++◌, length, map, filter, remove, slice_get, Option, Some, None, is_some, Result, Ok, Err, IsOk, refl, ap, sym, subst, ◌∙◌, arith, eqb-true, eq-eqb, nat_le}
+use Rattle.std.proofs.Common.{◌≡◌, ℕ, zero, suc, ◌+◌, ◌<◌, ◌==◌, ◌||◌, inl, inr, Bool, true, false, not, cond, if◌then◌else◌, List, [], ◌∷◌, ◌++◌, length, map, filter, remove, slice_get, Option, Some, None, is_some, Result, Ok, Err, IsOk, refl, ap, sym, subst, ◌∙◌, arith, eqb-true, eq-eqb, nat_le}
 use Rattle.std.proofs.lemmas.Bool.{both_ways, not-false}
 use Rattle.std.proofs.lemmas.List.{length-map}
 use Rattle.std.proofs.lemmas.Option.{slice_get_within, slice_get-map}
@@ -40,7 +40,7 @@ use Rattle.adr_schedule.proofs.Places.{after_gone, count_gone, was_at}
 use Rattle.adr_regroup.specs.Party.{id_of_edit, is_of_resource, is_of_ven, AreOfVen, AreSeatedBut, KeepsEvents}
 use Rattle.adr_regroup.proofs.Placing.{has_group, has_place, number_at}
 use Rattle.adr_regroup.proofs.Reseated.{applies_same}
-use Rattle.adr_regroup.proofs.Sums.{more_stand, none_stand, same_stand}
+use Rattle.adr_regroup.proofs.Sums.{none_stand}
 
 -- ---- what the edits leave
 
@@ -140,73 +140,8 @@ none_goes old ven_kind id h i = none_of_ven old id (λ r m. by (step old (Remove
     by (Err f) e j r m = absurd (cc)
     by (Ok b) e j r m = none_has (λ (q : Resource). bytes_eq id q.ven_id) old.resources (ven_unnamed old id (accepted old b (Remove ven_kind id) e).0) r m
 
--- one place more is looked at
-among_last : (ps : List ℕ) (q p : ℕ) → is_among (ps ++ q ∷ []) p ≡ (is_among ps p || (q == p))
-among_last [] q p = by (q == p)
-  where
-    by : (b : Bool) → (b || false) ≡ b
-    by true = refl
-    by false = refl
-among_last (x ∷ ps) q p = by (x == p) (among_last ps q p)
-  where
-    by : (b : Bool) → is_among (ps ++ q ∷ []) p ≡ (is_among ps p || (q == p)) → (b || is_among (ps ++ q ∷ []) p) ≡ ((b || is_among ps p) || (q == p))
-    by true h = refl
-    by false h = h
-
-count_last : (ps : List ℕ) (q : ℕ) → length (ps ++ q ∷ []) ≡ length ps + 1
-count_last [] q = refl
-count_last (x ∷ ps) q = omega (arith, count_last ps q)
-
 below_or_last : (p n : ℕ) → p < n + 1 → (p ≡ n → ⊥) → p < n
 below_or_last p n h apart = omega (arith, h, apart)
-
-or_right : (a : Bool) → (a || false) ≡ a
-or_right true = refl
-or_right false = refl
-
-pub first_of_ven : (book : Book) (id : List ℕ) → AreOfVen book id 0 []
-first_of_ven book id = record { of_ven = λ p r at l. absurd (omega (arith, l)); before = λ p h. absurd (cc); few = omega arith; once = none_stand 0 }
-
-module _ (book : Book) (id : List ℕ) (n : ℕ) (ps : List ℕ) (h : AreOfVen book id n ps) where
-  -- its resource is the ven's
-  pub next_of_ven : ((r : Resource) → slice_get book.resources n ≡ Some r → bytes_eq id r.ven_id ≡ true) → AreOfVen book id (n + 1) (ps ++ n ∷ [])
-  next_of_ven own = record { of_ven = λ p r at l. of_ven p r at l (n == p) refl; before = λ p a. before p a (is_among ps p) refl; few = few; once = more_stand ps n h.once }
-    where
-      of_ven : (p : ℕ) (r : Resource) → slice_get book.resources p ≡ Some r → p < n + 1 → (b : Bool) → (n == p) ≡ b → is_among (ps ++ n ∷ []) p ≡ bytes_eq id r.ven_id
-      of_ven p r at l true e =
-          let same : n ≡ p = eqb-true n p e in
-          among_last ps n p ∙ ap (λ b. is_among ps p || b) e ∙ or_true (is_among ps p) ∙ sym (own r (subst (λ q. slice_get book.resources q ≡ Some r) (sym same) at))
-        where
-          or_true : (a : Bool) → (a || true) ≡ true
-          or_true true = refl
-          or_true false = refl
-      of_ven p r at l false e =
-          among_last ps n p ∙ ap (λ b. is_among ps p || b) e ∙ or_right (is_among ps p)
-          ∙ h.of_ven p r at (below_or_last p n l (λ s. both_ways (n == p) e (eq-eqb n p (sym s))))
-
-      before : (p : ℕ) → is_among (ps ++ n ∷ []) p ≡ true → (b : Bool) → is_among ps p ≡ b → p < n + 1
-      before p a true e = let l = h.before p e in omega (arith, l)
-      before p a false e = let s : n ≡ p = eqb-true n p (sym (ap (λ b. b || (n == p)) e) ∙ sym (among_last ps n p) ∙ a) in omega (arith, s)
-
-      few : length (ps ++ n ∷ []) ≤ n + 1
-      few = let c = count_last ps n in let f = h.few in omega (arith, c, f)
-
-  -- it is another's
-  pub next_of_other : ((r : Resource) → slice_get book.resources n ≡ Some r → bytes_eq id r.ven_id ≡ false) → AreOfVen book id (n + 1) ps
-  next_of_other other = record {
-    of_ven = λ p r at l. of_ven p r at l (n == p) refl;
-    before = λ p a. (let l = h.before p a in omega (arith, l));
-    few = (let f = h.few in omega (arith, f));
-    once = same_stand ps n h.once;
-  }
-    where
-      of_ven : (p : ℕ) (r : Resource) → slice_get book.resources p ≡ Some r → p < n + 1 → (b : Bool) → (n == p) ≡ b → is_among ps p ≡ bytes_eq id r.ven_id
-      of_ven p r at l true e = none (is_among ps p) refl ∙ sym (other r (subst (λ q. slice_get book.resources q ≡ Some r) (sym (eqb-true n p e)) at))
-        where
-          none : (b : Bool) → is_among ps p ≡ b → is_among ps p ≡ false
-          none false q = q
-          none true q = let k = h.before p q in let s : n ≡ p = eqb-true n p e in absurd (omega (arith, k, s))
-      of_ven p r at l false e = h.of_ven p r at (below_or_last p n l (λ s. both_ways (n == p) e (eq-eqb n p (sym s))))
 
 -- ---- an edit of a ven leaves the places of its resources to be seen to
 

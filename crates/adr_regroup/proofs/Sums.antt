@@ -1,6 +1,6 @@
 -- Sums.
-use Rattle.std.proofs.Common.{◌≡◌, inl, inr, ℕ, zero, suc, ◌+◌, ◌≤◌, Bool, true, false, cond, List, [], ◌∷◌, ◌++◌, length, map, filter, flat_map, slice_get, sum_by, Some, refl, ap, sym, ◌∙◌, arith}
-use Rattle.std.proofs.lemmas.List.Sums.{sum_by-append, sum_by-cons, sum_by_push}
+use Rattle.std.proofs.Common.{◌≡◌, inl, inr, ℕ, zero, suc, ◌+◌, ◌≤◌, Bool, true, false, cond, List, [], ◌∷◌, length, map, filter, flat_map, slice_get, sum_by, Some, refl, ap, sym, ◌∙◌, arith}
+use Rattle.std.proofs.lemmas.List.Sums.{sum_by-append, sum_by-cons}
 use Rattle.std.specs.List.{range_with_len}
 use Rattle.adr_model.specs.Lists.{In}
 use Rattle.adr_regroup.specs.Compared.{sum_before, StandOnce}
@@ -61,16 +61,6 @@ sum_places f g (x ∷ xs) h =
 
 pub none_stand : (n : ℕ) → StandOnce [] n
 none_stand n cost = omega arith
-
-pub more_stand : (xs : List ℕ) (n : ℕ) → StandOnce xs n → StandOnce (xs ++ n ∷ []) (n + 1)
-more_stand xs n once cost =
-    let same : n + 1 ≡ suc n = omega arith in
-    rw same (omega (arith, once cost, sum_by_push cost xs n))
-
-pub same_stand : (xs : List ℕ) (n : ℕ) → StandOnce xs n → StandOnce xs (n + 1)
-same_stand xs n once cost =
-    let same : n + 1 ≡ suc n = omega arith in
-    rw same (omega (arith, once cost))
 
 pub sums_before : (f g h : ℕ → ℕ) (n : ℕ) → ((p : ℕ) → f p + g p ≤ h p) → sum_before f n + sum_before g n ≤ sum_before h n
 sums_before f g h zero l = omega arith

@@ -1,7 +1,6 @@
 -- Where the events of a program come and go as it changes.
-use Rattle.std.proofs.Common.{◌≡◌, ℕ, zero, suc, ◌+◌, ◌<◌, ◌≤◌, ◌==◌, ◌&&◌, ◌||◌, ◌⊎◌, inl, inr, Bool, true, false, not, List, [], ◌∷◌, ◌++◌, length, set, get_or, filter, slice_get, Option, Some, is_some, refl, ap, sym, subst, ◌∙◌, arith, eqb-true, eq-eqb}
-use Rattle.std.proofs.lemmas.Bool.{both_ways, false_from_ne_true}
-use Rattle.std.proofs.lemmas.List.{get_or-set_same, get_or-set_other, length-set}
+use Rattle.std.proofs.Common.{◌≡◌, ℕ, zero, suc, ◌+◌, ◌<◌, ◌≤◌, ◌==◌, ◌&&◌, ◌||◌, ◌⊎◌, inl, inr, Bool, true, false, not, List, [], ◌∷◌, ◌++◌, length, get_or, filter, slice_get, Option, Some, is_some, refl, ap, sym, subst, ◌∙◌, arith, eqb-true}
+use Rattle.std.proofs.lemmas.Bool.{false_from_ne_true}
 use Rattle.std.proofs.lemmas.Option.{slice_get_within}
 use Rattle.std.specs.Option.{option_map_or, option_and_then}
 use Rattle.std.specs.Str.{bytes_eq}
@@ -20,48 +19,9 @@ use Rattle.adr_schedule.specs.Seating.{Seating, AreSeatedFor}
 use Rattle.adr_schedule.proofs.Numbered.{one_or_other}
 use Rattle.adr_regroup.specs.Party.{AreSeatedBut}
 use Rattle.adr_regroup.specs.Program.{with_program, AreMarked, AreThoseMarked, IsMarking}
-use Rattle.adr_regroup.proofs.Sums.{more_stand, none_stand, same_stand}
 use Rattle.adr_regroup.proofs.Applying.{among_applying, among_filter, scenes}
 
--- ---- marks
-
-pub no_marking : (marks : List Bool) (places : List ℕ) → IsMarking marks marks places places
-no_marking marks places = record { count = refl; left = λ p h e. (e, refl) }
-
-set_by : (marks : List Bool) (place p : ℕ) → p < length marks → get_or (set marks place true) p false ≡ false → (get_or marks p false ≡ false) × ((place == p) ≡ false)
-set_by marks place p h e = by (place == p) refl
-  where
-    by : (b : Bool) → (place == p) ≡ b → (get_or marks p false ≡ false) × ((place == p) ≡ false)
-    by true q = let s : place ≡ p = eqb-true place p q in
-        absurd (both_ways (get_or (set marks place true) p false) e (subst (λ k. get_or (set marks place true) k false ≡ true) s (get_or-set_same marks place true false (subst (λ k. k < length marks) (sym s) h))))
-    by false q = (sym (get_or-set_other marks place p true false (λ s. both_ways (place == p) q (eq-eqb place p (sym s)))) ∙ e, q)
-
-next_rest : (place p : ℕ) (places rest more : List ℕ) → rest ≡ place ∷ more → (place == p) ≡ false → is_among places p ≡ is_among rest p → is_among places p ≡ is_among more p
-next_rest place p places rest more whole apart e = e ∙ ap (λ ps. is_among ps p) whole ∙ ap (λ b. b || is_among more p) apart
-
--- the next place is marked
-pub marked_next : (was marks : List Bool) (places rest more : List ℕ) (place : ℕ) → rest ≡ place ∷ more → IsMarking was marks places rest → IsMarking was (set marks place true) places more
-marked_next was marks places rest more place whole h = record {
-  count = length-set marks place true ∙ h.count;
-  left = λ p l e.
-      let s = set_by marks place p (subst (λ n. p < n) (sym h.count) l) e in
-      let q = h.left p l s.0 in
-      (q.0, next_rest place p places rest more whole s.1 q.1);
-}
-
--- it is no place of those that can be marked
-pub passed_next : (was marks : List Bool) (places rest more : List ℕ) (place : ℕ) → rest ≡ place ∷ more → (place < length marks → ⊥) → IsMarking was marks places rest → IsMarking was marks places more
-passed_next was marks places rest more place whole outside h = record {
-  count = h.count;
-  left = λ p l e.
-      let q = h.left p l e in
-      (q.0, next_rest place p places rest more whole (false_from_ne_true (place == p) (λ t. outside (subst (λ k. k < length marks) (sym (eqb-true place p t)) (subst (λ n. p < n) (sym h.count) l)))) q.1);
-}
-
 -- ---- the places that are marked
-
-pub none_marked : (marks : List Bool) → AreThoseMarked marks 0 []
-none_marked marks = record { are = λ p h. absurd (omega (arith, h)); before = λ p h. absurd (cc); few = omega arith; once = none_stand 0 }
 
 module _ (marks : List Bool) (place : ℕ) (places : List ℕ) (h : AreThoseMarked marks place places) where
   at_end : (p : ℕ) → is_among (places ++ place ∷ []) p ≡ (is_among places p || (place == p))
@@ -84,50 +44,6 @@ module _ (marks : List Bool) (place : ℕ) (places : List ℕ) (h : AreThoseMark
 
   apart_from : (p : ℕ) → (p ≡ place → ⊥) → (place == p) ≡ false
   apart_from p e = false_from_ne_true (place == p) (λ t. e (sym (eqb-true place p t)))
-
-  pub is_marked : get_or marks place false ≡ true → AreThoseMarked marks (place + 1) (places ++ place ∷ [])
-  is_marked set = record {
-    are = λ p l. at_end p ∙ are p l (one_or_other p place);
-    before = λ p t. before p (sym (at_end p) ∙ t);
-    few = grown;
-    once = more_stand places place h.once;
-  }
-    where
-      are : (p : ℕ) → p < place + 1 → (p ≡ place) ⊎ (p ≡ place → ⊥) → (is_among places p || (place == p)) ≡ get_or marks p false
-      are p l (inl e) =
-          ap (λ b. b || (place == p)) (not_before p (omega (arith, e))) ∙ eq-eqb place p (sym e) ∙ sym set ∙ ap (λ k. get_or marks k false) (sym e)
-      are p l (inr e) =
-          ap (λ b. is_among places p || b) (apart_from p e) ∙ or_none (is_among places p) ∙ h.are p (omega (arith, l, e))
-        where
-          or_none : (b : Bool) → (b || false) ≡ b
-          or_none true = refl
-          or_none false = refl
-
-      before : (p : ℕ) → (is_among places p || (place == p)) ≡ true → p < place + 1
-      before p t = by (is_among places p) refl t
-        where
-          by : (b : Bool) → is_among places p ≡ b → (b || (place == p)) ≡ true → p < place + 1
-          by true e k = let l = h.before p e in omega (arith, l)
-          by false e k = let s : place ≡ p = eqb-true place p k in omega (arith, s)
-
-      long : (xs : List ℕ) → length (xs ++ place ∷ []) ≡ length xs + 1
-      long [] = refl
-      long (x ∷ xs) = let r = long xs in omega (arith, r)
-
-      grown : length (places ++ place ∷ []) ≤ place + 1
-      grown = let n = long places in let f = h.few in omega (arith, n, f)
-
-  pub is_not_marked : get_or marks place false ≡ false → AreThoseMarked marks (place + 1) places
-  is_not_marked unset = record {
-    are = λ p l. are p l (one_or_other p place);
-    before = λ p t. let l = h.before p t in omega (arith, l);
-    few = (let f = h.few in omega (arith, f));
-    once = same_stand places place h.once;
-  }
-    where
-      are : (p : ℕ) → p < place + 1 → (p ≡ place) ⊎ (p ≡ place → ⊥) → is_among places p ≡ get_or marks p false
-      are p l (inl e) = not_before p (omega (arith, e)) ∙ sym unset ∙ ap (λ k. get_or marks k false) (sym e)
-      are p l (inr e) = h.are p (omega (arith, l, e))
 
 -- ---- places of a list
 
@@ -158,9 +74,6 @@ module _ (old : Book) (program : Program) where
   applies_other r w e =
       ap (λ (o : Option Program). option_map_or applies (option_and_then (scenes w.event r (ven_by old r.ven_id)) o) false)
       (found_other (λ (x : Program). x.id) program w.event.program_id old.programs e)
-
-  pub none_turned : (marks : List Bool) → length marks ≡ length old.resources → AreMarked old (with_program old program) 0 marks
-  none_turned marks count = record { count = count; same = λ p i r w a b l e. absurd (omega (arith, l)) }
 
   module _ (i : ℕ) (w : Written) (at : slice_get old.events i ≡ Some w) where
     by_place : (marks : List Bool) → AreMarked old (with_program old program) i marks
@@ -229,11 +142,3 @@ module _ (old : Book) (program : Program) where
         h.writes p r w a e ∙ sym (m.same p q.0 r w a q.1 (slice_get_within old.events q.0 w q.1) (sym (t.are p inside) ∙ apart));
     known = h.known;
   }
-
-  pub inside_book : (marks : List Bool) (places : List ℕ) (n : ℕ) → AreMarked old (with_program old program) n marks
-      → AreThoseMarked marks (length marks) places → (p : ℕ) → is_among places p ≡ true → p < length old.resources
-  inside_book marks places n m t p e = subst (λ k. p < k) m.count (t.before p e)
-
-  pub few_marked : (marks : List Bool) (places : List ℕ) (n : ℕ) → AreMarked old (with_program old program) n marks
-      → AreThoseMarked marks (length marks) places → length places ≤ length old.resources
-  few_marked marks places n m t = subst (λ k. length places ≤ k) m.count t.few

@@ -329,17 +329,6 @@ module _ (place : ℕ) (g : Lines) (old new : Seating) (placed : IsPlaced place 
       by (inl e) = subst (λ z. IsRightOf tie events z) (some_same g x (sym placed.here ∙ subst (λ q. group_at new q ≡ Some x) e h)) right
       by (inr a) = was p x (sym (placed.others p a) ∙ h)
 
--- a place whose group has the writes already
-pub same_rewritten : (place : ℕ) (g : Lines) (s : Seating) (numbers : List ℕ) → group_at s place ≡ Some g → g.writes ≡ numbers → IsRewritten place numbers s s
-same_rewritten place g s numbers at same = record {
-  count = refl;
-  writes = λ p n within. by p n (p == place) refl;
-}
-  where
-    by : (p n : ℕ) (b : Bool) → (p == place) ≡ b → has_at s p n ≡ (if b then has_number numbers n else has_at s p n)
-    by p n true e = ap (λ q. has_at s q n) (eqb-true p place e) ∙ has_of s place n g at ∙ ap (λ ns. has_number ns n) same
-    by p n false e = refl
-
 -- ---- each place has a group
 
 pub group_there : (s : Seating) → AreSeated s.seats s.groups → (p : ℕ) → p < length s.seats → (g : Lines) × (group_at s p ≡ Some g)

@@ -26,16 +26,6 @@ module _ {G : Type 0} where
       by (Some s) e k = (s, e, k)
 
 module _ {G : Type 0} (P : G → G → Type 0) (seats : List ℕ) (values : List (List ℕ × G)) (slots : List (List ℕ × ℕ)) (m : AreMoving P seats values slots) where
-  -- where the members of the slot go is known already
-  pub next_known : (slot t : ℕ) → in_slot slots slot ≡ Some t → IsNext P seats values values slots slot t
-  next_known slot t h = record {
-    grows = λ s g k. k;
-    fresh = λ s g k. inr (m.seated.taken s g k);
-    goes = m.goes;
-    stays = m.stays;
-    known = h;
-  }
-
   -- the members of the slot stay
   pub next_stays : (slot : ℕ) → in_slot slots slot ≡ None → ((g : G) → in_slot values slot ≡ Some g → P g g)
       → IsNext P seats values values (put (slot ∷ []) slot slots) slot slot
@@ -346,14 +336,3 @@ module _ {G : Type 0} (P : G → G → Type 0) (seats others : List ℕ) (values
   sat_moved (inl c) = rw (c.1, c.2) (stay_moved P seats values after slots place slot next at old n c.0)
   sat_moved (inr (a, e, inl k)) = rw (e, k.1) (kept_moved P seats values after slots place slot next at old n a (subst (λ z. is_taken z slot ≡ true) e k.0))
   sat_moved (inr (a, e, inr k)) = rw (e, k.1) (dropped_moved P seats values after slots place slot next at old n a (subst (λ z. is_taken z slot ≡ false) e k.0))
-
--- a place that is not there moves nothing
-pub absent_moved : {G : Type 0} (P : G → G → Type 0) (seats : List ℕ) (values : List (List ℕ × G)) (place : ℕ) → slice_get seats place ≡ None
-    → AreMoved P (is_among (place ∷ [])) seats values seats values
-absent_moved P seats values place none = record {
-  count = refl;
-  now = λ p g k. (g, k, (λ b. absurd (away p g k (single place p b))), λ b. refl);
-}
-  where
-    away : (p : ℕ) (g : _) → value_at seats values p ≡ Some g → place ≡ p → ⊥
-    away p g k e = let s = slot_of seats values p g k in none_is_some s.0 (sym none ∙ subst (λ z. slice_get seats z ≡ Some s.0) (sym e) s.1)

@@ -70,7 +70,7 @@ impl Schedule {
         self.groups.get(&slot)
     }
 
-    /// The same schedule, which shares its groups. Cost: the table of seats, eight bytes a resource.
+    /// The same schedule, which shares its groups. Cost: the table of seats, four bytes a resource and 16 a group.
     pub fn copy(&self) -> Result<Schedule, Refusal>
         ensures { IsCopyOf result self.now }
     {

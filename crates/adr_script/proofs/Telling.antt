@@ -18,9 +18,6 @@ module _ {S : Type 0} (answers : S → List ℕ → List ℕ → S → Type 0) w
   told-refused s (line ∷ lines) =
       let (out, told) = told-refused s lines in (no_memory ++ out, (no_memory, out, s, inr (refl, refl), told, refl))
 
-  pub part-one : (s t : S) (line part more : List ℕ) → LineStep answers s line (part ++ more) t → IsToldInPart answers s (line ∷ []) part t
-  part-one s t line part more step = (more, told-one s t line (part ++ more) step)
-
   pub part-more : (s t : S) (lines later : List (List ℕ)) (out : List ℕ) → IsToldInPart answers s lines out t → IsToldInPart answers s (lines ++ later) out t
   part-more s t lines later out (more, told) =
       let (rest, refused) = told-refused t later in
@@ -29,7 +26,3 @@ module _ {S : Type 0} (answers : S → List ℕ → List ℕ → S → Type 0) w
   pub part-behind : (s t u : S) (lines later : List (List ℕ)) (out part : List ℕ) → Told answers s lines out t → IsToldInPart answers t later part u → IsToldInPart answers s (lines ++ later) (out ++ part) u
   part-behind s t u lines later out part told (more, rest) =
       (more, subst (λ o. Told answers s (lines ++ later) o u) (sym (append_assoc out part more)) (told-append s t u lines later out (part ++ more) told rest))
-
-  -- nothing is written
-  pub part-none : (s : S) (lines : List (List ℕ)) → IsToldInPart answers s lines [] s
-  part-none s lines = told-refused s lines

@@ -2,8 +2,8 @@
 use Rattle.std.proofs.Common.{◌≡◌, ℕ, Bool, true, false, List, [], ◌∷◌, ◌++◌, length, Option, refl, ap, ◌∙◌, inl, inr, ltb, cond}
 use Rattle.std.specs.Bool.{MatchBool}
 use Rattle.std.specs.Io.BufRead.{strip_last}
-use Rattle.adr_script.specs.Script.{Told, IsToldInPart, Moves, long_line, no_memory}
-use Rattle.adr_script.specs.Text.{AnswersBy, IsText, IsTextInPart, text, text_but, state_but, line_reply, after_line}
+use Rattle.adr_script.specs.Script.{Told, Moves, long_line, no_memory}
+use Rattle.adr_script.specs.Text.{AnswersBy, IsText, text, text_but, state_but, line_reply, after_line}
 
 -- what holds of all that is read and written
 pub moves_weaker : (a b c d : Option (List ℕ)) (P Q : List ℕ → List ℕ → Type 0) → ((bytes out : List ℕ) → P bytes out → Q bytes out) → Moves a b c d P → Moves a b c d Q
@@ -51,18 +51,10 @@ module _ {S : Type 0} (answers : S → List ℕ → List ℕ → S → Type 0) (
   told_is_text start s t lines out same h =
       let (marks, is, left) = told_text s t lines out h in (marks, is ∙ ap (λ u. text_but reply next marks u lines) same)
 
-  pub told_is_text_in_part : (start s t : S) (lines : List (List ℕ)) (out : List ℕ) → s ≡ start → IsToldInPart answers s lines out t → IsTextInPart reply next start lines out
-  told_is_text_in_part start s t lines out same (more, told) = (more, told_is_text start s t lines (out ++ more) same told)
-
   pub moves_text : (a b c d : Option (List ℕ)) (lines_of : List ℕ → List (List ℕ)) (start s t : S) → s ≡ start
       → Moves a b c d (λ bytes out. Told answers s (lines_of bytes) out t) → Moves a b c d (λ bytes out. IsText reply next start (lines_of bytes) out)
   moves_text a b c d lines_of start s t same (bytes, out, consumed, appended, told) =
       (bytes, out, consumed, appended, told_is_text start s t (lines_of bytes) out same told)
-
-  pub moves_text_in_part : (a b c d : Option (List ℕ)) (lines_of : List ℕ → List (List ℕ)) (start s t : S) → s ≡ start
-      → Moves a b c d (λ bytes out. IsToldInPart answers s (lines_of bytes) out t) → Moves a b c d (λ bytes out. IsTextInPart reply next start (lines_of bytes) out)
-  moves_text_in_part a b c d lines_of start s t same (bytes, out, consumed, appended, told) =
-      (bytes, out, consumed, appended, told_is_text_in_part start s t (lines_of bytes) out same told)
 
 -- Two machines whose states are alike, and stay so while they reply the same, tell one text.
 module _ {S T : Type 0} (reply : S → List ℕ → List ℕ) (next : S → List ℕ → S) (other : T → List ℕ → List ℕ) (onward : T → List ℕ → T)
@@ -88,12 +80,6 @@ module _ {S T : Type 0} (reply : S → List ℕ → List ℕ) (next : S → List
       let one = line_alike s t line h in
       ap (λ r. r ++ text_but reply next marks (after_line next s line) lines) one.0
       ∙ ap (λ r. line_reply other t line ++ r) (alike_text marks (after_line next s line) (after_line onward t line) lines one.1)
-
-  pub alike_state : (marks : List Bool) (s : S) (t : T) (lines : List (List ℕ)) → Alike s t → Alike (state_but next marks s lines) (state_but onward marks t lines)
-  alike_state marks s t [] h = h
-  alike_state [] s t (line ∷ lines) h = alike_state [] (after_line next s line) (after_line onward t line) lines (line_alike s t line h).1
-  alike_state (true ∷ marks) s t (line ∷ lines) h = alike_state marks s t lines h
-  alike_state (false ∷ marks) s t (line ∷ lines) h = alike_state marks (after_line next s line) (after_line onward t line) lines (line_alike s t line h).1
 
   pub alike_IsText : (s : S) (t : T) (lines : List (List ℕ)) (out : List ℕ) → Alike s t → IsText reply next s lines out → IsText other onward t lines out
   alike_IsText s t lines out h (marks, same) = (marks, same ∙ alike_text marks s t lines h)

@@ -1,5 +1,5 @@
 -- How many places have a slot, as places come, change and go.
-use Rattle.std.proofs.Common.{◌≡◌, ℕ, ◌<◌, ◌≤◌, ◌+◌, ◌++◌, ◌||◌, [], ◌∷◌, true, false, not, cond, eqb, Bool, List, length, filter, get_or, set, remove, zero, suc, refl, ap, sym, ◌∙◌, arith, eq-eqb, ne_eqb}
+use Rattle.std.proofs.Common.{◌≡◌, ℕ, ◌<◌, ◌≤◌, ◌+◌, ◌||◌, [], ◌∷◌, true, false, not, cond, eqb, Bool, List, length, filter, get_or, set, remove, zero, suc, refl, ap, sym, ◌∙◌, arith, eq-eqb, ne_eqb}
 use Rattle.std.specs.List.{list_any}
 use Rattle.adr_seats.specs.Seats.{members_of}
 
@@ -10,11 +10,6 @@ members-first slot x xs = by (eqb x slot)
     by : (b : Bool) → length (cond b (x ∷ filter (λ s. eqb s slot) xs) (filter (λ s. eqb s slot) xs)) ≡ members_of slot xs + cond b 1 0
     by true = omega arith
     by false = omega arith
-
--- a place that comes last
-pub members-push : (slot x : ℕ) (xs : List ℕ) → members_of slot (xs ++ x ∷ []) ≡ members_of slot xs + cond (eqb x slot) 1 0
-members-push slot x [] = members-first slot x []
-members-push slot x (y ∷ ys) = omega (arith, members-first slot y (ys ++ x ∷ []), members-push slot x ys, members-first slot y ys)
 
 -- a place that is given another slot
 pub members-set : (slot x d : ℕ) (xs : List ℕ) (place : ℕ) → place < length xs
@@ -65,13 +60,6 @@ members-some d xs place l =
     let x = get_or xs place d in
     let one : ◌≡◌ {A = ℕ} (cond (eqb x x) 1 0) 1 = ap {B = ℕ} (λ b. cond b 1 0) (eq-eqb x x refl) in
     omega (arith, members-remove x d xs place l, one)
-
--- numbers with a zero after them
-pub counts-grown : (xs : List ℕ) (slot : ℕ) → get_or (xs ++ 0 ∷ []) slot 0 ≡ get_or xs slot 0
-counts-grown [] zero = refl
-counts-grown [] (suc slot) = refl
-counts-grown (x ∷ xs) zero = refl
-counts-grown (x ∷ xs) (suc slot) = counts-grown xs slot
 
 -- the number of a slot, when a place with the slot `x` goes
 pub counted-less : (slot x : ℕ) (xs : List ℕ) (place before after : ℕ) → place < length xs → x ≡ get_or xs place x → after + cond (eqb x slot) 1 0 ≡ before → before ≡ members_of slot xs → after ≡ members_of slot (remove xs place)

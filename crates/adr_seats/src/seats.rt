@@ -6,7 +6,7 @@ ghost use Rattle.adr_value.specs.Copy.{IsCopyOf};
 ghost use Rattle.adr_seats.specs.Seats.{members_of, IsCountOf};
 
 use crate::counts::Counts;
-use adr_value::{Refusal, TryClone};
+use adr_value::Refusal;
 use std::alloc::Global;
 use std::marker::Model;
 
@@ -132,12 +132,6 @@ impl Seats {
             slots: Vec::from_slice(alloc, &self.slots)?,
             counts: self.counts.copy()?,
         })
-    }
-}
-
-impl TryClone for Seats {
-    fn try_clone(&self) -> Result<Seats, Refusal> {
-        self.copy()
     }
 }
 

@@ -157,7 +157,8 @@ fn query_named(alloc: Global, line: &[u8]) -> Result<Command, Refusal>
 ///
 /// Its least fault is answered: `LongLine` for more than 4,194,304 bytes, `BadLine` where it has no form of the
 /// script, `BadMoment`, `BadId`, `BadText` for a type that is no UTF-8 or has more than 128 characters, and those of
-/// the body (`BadNumber` to `TooMany`). `NoMemory` may come in place of any. Cost: one pass over the line and its body.
+/// the body (`BadNumber` to `TooMany`). `NoMemory` may come in place of any. Cost: a pass over the words of the
+/// line for each form until one fits, and that of reading the body.
 #[tactic(auto, unfolding(crate::specs::Line::line_named_by))]
 pub fn parse_line(alloc: Global, line: &[u8]) -> Result<Command, Refusal>
     ensures { Answers result (line_named line.now) }

@@ -45,7 +45,7 @@ pub fn put_refusal(reply: &mut Vec<u8>, refusal: Refusal)
     put(reply, b"\n");
 }
 
-/// Puts `ok 4` into such a reply.
+/// Puts `ok 4` into an empty reply with room for 64 bytes.
 pub fn put_ok(reply: &mut Vec<u8>, version: u64)
     requires small { version < 10 ^ 13 }
     requires empty { vec_len reply.old ≡ 0 }
@@ -58,7 +58,7 @@ pub fn put_ok(reply: &mut Vec<u8>, version: u64)
     put(reply, b"\n");
 }
 
-/// Puts `published 1 version 4` into such a reply.
+/// Puts `published 1 version 4` into an empty reply with room for 64 bytes.
 pub fn put_published(reply: &mut Vec<u8>, number: u64, version: u64)
     requires number { number < 10 ^ 13 }
     requires version { version < 10 ^ 13 }
@@ -74,7 +74,7 @@ pub fn put_published(reply: &mut Vec<u8>, number: u64, version: u64)
     put(reply, b"\n");
 }
 
-/// Puts `condensed version 4` into such a reply.
+/// Puts `condensed version 4` into an empty reply with room for 64 bytes.
 pub fn put_condensed(reply: &mut Vec<u8>, version: u64)
     requires small { version < 10 ^ 13 }
     requires empty { vec_len reply.old ≡ 0 }

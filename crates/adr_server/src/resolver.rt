@@ -33,7 +33,8 @@ pub trait Resolver {
         ensures refused { IfErr result (λ refusal. (refusal ≡ NoMemory) ⊎ (step_to (full_at (kept self.old).base) (kept self.old).current edit ≡ Err refusal)) }
         ensures unchanged { OnErr result (kept self.new ≡ kept self.old) };
 
-    /// Publishes the objects as they are. It may wait for readers that are taking a share.
+    /// Publishes the objects as they are. `Full` after 1,000,000 publications, else `NoMemory`. It may wait for readers
+    /// that are taking a share.
     fn publish<H: Wait>(&mut self, rt: &H) -> Result<Published, Refusal>
         ensures ok { OnOk result (((kept self.old).number < MOST_PUBLICATIONS)
             × (kept self.new ≡ record (kept self.old) { published = (kept self.old).current; number = (kept self.old).number + 1 })) }
@@ -42,7 +43,7 @@ pub trait Resolver {
         ensures refused { IfErr result (λ refusal. (refusal ≡ NoMemory) ⊎ ((refusal ≡ Full) × (MOST_PUBLICATIONS ≤ (kept self.old).number))) }
         ensures unchanged { OnErr result (kept self.new ≡ kept self.old) };
 
-    /// Counts the accepted edits from the last publication on, and answers its version.
+    /// Counts the accepted edits from the last publication on, and answers its version, or `NoMemory`.
     fn condense(&mut self) -> Result<u64, Refusal>
         ensures answer { IfOk result (λ version. version ≡ (kept self.old).published.version) }
         ensures bound { IfOk result (λ version. version ≤ MOST_VERSION) }
@@ -50,11 +51,12 @@ pub trait Resolver {
         ensures memory { OnlyNoMemory result }
         ensures unchanged { OnErr result (kept self.new ≡ kept self.old) };
 
-    /// The reply to `at`.
+    /// The reply to `at`, with its line feed. `UnknownResource` where the last publication has no such resource, else
+    /// `NoMemory`.
     fn at(&self, id: &Id, payload_type: &PayloadType, moment: Moment) -> Result<Vec<u8>, Refusal>
         ensures { Answers (result_map (λ v. v.items) result) (at (kept self.now).tie (kept self.now).published id.now payload_type.now moment) };
 
-    /// The reply to `list`.
+    /// The reply to `list`, with its line feeds. `BadWindow` where the window doesn't start before its end, and as `at`.
     fn list(
         &self,
         id: &Id,
@@ -64,11 +66,11 @@ pub trait Resolver {
     ) -> Result<Vec<u8>, Refusal>
         ensures { Answers (result_map (λ v. v.items) result) (list (kept self.now).tie (kept self.now).published id.now payload_type.now from to) };
 
-    /// The reply to `roll`.
+    /// The reply to `roll`, with its line feeds, or `NoMemory`.
     fn roll(&self, payload_type: &PayloadType, moment: Moment) -> Result<Vec<u8>, Refusal>
         ensures { Answers (result_map (λ v. v.items) result) (roll (kept self.now).tie (kept self.now).published payload_type.now moment) };
 
-    /// The reply to `types`.
+    /// The reply to `types`, with its line feeds. Refused as `at`.
     fn types(&self, id: &Id) -> Result<Vec<u8>, Refusal>
         ensures { Answers (result_map (λ v. v.items) result) (types (kept self.now).tie (kept self.now).published id.now) };
 }

@@ -39,12 +39,6 @@ some_shown (s ∷ rest) c lasts =
 
 -- ---- the types
 
-same_test : (a b : Bool) → (IsTrue a → IsTrue b) → (IsTrue b → IsTrue a) → a ≡ b
-same_test true true to fro = refl
-same_test true false to fro = sym (to refl)
-same_test false true to fro = fro refl
-same_test false false to fro = refl
-
 module _ (lines : List (List ℕ × List Segment)) (test : PayloadType → Bool) (is : IsTypeTest lines test) (kind : PayloadType) where
   -- a line that is there passes
   pub line_passes : (line : List Segment) → IsCanonical line → line ≢ [] → ((t : ℤ) → shows line t ≡ shown_in lines kind t) → true ≡ test kind

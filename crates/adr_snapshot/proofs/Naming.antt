@@ -80,9 +80,6 @@ module _ (book : Book) (own : HasPrivateNames book) where
   pub step_private : (full : ℕ) (x : Edit) (new : Book) → ArePrivate (edit_names x) → step_to full book x ≡ Ok new → HasPrivateNames new
   step_private full x new come h = subst HasPrivateNames (accepted_to full book new x h).1 (edited_private x come)
 
-pub none_yet : ArePrivate []
-none_yet name m = absurd m
-
 -- ---- a walk through a list
 
 module _ {X : Type 0} (f : X → List (List ℕ)) where

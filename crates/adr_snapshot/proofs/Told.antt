@@ -1,10 +1,8 @@
 -- What a snapshot's timelines say, in the words of a calendar.
-use Rattle.std.proofs.Common.{◌≡◌, ◌≢◌, ℕ, ℤ, Bool, true, cond, List, [], ◌∷◌, ◌-◌, ◌<◌, suc, length, Bor, Option, Some, None, is_some, slice_get, refl, sym, ap, ◌∙◌, arith}
+use Rattle.std.proofs.Common.{◌≡◌, ◌≢◌, ℕ, ℤ, Bool, true, List, [], ◌∷◌, ◌-◌, ◌<◌, suc, length, Bor, Option, Some, None, is_some, slice_get, refl, sym, ap, ◌∙◌, arith}
 use Rattle.std.specs.Prelude.{IfSome, unwrap_or}
 use Rattle.std.specs.Option.{option_copied, option_map_or}
 use Rattle.adr_value.specs.declared.payload.PayloadType.{PayloadType}
-use Rattle.adr_time.specs.Spans.{covers}
-use Rattle.adr_time.specs.declared.span.End.TheVariants.{At}
 use Rattle.adr_object.specs.declared.object.Edit.{Edit}
 use Rattle.adr_model.specs.declared.entry.Tie.{Tie}
 use Rattle.adr_model.specs.declared.timeline.Segment.{Segment}
@@ -13,9 +11,8 @@ use Rattle.adr_model.specs.Answer.{IsUntil}
 use Rattle.adr_model.specs.Book.{Book, resource_by}
 use Rattle.adr_model.specs.Governor.{governs}
 use Rattle.adr_model.specs.Timeline.{shows, IsCanonical}
-use Rattle.adr_timeline.specs.Chunks.{listed}
 use Rattle.adr_calendar.specs.declared.calendar.State.{State}
-use Rattle.adr_calendar.specs.Segments.{IsCalendar, IsStateAt}
+use Rattle.adr_calendar.specs.Segments.{IsStateAt}
 use Rattle.adr_group.specs.Group.{shown_in, Lines}
 use Rattle.adr_schedule.specs.Seating.{group_at, AreSeatedFor, Seating}
 use Rattle.adr_resolution.proofs.Governed.{no_group, place_shown}
@@ -31,26 +28,12 @@ module _ (tie : Tie) (book : Book) (id : List ℕ) (kind : PayloadType) (f : ℤ
     changed = until_shown tie book id kind f t state.until alike changes;
   }
 
-  pub calendar_is : (from to : ℤ) (segments : List Segment) → IsCanonical segments
-      → ((t : ℤ) → shows segments t ≡ cond (covers (record { start = from; end = At to }) t) (f t) None)
-      → IsCalendar tie book id kind from to segments
-  calendar_is from to segments canonical shown = record {
-    canonical = canonical;
-    governed = λ t. shown t ∙ ap (λ o. cond (covers (record { start = from; end = At to }) t) o None) (alike t);
-  }
-
 -- a type has a line just where the test holds
 pub line_tells : (lines : List (List ℕ × List Segment)) (test : PayloadType → Bool) → IsTypeTest lines test → (kind : PayloadType) (o : Option (Bor (List Segment)))
     → ((t : ℤ) → option_map_or (λ l. shows l t) (option_copied o) None ≡ shown_in lines kind t)
     → IfSome o (λ l. IsCanonical l.now) → IfSome o (λ l. l.now ≢ []) → is_some o ≡ test kind
 line_tells lines test is kind None shown canonical lasts = no_line_fails lines test is kind shown
 line_tells lines test is kind (Some l) shown canonical lasts = line_passes lines test is kind l.now canonical lasts shown
-
--- ---- chunks
-
-pub listed_none : (cs : List (List Segment)) → length cs ≡ 0 → listed cs ≡ []
-listed_none [] h = refl
-listed_none (c ∷ cs) h = absurd (omega arith)
 
 -- ---- batches
 

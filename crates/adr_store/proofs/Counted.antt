@@ -137,11 +137,6 @@ abbrev pub count_of : Written → ℕ
 count_of w = entry_count w.event
 
 module _ (xs : List Written) where
-  pub counted_same : (m n : List (List ℕ × ℕ)) (k : ℕ) (u v : List (List ℕ × Event)) → IsCounted xs m k u
-      → ((id : List ℕ) → times n id ≡ times m id) → ((i : ℕ) → kept_for v i ≡ kept_for u i) → IsCounted xs n k v
-  counted_same m n k u v c same also =
-      record { naming = λ id. same id ∙ c.naming id; counted = c.counted; written = λ i. also i ∙ c.written i; few = c.few; within = c.within }
-
   pub counted_more : (m n : List (List ℕ × ℕ)) (k j : ℕ) (u v : List (List ℕ × Event)) (w : Written) → IsCounted xs m k u
       → by_number xs w.written ≡ None → length xs < MOST_EVENTS → j ≡ k + count_of w → all_entries xs + count_of w ≤ MOST_ENTRIES
       → (name : List ℕ) → name ≡ program_of w → ((id : List ℕ) → times n id ≡ times m id + one_if (bytes_eq id name))

@@ -9,18 +9,6 @@ use Rattle.adr_store.specs.contracts.events.Events as Events
 use Rattle.adr_store.specs.contracts.resources.Resources as Resources
 use Rattle.adr_store.specs.contracts.store.Store as Store
 
-pub tally_send : IsSend Tally.the_row
-tally_send = search (sendable, std.crosses, map_send, id_send, id_sync) depth 60 fits 60000
-
-pub tally_sync : IsSync Tally.the_row
-tally_sync = search (sendable, std.crosses, map_sync, id_send, id_sync) depth 60 fits 60000
-
-pub numbers_send : IsSend Numbers.the_row
-numbers_send = search (sendable, std.crosses, map_send, event_send, event_sync) depth 60 fits 60000
-
-pub numbers_sync : IsSync Numbers.the_row
-numbers_sync = search (sendable, std.crosses, map_sync, event_send, event_sync) depth 60 fits 60000
-
 pub events_send : IsSend Events.the_row
 events_send = search (sendable, std.crosses, map_send, id_send, id_sync, shared_send, shared_sync, event_send, event_sync) depth 60 fits 60000
 

@@ -14,11 +14,6 @@ same_test true false h k = sym (h refl)
 same_test false true h k = k refl
 same_test false false h k = refl
 
-pub bytes_eq_flip : (a b : List ℕ) → bytes_eq a b ≡ bytes_eq b a
-bytes_eq_flip a b = same_test (bytes_eq a b) (bytes_eq b a)
-    (λ h. (bytes_eq-Decides b a).1 (sym ((bytes_eq-Decides a b).0 h)))
-    (λ h. (bytes_eq-Decides a b).1 (sym ((bytes_eq-Decides b a).0 h)))
-
 module _ (counts : List (List ℕ × ℕ)) (key : List ℕ) where
   pub added : (n : ℕ) → n ≡ times counts key + 1 → (id : List ℕ) → times (put key n counts) id ≡ times counts id + one_if (bytes_eq id key)
   added n h id = ap (λ o. unwrap_or o 0) (put_is_found counts key n id) ∙ by (bytes_eq id key) refl

@@ -396,7 +396,8 @@ impl Store {
     }
 
     /// Makes an edit that the definition accepts, of objects that such edits left. `NoMemory` leaves all as it was. Cost:
-    /// a path in at most four trees, of some 15 nodes each at 16,384 objects; the edit's object is kept and not copied.
+    /// at most five paths in trees, of some 15 nodes each at 16,384 objects, and of an event a count of its entries; the
+    /// edit's object is kept and not copied.
     pub fn make(&mut self, edit: Edit) -> Result<(), Refusal>
         requires accepted { IsOk (step self.old edit) }
         requires whole { IsWhole self.old }

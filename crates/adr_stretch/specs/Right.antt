@@ -1,14 +1,12 @@
 -- The entries of some writes.
-use Rattle.std.specs.Prelude.{◌≡◌, ◌↔◌, ◌==◌, ℕ, ℤ, Bool, List, Option, filter, flat_map, map}
+use Rattle.std.specs.Prelude.{◌↔◌, ◌==◌, ℕ, ℤ, Bool, List, Option, filter, flat_map, map}
 use Rattle.std.specs.List.{list_any}
 use Rattle.adr_value.specs.declared.payload.PayloadType.{PayloadType}
-use Rattle.adr_object.specs.declared.party.Resource.{Resource}
 use Rattle.adr_model.specs.declared.entry.Entry.{Entry}
 use Rattle.adr_model.specs.declared.entry.Tie.{Tie}
 use Rattle.adr_model.specs.declared.timeline.Winner.{Winner}
 use Rattle.adr_model.specs.declared.written.Written.{Written}
-use Rattle.adr_model.specs.Book.{Book}
-use Rattle.adr_model.specs.Governor.{entries_of, applies_to, winner_at}
+use Rattle.adr_model.specs.Governor.{entries_of, winner_at}
 use Rattle.adr_model.specs.Lists.{In}
 use Rattle.adr_model.specs.Rank.{ranked}
 
@@ -35,7 +33,3 @@ all_of events payload_type = flat_map (entries_of payload_type) events
 -- the entries of those of the writes
 abbrev pub among : List Written → List ℕ → PayloadType → List Entry
 among events writes payload_type = flat_map (entries_of payload_type) (filter (λ w. has_number writes w.written) events)
-
--- the writes are those that apply to the resource
-abbrev pub AreWritesFor : Book → Resource → List ℕ → Type 0
-AreWritesFor book resource writes = (w : Written) → In w book.events → has_number writes w.written ≡ applies_to book resource w

@@ -1,5 +1,5 @@
 -- A span lasts where it starts before it ends. Two meet where each starts before the other ends, and they share the later start.
-use Rattle.std.proofs.Common.{◌≡◌, ◌↔◌, ℤ, ◌≤ℤ◌, int_lt, Bool, true, false, ◌&&◌, ◌||◌, true≢false, IsTrue, ap, arith, refl, sym}
+use Rattle.std.proofs.Common.{◌≡◌, ◌↔◌, ℤ, ◌≤ℤ◌, Bool, true, false, ◌&&◌, true≢false, IsTrue, ap, arith, refl, sym}
 use Rattle.std.proofs.lemmas.Bool.Decides.{Decides-int_eq}
 use Rattle.std.proofs.lemmas.Int.{ints, by_lt_z}
 use Rattle.std.specs.Int.Signed.{≤ℤ_refl}
@@ -7,7 +7,7 @@ use Rattle.jiff_core.proofs.SignedLemmas.{signed_arith}
 use Rattle.adr_time.specs.declared.span.End.{End}
 use Rattle.adr_time.specs.declared.span.End.TheVariants.{At, Endless}
 use Rattle.adr_time.specs.declared.span.Span.{Span}
-use Rattle.adr_time.specs.Spans.{IsBefore, is_before, Lasts, lasts, Meets, meets, ends_at, later_end}
+use Rattle.adr_time.specs.Spans.{IsBefore, is_before, Lasts, lasts, Meets, meets, ends_at}
 
 is_before-true : (t : ℤ) (e : End) → is_before t e ≡ true → IsBefore t e
 is_before-true t (At end) h = grind (arith, ints)
@@ -37,16 +37,6 @@ lasts_meaning span = (lasting span, covered span)
 pub ends_at_is : (e : End) (t : ℤ) → ends_at e t ≡ true → e ≡ At t
 ends_at_is (At u) t h = ap At ((Decides-int_eq u t).0 h)
 ends_at_is Endless t h = absurd (true≢false (sym h))
-
--- before the later of two ends is before one of them
-pub before_later : (e f : End) (t : ℤ) → is_before t (later_end e f) ≡ (is_before t e || is_before t f)
-before_later (At u) (At v) t = grind (arith, ints)
-before_later (At u) Endless t = or_true (int_lt t u)
-  where
-    or_true : (x : Bool) → true ≡ (x || true)
-    or_true true = refl
-    or_true false = refl
-before_later Endless f t = refl
 
 -- ---- spans that meet
 

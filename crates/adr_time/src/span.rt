@@ -153,7 +153,8 @@ fn after(start: Moment, span: jiff::Span) -> Result<Moment, Refusal>
 }
 
 /// The end of what starts then and lasts that long: the sum on the calendar of UTC (ISO 8601,
-/// proleptic Gregorian), `TimeRange` outside the range of a `Moment`.
+/// proleptic Gregorian), `TimeRange` outside the range of a `Moment`, and where the years of a
+/// negative length lead off the calendar before the rest is added.
 ///
 /// Years and months come first, and a month that has no such day takes its last; then weeks and
 /// days, of 24 hours each; then the rest.

@@ -1,5 +1,5 @@
 -- What a list shows that has the winners in each of some windows.
-use Rattle.std.proofs.Common.{◌≡◌, Bool, true, false, ◌&&◌, ◌||◌, List, [], ◌∷◌, length, Option, Some, None, if◌then◌else◌, refl, ◌∙◌, ap, arith, ℤ, ◌≤ℤ◌, int_le, int_lt}
+use Rattle.std.proofs.Common.{◌≡◌, Bool, true, false, ◌&&◌, ◌||◌, List, [], ◌∷◌, length, Option, Some, None, if◌then◌else◌, refl, ◌∙◌, ap, arith, ℤ, ◌≤ℤ◌, int_le}
 use Rattle.std.specs.Option.{option_map}
 use Rattle.std.proofs.lemmas.Int.{ints}
 use Rattle.std.proofs.lemmas.Bool.{false≢true, and_parts}
@@ -52,9 +52,6 @@ over_by a Endless u t h k = absurd h
 behind_none : (out : List Segment) (u t : ℤ) → IsBehind out (At u) → int_le u t ≡ true → winner_in out t ≡ None
 behind_none [] u t b h = refl
 behind_none (s ∷ ss) u t b h = rw (over_by s.start s.end u t b.0 h) (behind_none ss u t b.1 h)
-
-starts_le : (u a : ℤ) → (if int_lt a u then false else true) ≡ true → u ≤ℤ a
-starts_le u a h = grind (arith, ints)
 
 -- the list with a window's part ends where the next one begins, or before
 ready_next : (a : ℤ) (e : End) (out ss : List Segment) (ws : List Span) → is_before a e ≡ true → IsBehind out (At a) → AreFrom (Some e) ws → IsReadyFor (joined_all out (part (Some a) e ss)) ws

@@ -29,10 +29,6 @@ pub filled_push : (cs : List (List Segment)) (c : List Segment) → AreFilled cs
 filled_push [] c f h = (h, tt)
 filled_push (d ∷ cs) c f h = (f.0, filled_push cs c f.1 h)
 
--- what is sealed stays in the list
-pub sealed_same : (cs : List (List Segment)) (o : List Segment) → listed (cs ++ o ∷ []) ++ [] ≡ listed cs ++ o
-sealed_same cs o = append-nil (listed (cs ++ o ∷ [])) ∙ listed_push cs o
-
 pub filled_pop : (cs : List (List Segment)) (c : List Segment) → AreFilled (cs ++ c ∷ []) → AreFilled cs × (0 < length c)
 filled_pop [] c f = (tt, f.0)
 filled_pop (d ∷ cs) c f = let rest = filled_pop cs c f.1 in ((f.0, rest.0), rest.1)

@@ -19,7 +19,7 @@ use Rattle.adr_timeline.specs.declared.step.Step.{Step}
 use Rattle.adr_timeline.specs.Parts.{part, joined, joined_all, leads_to, trimmed}
 use Rattle.adr_timeline.specs.Chunks.{listed}
 use Rattle.adr_timeline.specs.Overlay.{hull_with, hull, most_laid, most_merged, segments_in, shown_entry}
-use Rattle.adr_timeline.specs.Steps.{Adds, IsInOrder, IsMergeOf, is_run, starts_from, steps_of, steps_in_turn, lesser, pieces, rank_at, rank_from, winner_of_rank}
+use Rattle.adr_timeline.specs.Steps.{IsInOrder, is_run, starts_from, steps_of, steps_in_turn, lesser, pieces, rank_at, rank_from, winner_of_rank}
 use Rattle.adr_timeline.proofs.Canonical.{none_before, starts_end, after_endless, canonical_is_unique}
 use Rattle.adr_timeline.proofs.Pieces.{clip_made, clipped_as}
 use Rattle.adr_timeline.proofs.Least.{lesser_none, rank_cons, rank_append, winner_rank}
@@ -92,24 +92,6 @@ module _ (rank : Winner → Rank) where
   chunks_more cs i chunk steps new whole lt is h so_far =
       let here : drop i cs ≡ chunk ∷ drop (i + 1) cs = drop_more cs i chunk lt ∙ ap (λ (c : List Segment). c ∷ drop (i + 1) cs) (sym is) in
       chunk_more steps new chunk (listed (drop (i + 1) cs)) h ∙ (rw here at so_far)
-
--- ---- what is merged
-
--- the steps put at the end of none
-pub merged_none : (left right none new : List Step) → none ≡ [] → Adds (IsMergeOf left right) none new → IsMergeOf left right new
-merged_none left right none new n made = rw (made.1 ∙ ap (λ (xs : List Step). xs ++ made.0) n) made.2
-
-pub ranked_room : (n k before limit : ℕ) → before + most_merged n k < limit → before + k * (2 * k + 1) < limit
-ranked_room n k before limit h = omega arith
-
-pub ranked_within : (n k before now : ℕ) → now ≤ before + k * (2 * k + 1) → now ≤ before + most_merged n k
-ranked_within n k before now h = omega arith
-
-pub merged_room : (n k before now held given limit : ℕ) → before + most_merged n k < limit → now ≤ before + k * (2 * k + 1) → held ≤ 2 * n → given ≤ 2 * k → now + (held + given) < limit
-merged_room n k before now held given limit h c l r = omega arith
-
-pub merged_within : (n k before now later held given : ℕ) → now ≤ before + k * (2 * k + 1) → held ≤ 2 * n → given ≤ 2 * k → later ≤ now + (held + given) → later ≤ before + most_merged n k
-merged_within n k before now later held given c l r h = omega arith
 
 -- ---- the hull of entries
 

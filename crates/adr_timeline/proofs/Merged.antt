@@ -84,16 +84,6 @@ pub record IsBegun (whole_left whole_right done : List Step) (a b : Option Rank)
   pub completes : (rest : List Step) → IsMerge a b (drop i whole_left) (drop j whole_right) rest → IsMerge None None whole_left whole_right (done ++ rest)
   pub compared : now ≤ start + (i + j)
 
--- nothing is done yet
-pub merge_begun : (left right done : List Step) (now : ℕ) → done ≡ [] → IsBegun left right done None None 0 0 now now
-merge_begun left right done now h = rw h (record {
-  left_in = omega arith;
-  right_in = omega arith;
-  count = omega arith;
-  completes = λ rest m. m;
-  compared = omega arith;
-})
-
 -- a step that is taken is the first of those that are left
 taken : (xs : List Step) (i : ℕ) (x : Step) → i < length xs → x ≡ get_or xs i x → drop i xs ≡ x ∷ drop (i + 1) xs
 taken xs i x lt h = drop_more xs i x lt ∙ ap (λ (y : Step). y ∷ drop (i + 1) xs) (sym h)

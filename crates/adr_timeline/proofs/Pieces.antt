@@ -11,7 +11,7 @@ use Rattle.adr_model.specs.declared.timeline.Winner.{Winner}
 use Rattle.adr_time.specs.Spans.{covers, earlier_end, is_before}
 use Rattle.adr_model.specs.Timeline.{span_of}
 use Rattle.adr_timeline.proofs.Segments.{winner_in, EndsBy, IsLinked}
-use Rattle.adr_timeline.specs.Parts.{start_from, trimmed, put, part, after, after_end, leads_to, joined, joined_part, joined_all}
+use Rattle.adr_timeline.specs.Parts.{start_from, trimmed, put, part, after, after_end, leads_to, joined, joined_all}
 use Rattle.adr_model.specs.Timeline.{shows, IsCanonical}
 use Rattle.adr_timeline.proofs.Words.{shows_is, canonical_linked, linked_canonical}
 use Rattle.adr_timeline.proofs.Shown.{IsBehind, shows_joined, canonical_joined, behind_joined}
@@ -329,14 +329,6 @@ module _ (outer inner : List Segment) (w : Span) (out front' middle' : List Segm
 
   pub splice_made : (new : List Segment) → new ≡ joined_all middle' (after w outer) → IsSplicedAs outer inner w new
   splice_made new n = as_made outer inner w new (ending new w.end refl n)
-
--- a piece that may be empty, put at the end
-pub joined_put : (out : List Segment) (p : Segment) (ps : List Segment) → joined_all out (put p ps) ≡ joined_all (joined_part out p) ps
-joined_put out p ps = either (is_before p.start p.end)
-  where
-    either : (x : Bool) → joined_all out (if x then p ∷ ps else ps) ≡ joined_all (if x then joined out p else out) ps
-    either true = refl
-    either false = refl
 
 pub clip_shown : (ss : List Segment) (w : Span) (t : ℤ) → (if covers w t then winner_in ss t else None) ≡ (if covers w t then shows ss t else None)
 clip_shown ss w t = rw (shows_is ss t)

@@ -100,11 +100,6 @@ ends_later : (e : End) (t u : ℤ) → EndsBy e t → int_lt t u ≡ true → En
 ends_later (At v) t u b h = grind (arith, ints)
 ends_later Endless t u b h = b
 
-pub behind_later : (ss : List Segment) (t : ℤ) (e : End) → IsBehind ss (At t) → is_before t e ≡ true → IsBehind ss e
-behind_later ss t Endless b h = tt
-behind_later [] t (At u) b h = tt
-behind_later (s ∷ ss) t (At u) b h = (ends_later s.end t u b.0 h, behind_later ss t (At u) b.1 h)
-
 ends_there : (e : End) (u : ℤ) → e ≡ At u → EndsBy e u
 ends_there e u h = rw h (omega (arith, ints))
 

@@ -1,33 +1,14 @@
 -- What meets a window meets each span that the window lies in.
-use Rattle.std.proofs.Common.{◌≡◌, Bool, true, false, not, ◌&&◌, List, [], ◌∷◌, if◌then◌else◌, refl, arith, ℤ, int_le, int_lt}
-use Rattle.std.specs.Int.{int_min}
+use Rattle.std.proofs.Common.{◌≡◌, Bool, true, false, ◌&&◌, List, [], ◌∷◌, if◌then◌else◌, refl, arith, ℤ, int_le, int_lt}
 use Rattle.std.proofs.lemmas.Int.{ints}
 use Rattle.std.proofs.lemmas.Bool.{false≢true, and_parts}
-use Rattle.adr_time.specs.Spans.{covers, is_before, later_end, meets, spanned}
+use Rattle.adr_time.specs.Spans.{covers, is_before, meets}
 use Rattle.adr_time.specs.declared.span.End.{End}
 use Rattle.adr_time.specs.declared.span.End.TheVariants.{At, Endless}
 use Rattle.adr_time.specs.declared.span.Span.{Span}
 use Rattle.adr_model.specs.declared.entry.Entry.{Entry}
 use Rattle.adr_model.specs.Entries.{meeting}
 use Rattle.adr_timeline.specs.Near.{IsNoLater, Serves}
-
-lt_le : (t u v : ℤ) → int_lt t u ≡ true → not (int_lt v u) ≡ true → int_lt t v ≡ true
-lt_le t u v h k = grind (arith, ints)
-
-pub no_later : (end : End) (last : ℤ) → not (is_before last end) ≡ true → IsNoLater end (At last)
-no_later (At u) last h t b = lt_le t u last b h
-no_later Endless last h t b = absurd (false≢true h)
-
-min_le : (a b c : ℤ) → int_le a c ≡ true → int_le (int_min a b) c ≡ true
-min_le a b c h = grind (arith, ints)
-
-lt_max : (t u v : ℤ) → int_lt t u ≡ true → is_before t (later_end (At u) (At v)) ≡ true
-lt_max t u v h = grind (arith, ints)
-
-pub later_still : (w end next : End) → IsNoLater w end → IsNoLater w (later_end end next)
-later_still w (At u) (At v) h t b = lt_max t u v (h t b)
-later_still w (At u) Endless h t b = refl
-later_still w Endless next h t b = refl
 
 le_before : (a b : ℤ) (e : End) → int_le a b ≡ true → is_before b e ≡ true → is_before a e ≡ true
 le_before a b (At u) h k = grind (arith, ints)
@@ -61,15 +42,6 @@ without false y z = refl
 -- the span holds the window
 abbrev pub Holds : Span → Span → Type 0
 Holds s w = (int_le s.start w.start ≡ true) × IsNoLater w.end s.end
-
-le_itself : (a : ℤ) → int_le a a ≡ true
-le_itself a = grind (arith, ints)
-
-pub holds_itself : (w : Span) → Holds w w
-holds_itself w = (le_itself w.start, λ t b. b)
-
-pub holds_still : (w s next : Span) → Holds s w → Holds (spanned s next) w
-holds_still w s next h = (min_le s.start next.start w.start h.0, later_still w.end s.end next.end h.1)
 
 pub held_serves : (s w : Span) → Holds s w → Serves s w
 held_serves s w h = serves s w h.0 h.1

@@ -36,7 +36,7 @@ const MOST_IN_CHUNK: usize = 128;
 /// apart, and two that touch have different winners.
 ///
 /// The segments lie in chunks, which timelines share: a repair copies the table of the chunks, and the segments of those
-/// alone that its windows reach into.
+/// that its windows reach into, and of those beside them that are a quarter full at most or fit into the chunk before.
 pub struct Timeline {
     most: usize,
     chunks: Vec<Chunk>,
@@ -217,7 +217,8 @@ impl Timeline {
         search::next_change(&self.chunks, at)
     }
 
-    /// What is shown inside the window, and nothing outside. `NoMemory` where there is no room.
+    /// What is shown inside the window, and nothing outside. `NoMemory` where there is no room. Cost: that of `splice_all`
+    /// with one window.
     pub fn clip(&self, window: Span) -> Result<Timeline, Refusal>
         ensures canonical { IfOk result (λ timeline. IsCanonical timeline) }
         ensures shows { IfOk result (λ timeline. (t : ℤ) → shows timeline t ≡ (if covers window t then shows self.now t else None)) }
@@ -242,7 +243,8 @@ impl Timeline {
 
     /// What the inner timeline shows inside the windows, and this one outside: one repair for all windows of an edit.
     /// [`are_apart`](crate::are_apart) tests windows. `NoMemory` where there is no room. Cost: that of a table of the
-    /// chunks, and of the segments of those chunks that the windows reach into; the other chunks are shared.
+    /// chunks, of two searches for each window, and of the segments of those chunks that the windows reach into; the other
+    /// chunks are shared, but for small ones beside those.
     pub fn splice_all(&self, windows: &[Span], inner: &Timeline) -> Result<Timeline, Refusal>
         requires { IsTrue (are_apart windows.now) }
         ensures canonical { IfOk result (λ timeline. IsCanonical timeline) }
@@ -310,7 +312,7 @@ impl Timeline {
     ///
     /// Ranks are compared by `before` alone, which counts each comparison. `NoMemory` where there is no room. Cost: that
     /// of a table of the chunks, and for k entries and n segments that meet the span from their first start to their
-    /// last end about n + k log k steps; the chunks outside of it are shared.
+    /// last end about n + k log k steps; the chunks outside of it are shared, but for small ones beside it.
     pub fn lay_over<R: Ranks>(
         &self,
         entries: &[Entry],

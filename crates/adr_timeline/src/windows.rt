@@ -28,7 +28,7 @@ pub fn are_apart(windows: &[Span]) -> bool
     true
 }
 
-/// How many of the windows, from the first on, last and stand in order, each ending before the next one starts.
+/// How many of the windows, from the first on, last and stand in order, each ending by the start of the next.
 pub fn first_run(windows: &[Span]) -> usize
     ensures within { result ≤ length windows.now }
     ensures apart { IsTrue (is_each_apart (take result windows.now)) }

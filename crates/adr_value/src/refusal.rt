@@ -71,7 +71,7 @@ pub enum Refusal {
     BadWindow = 28,
     /// A resource that the snapshot does not have.
     UnknownResource = 29,
-    /// Threads or readers that the runtime did not give.
+    /// Threads or readers that the runtime did not give, and a look at a board that is closed.
     NoRuntime = 98,
     /// A growth that was refused.
     NoMemory = 99,
