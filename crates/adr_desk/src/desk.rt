@@ -92,8 +92,7 @@ impl Desk {
     }
 
     /// The desk of a book that has no events yet, with the programs, vens and resources that it has. `NoMemory` where there
-    /// is no room. Cost: the keys of all resources, and a group for each, before which the table of seats, four bytes a
-    /// resource, is copied.
+    /// is no room. Cost: the keys of all resources; they share one group.
     pub fn over(alloc: Global, tie: Tie, book: Book) -> Result<Desk, Refusal>
         requires { book.objects.events ≡ [] }
         ensures tie { IfOk result (λ desk. desk.tie ≡ tie) }
