@@ -55,7 +55,8 @@ fn print_edits_of<R: AllocGlobal + Print + Clock>(
     print_times(rt, &times, is_timed)
 }
 
-/// A row of the edits: the intervals of an event, and the version and the open batch after it was changed again and again.
+/// A row of the edits: the intervals of an event, and the version and the open batch after it was changed again and
+/// again.
 fn print_edits<R: AllocGlobal + Print + Clock>(
     rt: &R,
     intervals: usize,

@@ -50,7 +50,8 @@ fn add_events(alloc: Global, edits: &mut Vec<Edit>, count: usize) -> Result<(), 
     Ok(())
 }
 
-/// The edits that make so many resources, 64 to a ven and its group, and as many events, 64 to a program and for a group.
+/// The edits that make so many resources, 64 to a ven and its group, and as many events, 64 to a program and for a
+/// group.
 pub(crate) fn edits_of(alloc: Global, count: usize) -> Result<Vec<Edit>, Refusal> {
     let mut edits = Vec::new(alloc);
     add_parties(alloc, &mut edits, count)?;

@@ -20,8 +20,8 @@ fn print_fills<R: AllocGlobal + Print + Clock>(rt: &R, count: u32) -> io::Result
     print_microseconds(rt, sort)
 }
 
-/// A row of the table: the number of entries, how many there are after the edits, how many of them meet a window, in the
-/// index and in the list, and where it is timed the microseconds of filling both and of an edit of both.
+/// A row of the table: the number of entries, how many there are after the edits, how many of them meet a window, in
+/// the index and in the list, and where it is timed the microseconds of filling both and of an edit of both.
 fn print_row<R: AllocGlobal + Print + Clock>(rt: &R, count: u32, is_timed: bool) -> io::Result<()> {
     let window = window_of(count);
     let entries = entries(rt.alloc(), 0, count, count)?;

@@ -118,8 +118,8 @@ impl<J: Naming> Told<J> {
 
 /// One of the readers. Contracts see the publications that it has seen, and those that it has learnt of.
 ///
-/// It holds the snapshot that it saw last until it sees another, in a share of its own, so that readers which look at one
-/// publication beside each other don't count its shares in one place.
+/// It holds the snapshot that it saw last until it sees another, in a share of its own, so that readers which look at
+/// one publication beside each other don't count its shares in one place.
 #[derive(Drop)]
 pub struct Reader<J: Naming> {
     alloc: Global,
@@ -458,8 +458,8 @@ impl<J: Naming> Editor<J> {
     /// Closes the open batch, and shows the desk to readers under the next number, also where nothing is new.
     ///
     /// It waits for readers that are just taking a share of the publication before the last. `Full` after 1,000,000
-    /// publications, else `NoMemory`; both leave all as it was. Cost: a copy of the book and its timelines, which shares
-    /// all with the desk.
+    /// publications, else `NoMemory`; both leave all as it was. Cost: a copy of the book and its timelines, which
+    /// shares all with the desk.
     pub fn publish<R: Wait>(&mut self, rt: &R) -> Result<Published, Refusal>
         ensures board { OnOk result (self.new ≡ with_published self.old) }
         ensures number { IfOk result (λ p. p.number ≡ length self.old.published) }
@@ -512,9 +512,9 @@ impl<J: Naming> Editor<J> {
         }
     }
 
-    /// Counts the accepted edits from the last publication on, lets the closed batches go and answers that publication's
-    /// version. Readers see nothing of it. Publications that stand share those batches, so their memory comes back as later
-    /// ones take their place. `NoMemory` leaves all as it was.
+    /// Counts the accepted edits from the last publication on, lets the closed batches go and answers that
+    /// publication's version. Readers see nothing of it. Publications that stand share those batches, so their memory
+    /// comes back as later ones take their place. `NoMemory` leaves all as it was.
     pub fn condense(&mut self) -> Result<u64, Refusal>
         ensures version { IfOk result (λ version. version ≡ (last_of self.old.published).book.version) }
         ensures base { OnOk result (self.new.book.base ≡ (last_of self.old.published).book) }
@@ -693,8 +693,8 @@ pub struct Board;
 impl Board {
     /// A board with publication 0 alone, which is the empty book, an empty desk, and so many readers, 1 to 64.
     ///
-    /// `NoRuntime` where a reader's place is refused: then the board is ended again, which may wait, by the handle; else
-    /// `NoMemory`.
+    /// `NoRuntime` where a reader's place is refused: then the board is ended again, which may wait, by the handle;
+    /// else `NoMemory`.
     pub fn open<J: Naming, R: Wait>(
         alloc: Global,
         rt: &R,

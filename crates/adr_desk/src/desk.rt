@@ -91,8 +91,8 @@ impl Desk {
         })
     }
 
-    /// The desk of a book that has no events yet, with the programs, vens and resources that it has. `NoMemory` where there
-    /// is no room. Cost: the keys of all resources; they share one group.
+    /// The desk of a book that has no events yet, with the programs, vens and resources that it has. `NoMemory` where
+    /// there is no room. Cost: the keys of all resources; they share one group.
     pub fn over(alloc: Global, tie: Tie, book: Book) -> Result<Desk, Refusal>
         requires { book.objects.events ≡ [] }
         ensures tie { IfOk result (λ desk. desk.tie ≡ tie) }
@@ -109,15 +109,15 @@ impl Desk {
         })
     }
 
-    /// The desk of the edits, from an empty book, and for each edit in order the version after it or why it is refused: as
-    /// `apply` makes and answers them one after the other on a new desk. A refused edit changes nothing. All timelines are
-    /// built once, at the end, by as many threads as there are processors. `NoMemory` for one edit or one timeline refuses
-    /// all.
+    /// The desk of the edits, from an empty book, and for each edit in order the version after it or why it is refused:
+    /// as `apply` makes and answers them one after the other on a new desk. A refused edit changes nothing. All
+    /// timelines are built once, at the end, by as many threads as there are processors. `NoMemory` for one edit or one
+    /// timeline refuses all.
     ///
-    /// Cost: that of judging and committing each edit; the keys of all resources and events, and for each resource a look
-    /// for the events that apply to it; each event is laid out once for all and once for each group to which it applies,
-    /// where its entries are indexed; and for each group and payload type a sort of the entries of its own events, and a
-    /// pass over them.
+    /// Cost: that of judging and committing each edit; the keys of all resources and events, and for each resource a
+    /// look for the events that apply to it; each event is laid out once for all and once for each group to which it
+    /// applies, where its entries are indexed; and for each group and payload type a sort of the entries of its own
+    /// events, and a pass over them.
     pub fn load<R: Threads + Sync>(
         rt: &R,
         alloc: Global,
@@ -146,8 +146,8 @@ impl Desk {
         Ok((desk, answers))
     }
 
-    /// A desk of its own with the same book and timelines, which it shares. `NoMemory` where there is no room. Cost: the
-    /// keys of all resources and events, and the entries of all events.
+    /// A desk of its own with the same book and timelines, which it shares. `NoMemory` where there is no room. Cost:
+    /// the keys of all resources and events, and the entries of all events.
     pub fn copy(&self) -> Result<Desk, Refusal>
         ensures { IsCopyOf result self.now }
     {
@@ -293,13 +293,13 @@ impl Desk {
     ///
     /// Cost: of an event, the resources to which it applies, and for each group of them the entries that meet the
     /// event's; of a program that changes, a look at each event, and for those of the program that of the resources to
-    /// which it comes to apply or does no more, and then all keys anew; of a resource, or of each of a ven that changes,
-    /// the events that apply to it and their entries, and a look at up to 127 groups near it for one to share; of a ven,
-    /// also a look at each resource; of an event or a resource that goes, a pass over the keys. The table of seats, four
-    /// bytes a resource, is copied at each edit, and once more for each resource that is seated anew.
+    /// which it comes to apply or does no more, and then all keys anew; of a resource, or of each of a ven that
+    /// changes, the events that apply to it and their entries, and a look at up to 127 groups near it for one to share;
+    /// of a ven, also a look at each resource; of an event or a resource that goes, a pass over the keys. The table of
+    /// seats, four bytes a resource, is copied at each edit, and once more for each resource that is seated anew.
     ///
-    /// Memory: the index of a payload type keeps as many empty chunks of some 8 KiB as the event with the most entries of
-    /// that type has entries: some 32 MiB after one of 4,096 intervals.
+    /// Memory beside what is kept: the index of a payload type keeps empty chunks of some 8 KiB ready, one for each
+    /// entry of an event, or one for each 32 of them and for each chunk that it has, where those are fewer.
     pub fn apply(&mut self, edit: Edit) -> Result<Receipt, Refusal>
         ensures answer { Answers (result_map (λ _. made_book self.old.book.objects edit) result) (step_to (full_at self.old.book.base.version) self.old.book.objects edit) }
         ensures tie { self.new.tie ≡ self.old.tie }
@@ -321,8 +321,8 @@ impl Desk {
         self.apply_by(&alone, edit)
     }
 
-    /// The same by several workers, 1 to 64, who share out the repair of timelines: see `do_all` of adr_crew. Each passes
-    /// the gate before each of its jobs. The answer is the same for every number of workers.
+    /// The same by several workers, 1 to 64, who share out the repair of timelines: see `do_all` of adr_crew. Each
+    /// passes the gate before each of its jobs. The answer is the same for every number of workers.
     pub fn apply_with<R: Threads + Sync, G: Gate + Sync>(
         &mut self,
         rt: &R,

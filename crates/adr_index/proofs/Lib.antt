@@ -10,4 +10,5 @@ pub mod Runs
 pub mod Scanned
 pub mod Searched
 pub mod Sorted
+pub mod Spent
 pub mod Taken

@@ -1,5 +1,5 @@
 -- The chunks of an index.
-use Rattle.std.specs.Prelude.{◌≡◌, ℕ, ℤ, ◌^◌, ◌-◌, ◌<◌, ◌≤◌, Bool, true, false, List, [], length, slice_index_or, Option, Some, None, vec_capacity}
+use Rattle.std.specs.Prelude.{◌≡◌, ℕ, ℤ, ◌^◌, ◌-◌, ◌<◌, ◌≤◌, Bool, true, false, List, [], length, slice_index_or, sum_by, Option, Some, None, vec_capacity}
 use Rattle.std.specs.List.{AllByRecursion, flat_map}
 use Rattle.adr_time.specs.declared.span.End.{End}
 use Rattle.adr_model.specs.declared.entry.Entry.{Entry}
@@ -19,6 +19,10 @@ listed_too (Some c) = listed c
 -- the entries of all of them
 abbrev pub all_listed : List Chunk → List Entry
 all_listed cs = flat_map listed cs
+
+-- how many entries they have beyond 32 each
+abbrev pub crowd : List Chunk → ℕ
+crowd cs = sum_by (λ c. length (listed c) - 32) cs
 
 -- its room is taken at once, for one more than it keeps
 pub record IsRoomy (c : Chunk) : Type 0 where

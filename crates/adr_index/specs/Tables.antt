@@ -1,17 +1,28 @@
 -- The chunks of an index with their pool.
-use Rattle.std.specs.Prelude.{◌≡◌, ℕ, ◌-◌, ◌^◌, ◌<◌, ◌≤◌, true, List, Option, length, min, vec_len, vec_capacity, slice_set}
+use Rattle.std.specs.Prelude.{◌≡◌, ◌⊎◌, ℕ, ◌+◌, ◌-◌, ◌*◌, ◌^◌, ◌<◌, ◌≤◌, true, List, [], ◌∷◌, Option, length, vec_capacity, slice_set}
 use Rattle.std.specs.List.{list_any}
 use Rattle.adr_model.specs.declared.entry.Entry.{Entry}
 use Rattle.adr_index.specs.declared.table.Table.{Table}
 use Rattle.adr_time.specs.declared.span.End.{End}
 use Rattle.adr_index.specs.declared.chunk.Chunk.{Chunk}
-use Rattle.adr_index.specs.Chunks.{all_listed, listed, AreChunks, ArePooled}
+use Rattle.adr_index.specs.Chunks.{all_listed, crowd, listed, AreChunks, ArePooled}
 use Rattle.adr_index.specs.Tree.{IsTree}
 use Rattle.adr_index.specs.Index.{is_entry, others, IsOrdered}
 
--- how many entries can be put into it: each may take a chunk of the pool, and no number goes past 2 ^ 64
-abbrev pub free : Table → ℕ
-free t = min (min (vec_capacity t.chunks - vec_len t.chunks) (length t.pool.items)) ((2 ^ 64 - 1) - t.count)
+-- how many chunks of the pool are there to part others, where the first entry has one of its own
+abbrev pub ready : List Chunk → List Chunk → ℕ
+ready [] pool = length pool - 1
+ready (c ∷ cs) pool = length pool
+
+-- so many entries are sure of their room: each has a chunk that is ready, or those that are ready are parted off by no fewer
+abbrev pub IsSure : ℕ → List Chunk → List Chunk → Type 0
+IsSure n cs pool = (n ≤ ready cs pool) ⊎ (n + crowd cs ≤ 32 * ready cs pool)
+
+-- so many entries were added: no chunk is lost, and each took one that was ready at most, and one of the 32 entries that it takes to part off another
+pub record Spends (n : ℕ) (cs pool ds rest : List Chunk) : Type 0 where
+  pub sum : length ds + length rest ≤ length cs + length pool
+  pub one : ready cs pool ≤ ready ds rest + n
+  pub many : 32 * ready cs pool + crowd ds ≤ 32 * ready ds rest + crowd cs + n
 
 -- chunks in order, and their pool
 pub record IsTable (t : Table) : Type 0 where
@@ -19,6 +30,10 @@ pub record IsTable (t : Table) : Type 0 where
   pub order : IsOrdered (all_listed t.chunks.items)
   pub pool : ArePooled t.pool.items
   pub count : t.count ≡ length (all_listed t.chunks.items)
+  pub sure : IsSure t.spare t.chunks.items t.pool.items
+  pub bound : t.count + t.spare < 2 ^ 64
+  pub room : length t.chunks.items + length t.pool.items ≤ vec_capacity t.chunks
+  pub kept : length t.chunks.items + length t.pool.items ≤ vec_capacity t.pool
 
 -- an entry of that written number and place, which is one of the entries, so that there are fewer without it
 pub record IsFound (written place : ℕ) (e : Entry) (es : List Entry) : Type 0 where
@@ -47,5 +62,5 @@ pub record HasTopsBut (place : ℕ) (cs : List Chunk) (gs : List (Option End)) :
 -- chunks in order, with the tree of their ends
 pub record IsIndex (t : Table) (gs : List (Option End)) : Type 0 where
   pub table : IsTable t
-  pub enough : length t.chunks.items ≤ length gs
+  pub enough : length t.chunks.items + length t.pool.items ≤ length gs
   pub tops : HasTops t.chunks.items gs

@@ -1,5 +1,5 @@
 //! A chunk of an index: some entries in order, under a tree of their ends.
-ghost use Rattle.std.specs.Prelude.{◌≡◌, ◌+◌, ◌<◌, ◌≤◌, ◌++◌, ◌∷◌, [], ◌^◌, IfOk, IfSome, OnOk, length, vec_capacity};
+ghost use Rattle.std.specs.Prelude.{◌≡◌, ◌+◌, ◌<◌, ◌≤◌, ◌++◌, ◌∷◌, [], ◌^◌, IfNone, IfOk, IfSome, OnOk, length, vec_capacity};
 ghost use Rattle.adr_index.specs.Chunks.{listed, listed_too, ArePooled, HasEnds, IsChunk, IsPooled, IsRoomy, StartsLast};
 ghost use Rattle.adr_index.specs.Query.{any_late, hits, looks};
 ghost use Rattle.adr_index.specs.Tree.{IsByStart};
@@ -133,6 +133,7 @@ impl Chunk {
         ensures entries { self.old.entries.items ≡ self.new.entries.items ++ other.new.entries.items }
         ensures chunk { IsChunk self.new }
         ensures other { IsChunk other.new }
+        ensures halves { (length self.new.entries.items ≡ 32) × (length other.new.entries.items ≡ 33) }
     {
         let (_, later) = self.entries.split_at(MOST / 2);
         let _ = other.entries.extend_from_slice(later);
@@ -151,7 +152,9 @@ impl Chunk {
         ensures chunk { IsChunk self.new }
         ensures more { IfSome result IsChunk }
         ensures pool { ArePooled pool.new.items }
-        ensures taken { length pool.old.items ≤ length pool.new.items + 1 }
+        ensures kept { vec_capacity pool.new ≡ vec_capacity pool.old }
+        ensures same { IfNone result ((length self.new.entries.items ≤ length self.old.entries.items + 1) × (length pool.new.items ≡ length pool.old.items)) }
+        ensures parted { IfSome result (λ other. (length self.old.entries.items ≡ 64) × (length self.new.entries.items ≡ 32) × (length other.entries.items ≡ 33) × (length pool.new.items + 1 ≡ length pool.old.items)) }
     {
         let place = place_of(&self.entries, 0, &entry);
         let _ = self.entries.insert(place, entry);
@@ -188,6 +191,7 @@ impl Chunk {
         requires fresh { AreNew (first.now ∷ run.now) self.old.entries.items }
         ensures entries { self.new.entries.items ≡ inserted_all (first.now ∷ run.now) self.old.entries.items }
         ensures chunk { IsChunk self.new }
+        ensures more { length self.new.entries.items ≡ length self.old.entries.items + (length run.now + 1) }
     {
         let place = place_of(&self.entries, 0, first);
         let _ = self.entries.insert(place, *first);

@@ -7,7 +7,7 @@ ghost use Rattle.adr_model.specs.Entries.{covering, meeting, IsListed};
 ghost use Rattle.adr_index.specs.Chunks.{all_listed, listed, AreChunks};
 ghost use Rattle.adr_index.specs.Index.{inserted, inserted_all, is_entry, most_probes, others_all, without, AreDistinct, AreNew, IsOrdered};
 ghost use Rattle.adr_index.specs.Query.{hits};
-ghost use Rattle.adr_index.specs.Tables.{free, HasTops, HasTopsBut, IsTable};
+ghost use Rattle.adr_index.specs.Tables.{HasTops, HasTopsBut, IsTable};
 
 use crate::chunk::Chunk;
 use crate::order::sort;
@@ -27,10 +27,10 @@ use std::marker::Model;
 ///
 /// No two entries have one written number and place. An entry whose span covers no moment is kept, and never found.
 ///
-/// They lie in chunks of at most 64. An edit goes to one chunk, found by halving or behind the last one, and writes what
-/// the tree of greatest ends has over that chunk. Where a chunk is parted or emptied or many are changed, all of the
-/// tree is written anew, a step for each chunk: n/48 of them where an index of n entries is filled at once. A chunk that
-/// loses entries is not put together with others.
+/// They lie in chunks of at most 64. An edit goes to one chunk, found by halving or behind the last one, and writes
+/// what the tree of greatest ends has over that chunk. Where a chunk is parted or emptied or many are changed, all of
+/// the tree is written anew, a step for each chunk: n/48 of them where an index of n entries is filled at once. A chunk
+/// that loses entries is not put together with others.
 pub struct Index {
     table: Table,
     tops: Vec<Option<End>>,
@@ -46,14 +46,13 @@ impl Drop for Index {
 }
 
 impl Model for Index {
-    ghost use Rattle.std.specs.Prelude.{◌-◌, length, min};
     ghost use Rattle.adr_index.specs.Chunks.{all_listed};
     ghost use Rattle.adr_index.specs.Index.{Indexed};
-    ghost use Rattle.adr_index.specs.Tables.{free, IsIndex};
+    ghost use Rattle.adr_index.specs.Tables.{IsIndex};
 
     ghost Value = { Indexed };
 
-    ghost view = { λ index. record { entries = all_listed index.table.chunks.items; spare = min (free index.table) (length index.tops.items - length index.table.chunks.items) } };
+    ghost view = { λ index. record { entries = all_listed index.table.chunks.items; spare = index.table.spare } };
 
     ghost invariant = { λ index. IsIndex index.table index.tops.items };
 }
@@ -104,15 +103,16 @@ fn are_few(entries: &[Entry], chunks: &[Chunk]) -> bool {
     entries.len() <= chunks.len() / 32
 }
 
-/// Takes out what stands in the places of the old entries, those of one chunk together, and answers whether the tree over the chunks is kept.
+/// Takes out what stands in the places of the old entries, those of one chunk together, and answers whether the tree
+/// over the chunks is kept.
 fn take_all(table: &mut Table, tops: &mut [Option<End>], old: &[Entry]) -> bool
     requires table { IsTable table.old }
-    requires lengths { length table.old.chunks.items ≤ length tops.old }
+    requires lengths { length table.old.chunks.items + length table.old.pool.items ≤ length tops.old }
     requires tops { HasTops table.old.chunks.items tops.old }
     ensures table { IsTable table.new }
     ensures entries { all_listed table.new.chunks.items ≡ others_all old.now (all_listed table.old.chunks.items) }
-    ensures free { free table.old ≤ free table.new }
-    ensures length { length table.new.chunks.items ≤ length table.old.chunks.items }
+    ensures spare { table.old.spare ≤ table.new.spare }
+    ensures sum { length table.new.chunks.items + length table.new.pool.items ≤ length table.old.chunks.items + length table.old.pool.items }
     ensures nodes { length tops.new ≡ length tops.old }
     ensures tops { result ≡ true → HasTops table.new.chunks.items tops.new }
 {
@@ -128,17 +128,18 @@ fn take_all(table: &mut Table, tops: &mut [Option<End>], old: &[Entry]) -> bool
     is_kept
 }
 
-/// Adds the entries, those of one chunk together as far as it has room, and answers whether the tree over the chunks is kept.
+/// Adds the entries, those of one chunk together as far as it has room, and answers whether the tree over the chunks is
+/// kept.
 fn put_all(table: &mut Table, tops: &mut [Option<End>], new: &[Entry], was_kept: bool) -> bool
     requires table { IsTable table.old }
-    requires free { length new.now ≤ free table.old }
+    requires spare { length new.now ≤ table.old.spare }
     requires fresh { AreNew new.now (all_listed table.old.chunks.items) }
-    requires lengths { length table.old.chunks.items + length new.now ≤ length tops.old }
+    requires lengths { length table.old.chunks.items + length table.old.pool.items ≤ length tops.old }
     requires tops { was_kept ≡ true → HasTops table.old.chunks.items tops.old }
     ensures table { IsTable table.new }
     ensures entries { all_listed table.new.chunks.items ≡ inserted_all new.now (all_listed table.old.chunks.items) }
-    ensures free { free table.old ≤ free table.new + length new.now }
-    ensures length { length table.new.chunks.items ≤ length table.old.chunks.items + length new.now }
+    ensures spare { table.old.spare ≤ table.new.spare + length new.now }
+    ensures sum { length table.new.chunks.items + length table.new.pool.items ≤ length table.old.chunks.items + length table.old.pool.items }
     ensures nodes { length tops.new ≡ length tops.old }
     ensures tops { result ≡ true → HasTops table.new.chunks.items tops.new }
 {
@@ -194,7 +195,8 @@ impl Index {
     }
 
     /// An index of the entries, which may lie in any order. Its chunks are full to three quarters, so that edits don't
-    /// part each at once. `NoMemory` where there is no room. Cost: that of sorting the entries, and some steps for each.
+    /// part each at once. `NoMemory` where there is no room. Cost: that of sorting the entries, and some steps for
+    /// each.
     pub fn of(alloc: Global, mut entries: Vec<Entry>) -> Result<Index, Refusal>
         requires { AreDistinct entries.items }
         ensures entries { IfOk result (λ index. IsPermutation entries.items index.entries) }
@@ -206,7 +208,8 @@ impl Index {
         Ok(index)
     }
 
-    /// An index of the same entries, with no room to spare. `NoMemory` where there is no room. Cost: a copy of all chunks.
+    /// An index of the same entries, with no room to spare. `NoMemory` where there is no room. Cost: a copy of all
+    /// chunks.
     pub fn copy(&self) -> Result<Index, Refusal>
         ensures entries { IfOk result (λ index. index.entries ≡ self.now.entries) }
         ensures refused { OnlyNoMemory result }
@@ -229,22 +232,27 @@ impl Index {
     pub fn spare(&self) -> usize
         ensures { result ≡ self.now.spare }
     {
-        let tops = self.tops.len() - self.table.chunks.len();
-        self.table.free().min(tops)
+        self.table.spare
     }
 
-    /// Makes room for that many more entries. `NoMemory` where it isn't there; then nothing is changed. As each new
-    /// entry may part a full chunk, it keeps an empty chunk ready for each, of some 8 KiB; those that were not used
-    /// serve the next call.
+    /// Makes room for that many more entries. `NoMemory` where it isn't there; then nothing is changed but that some of
+    /// it may be kept. A chunk parts once it has more than 64 entries, so it keeps an empty chunk of some 8 KiB ready
+    /// for each entry, or one for each 32 of them and for each chunk, where those are fewer; those that were not used
+    /// serve the next call. Cost: none where so much room is there; else the table of the chunks where it grows.
     pub fn reserve(&mut self, more: usize) -> Result<(), Refusal>
         ensures entries { self.new.entries ≡ self.old.entries }
         ensures spare { OnOk result (more ≤ self.new.spare) }
         ensures kept { self.old.spare ≤ self.new.spare }
         ensures refused { OnlyNoMemory result }
     {
-        self.table.reserve(more)?;
-        let wanted = self.table.chunks.len() + more;
-        widen(&self.table.chunks, &mut self.tops, wanted)?;
+        if more <= self.table.spare {
+            return Ok(());
+        }
+        let Some(places) = self.table.places_for(more) else {
+            return Err(Refusal::NoMemory);
+        };
+        widen(&self.table.chunks, &mut self.tops, places)?;
+        self.table.reserve(more, places)?;
         Ok(())
     }
 
@@ -262,8 +270,8 @@ impl Index {
         self.reserve(1)
     }
 
-    /// Adds an entry in its place. `NoMemory` where there is no room; then the list is as it was. With room to spare
-    /// it is never refused. Cost: some 64 steps in its chunk, and where that is parted a step for each chunk; with no room
+    /// Adds an entry in its place. `NoMemory` where there is no room; then the list is as it was. With room to spare it
+    /// is never refused. Cost: some 64 steps in its chunk, and where that is parted a step for each chunk; with no room
     /// to spare also an empty chunk, and a step for each chunk.
     pub fn insert(&mut self, entry: Entry) -> Result<(), Refusal>
         requires { list_any (is_entry entry.rank.written entry.rank.place) self.old.entries ≡ false }
@@ -281,11 +289,12 @@ impl Index {
     }
 
     /// Takes out what stands in the place of an old entry, with its start, written number and place, and adds the new
-    /// ones, as when an event is written again. It needs no memory: a chunk that is emptied is kept for later where memory
-    /// for its place is there, and else let go. Cost: each entry moves those behind it in its chunk, at most 64. For entries
-    /// that come in order each chunk of theirs is searched once, and its tree written once. The tree over the chunks is
-    /// written along the paths to theirs, or once whole, a step for each chunk, where there are more entries than a 32nd
-    /// of the chunks, or where a chunk is parted or emptied, which also moves the chunks behind it.
+    /// ones, as when an event is written again. It takes no memory: a chunk that is emptied is kept for later.
+    ///
+    /// Cost: each entry moves those behind it in its chunk, at most 64. For entries that come in order each chunk of
+    /// theirs is searched once, and its tree written once. The tree over the chunks is written along the paths to
+    /// theirs, or once whole, a step for each chunk, where there are more entries than a 32nd of the chunks, or where a
+    /// chunk is parted or emptied, which also moves the chunks behind it.
     pub fn replace(&mut self, old: &[Entry], new: &[Entry])
         requires room { length new.now ≤ self.old.spare }
         requires fresh { AreNew new.now (others_all old.now self.old.entries) }
@@ -297,8 +306,7 @@ impl Index {
         settle(&self.table.chunks, &mut self.tops, is_kept);
     }
 
-    /// Takes out the entry of that written number and place, and answers whether it was there. It needs no memory, as
-    /// `replace`.
+    /// Takes out the entry of that written number and place, and answers whether it was there. It takes no memory.
     /// Cost: a step for each entry; `replace` takes out entries that are known whole at less.
     pub fn remove(&mut self, written: u64, place: u32) -> bool
         ensures answer { result ≡ list_any (is_entry written place) self.old.entries }

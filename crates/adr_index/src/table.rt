@@ -1,9 +1,10 @@
 //! The chunks of an index, one after the other.
-ghost use Rattle.std.specs.Prelude.{◌≡◌, ◌+◌, ◌-◌, ◌<◌, ◌≤◌, ◌++◌, ◌∷◌, [], true, false, IfNone, IfOk, IfSome, OnOk, length, take, drop, vec_len, vec_capacity};
+ghost use Rattle.std.specs.Prelude.{◌≡◌, ◌⊎◌, ◌+◌, ◌-◌, ◌*◌, ◌^◌, ◌<◌, ◌≤◌, ◌++◌, ◌∷◌, [], List, true, false, IfNone, IfOk, IfSome, OnOk, length, take, drop, vec_len, vec_capacity};
 ghost use Rattle.std.specs.List.{AllByRecursion, list_any};
 ghost use Rattle.adr_model.specs.Entries.{is_listed_before};
 ghost use Rattle.adr_index.specs.Chunks.{all_listed, AreChunks, ArePooled, EndsBefore, GoTogether, IsChunk, IsPooled};
-ghost use Rattle.adr_index.specs.Tables.{free, IsChangedAt, IsFound, IsTable};
+ghost use Rattle.adr_index.specs.declared.chunk.Chunk.{Chunk as AnyChunk};
+ghost use Rattle.adr_index.specs.Tables.{IsChangedAt, IsFound, IsSure, IsTable, Spends};
 ghost use Rattle.adr_index.specs.Index.{inserted, inserted_all, is_entry, others_all, without, AreNew, IsOrdered};
 
 use crate::chunk::Chunk;
@@ -85,9 +86,9 @@ pub(crate) fn put_first(chunks: &mut Vec<Chunk>, pool: &mut Vec<Chunk>, entry: E
     ensures chunks { AreChunks chunks.new.items }
     ensures entries { all_listed chunks.new.items ≡ entry ∷ [] }
     ensures pool { ArePooled pool.new.items }
-    ensures taken { length pool.old.items ≤ length pool.new.items + 1 }
-    ensures room { vec_capacity chunks.old - vec_len chunks.old ≤ (vec_capacity chunks.new - vec_len chunks.new) + 1 }
-    ensures length { length chunks.new.items ≤ length chunks.old.items + 1 }
+    ensures spends { Spends 1 chunks.old.items pool.old.items chunks.new.items pool.new.items }
+    ensures room { vec_capacity chunks.old ≤ vec_capacity chunks.new }
+    ensures kept { vec_capacity pool.old ≤ vec_capacity pool.new }
 {
     let Some(mut chunk) = pool.pop() else {
         return;
@@ -112,9 +113,9 @@ pub(crate) fn put_among(
     ensures chunks { AreChunks chunks.new.items }
     ensures entries { all_listed chunks.new.items ≡ inserted entry (all_listed chunks.old.items) }
     ensures pool { ArePooled pool.new.items }
-    ensures taken { length pool.old.items ≤ length pool.new.items + 1 }
-    ensures room { vec_capacity chunks.old - vec_len chunks.old ≤ (vec_capacity chunks.new - vec_len chunks.new) + 1 }
-    ensures length { length chunks.new.items ≤ length chunks.old.items + 1 }
+    ensures spends { Spends 1 chunks.old.items pool.old.items chunks.new.items pool.new.items }
+    ensures room { vec_capacity chunks.old ≤ vec_capacity chunks.new }
+    ensures kept { vec_capacity pool.old ≤ vec_capacity pool.new }
     ensures changed { IfSome result (λ place. IsChangedAt place chunks.old.items chunks.new.items) }
 {
     let place = home(chunks, 0, &entry);
@@ -126,12 +127,14 @@ pub(crate) fn put_among(
     Some(place)
 }
 
-/// Keeps the empty chunk for later, where there is a place for it.
+/// Keeps the empty chunk for later.
 fn lay_by(pool: &mut Vec<Chunk>, chunk: Chunk)
     requires pool { ArePooled pool.old.items }
     requires chunk { IsPooled chunk }
+    requires room { vec_len pool.old < vec_capacity pool.old }
     ensures pool { ArePooled pool.new.items }
-    ensures kept { length pool.old.items ≤ length pool.new.items }
+    ensures more { length pool.new.items ≡ length pool.old.items + 1 }
+    ensures kept { vec_capacity pool.old ≤ vec_capacity pool.new }
 {
     let _ = pool.push(chunk);
 }
@@ -174,14 +177,15 @@ pub(crate) fn take_among(
     requires chunks { AreChunks chunks.old.items }
     requires order { IsOrdered (all_listed chunks.old.items) }
     requires pool { ArePooled pool.old.items }
+    requires kept { length chunks.old.items + length pool.old.items ≤ vec_capacity pool.old }
     ensures given { result.1.given ≤ length later.now }
     ensures chunks { AreChunks chunks.new.items }
     ensures entries { all_listed chunks.new.items ≡ others_all (first.now ∷ take result.1.given later.now) (all_listed chunks.old.items) }
     ensures count { length (all_listed chunks.new.items) + result.0 ≡ length (all_listed chunks.old.items) }
     ensures pool { ArePooled pool.new.items }
-    ensures kept { length pool.old.items ≤ length pool.new.items }
-    ensures room { vec_capacity chunks.old - vec_len chunks.old ≤ vec_capacity chunks.new - vec_len chunks.new }
-    ensures length { length chunks.new.items ≤ length chunks.old.items }
+    ensures spends { Spends 0 chunks.old.items pool.old.items chunks.new.items pool.new.items }
+    ensures room { vec_capacity chunks.old ≤ vec_capacity chunks.new }
+    ensures kept { vec_capacity pool.old ≤ vec_capacity pool.new }
     ensures changed { IfSome result.1.place (λ place. IsChangedAt place chunks.old.items chunks.new.items) }
 {
     let place = home(chunks, near, first);
@@ -215,8 +219,8 @@ fn put_behind(
     ensures given { IfSome result (λ r. r.0 ≤ length later.now) }
     ensures chunks { AreChunks chunks.new.items }
     ensures entries { IfSome result (λ r. all_listed chunks.new.items ≡ inserted_all (first.now ∷ take r.0 later.now) (all_listed chunks.old.items)) }
-    ensures room { vec_capacity chunks.old - vec_len chunks.old ≤ vec_capacity chunks.new - vec_len chunks.new }
-    ensures length { length chunks.new.items ≡ length chunks.old.items }
+    ensures spends { IfSome result (λ r. (pool : List AnyChunk) → Spends (r.0 + 1) chunks.old.items pool chunks.new.items pool) }
+    ensures room { vec_capacity chunks.old ≤ vec_capacity chunks.new }
     ensures changed { IfSome result (λ r. IsChangedAt r.1 chunks.old.items chunks.new.items) }
 {
     if chunks.is_empty() {
@@ -243,9 +247,9 @@ fn put_any(chunks: &mut Vec<Chunk>, pool: &mut Vec<Chunk>, entry: Entry) -> Opti
     ensures chunks { AreChunks chunks.new.items }
     ensures entries { all_listed chunks.new.items ≡ inserted entry (all_listed chunks.old.items) }
     ensures pool { ArePooled pool.new.items }
-    ensures taken { length pool.old.items ≤ length pool.new.items + 1 }
-    ensures room { vec_capacity chunks.old - vec_len chunks.old ≤ (vec_capacity chunks.new - vec_len chunks.new) + 1 }
-    ensures length { length chunks.new.items ≤ length chunks.old.items + 1 }
+    ensures spends { Spends 1 chunks.old.items pool.old.items chunks.new.items pool.new.items }
+    ensures room { vec_capacity chunks.old ≤ vec_capacity chunks.new }
+    ensures kept { vec_capacity pool.old ≤ vec_capacity pool.new }
     ensures changed { IfSome result (λ place. IsChangedAt place chunks.old.items chunks.new.items) }
 {
     if chunks.is_empty() {
@@ -255,12 +259,16 @@ fn put_any(chunks: &mut Vec<Chunk>, pool: &mut Vec<Chunk>, entry: Entry) -> Opti
     put_among(chunks, pool, entry)
 }
 
-/// The chunks of an index, empty ones for later, and how many entries there are.
+/// The chunks of an index, empty ones for later, how many entries there are, and how many more are sure of their room.
+///
+/// A chunk parts once it has more than 64 entries, into halves of 32 and 33: so few empty chunks make sure of many
+/// entries. Either list has room for the chunks of both.
 #[derive(Drop)]
 pub(crate) struct Table {
     pub(crate) chunks: Vec<Chunk>,
     pub(crate) pool: Vec<Chunk>,
     pub(crate) count: usize,
+    pub(crate) spare: usize,
 }
 
 impl Table {
@@ -268,11 +276,13 @@ impl Table {
     pub(crate) fn new(alloc: Global) -> Table
         ensures table { IsTable result }
         ensures chunks { result.chunks.items ≡ [] }
+        ensures pool { result.pool.items ≡ [] }
     {
         Table {
             chunks: Vec::new(alloc),
             pool: Vec::new(alloc),
             count: 0,
+            spare: 0,
         }
     }
 
@@ -281,36 +291,32 @@ impl Table {
         requires { IsOrdered entries.now }
         ensures table { IfOk result IsTable }
         ensures entries { IfOk result (λ table. all_listed table.chunks.items ≡ entries.now) }
+        ensures pool { IfOk result (λ table. table.pool.items ≡ []) }
     {
         let chunks = cut(alloc, entries)?;
+        let pool = Vec::with_capacity(alloc, chunks.len())?;
         Ok(Table {
             chunks,
-            pool: Vec::new(alloc),
+            pool,
             count: entries.len(),
+            spare: 0,
         })
-    }
-
-    /// How many entries can be put into it.
-    pub(crate) fn free(&self) -> usize
-        ensures { result ≡ free self.now }
-    {
-        let chunks = self.chunks.capacity() - self.chunks.len();
-        chunks.min(self.pool.len()).min(usize::MAX - self.count)
     }
 
     /// Adds an entry, and answers the place of its chunk, where no other was changed.
     pub(crate) fn put(&mut self, entry: Entry) -> Option<usize>
         requires table { IsTable self.old }
-        requires free { 0 < free self.old }
+        requires spare { 0 < self.old.spare }
         requires fresh { list_any (is_entry entry.rank.written entry.rank.place) (all_listed self.old.chunks.items) ≡ false }
         ensures table { IsTable self.new }
         ensures entries { all_listed self.new.chunks.items ≡ inserted entry (all_listed self.old.chunks.items) }
-        ensures free { free self.old ≤ free self.new + 1 }
-        ensures length { length self.new.chunks.items ≤ length self.old.chunks.items + 1 }
+        ensures spare { self.old.spare ≤ self.new.spare + 1 }
+        ensures sum { length self.new.chunks.items + length self.new.pool.items ≤ length self.old.chunks.items + length self.old.pool.items }
         ensures changed { IfSome result (λ place. IsChangedAt place self.old.chunks.items self.new.chunks.items) }
     {
         let changed = put_any(&mut self.chunks, &mut self.pool, entry);
         self.count += 1;
+        self.spare -= 1;
         changed
     }
 
@@ -318,17 +324,18 @@ impl Table {
     /// which is searched for behind that at `near` first.
     pub(crate) fn put_run(&mut self, near: usize, first: &Entry, later: &[Entry]) -> Run
         requires table { IsTable self.old }
-        requires free { length later.now < free self.old }
+        requires spare { length later.now < self.old.spare }
         requires fresh { AreNew (first.now ∷ later.now) (all_listed self.old.chunks.items) }
         ensures given { result.given ≤ length later.now }
         ensures table { IsTable self.new }
         ensures entries { all_listed self.new.chunks.items ≡ inserted_all (first.now ∷ take result.given later.now) (all_listed self.old.chunks.items) }
-        ensures free { free self.old ≤ free self.new + (result.given + 1) }
-        ensures length { length self.new.chunks.items ≤ length self.old.chunks.items + 1 }
+        ensures spare { self.old.spare ≤ self.new.spare + (result.given + 1) }
+        ensures sum { length self.new.chunks.items + length self.new.pool.items ≤ length self.old.chunks.items + length self.old.pool.items }
         ensures changed { IfSome result.place (λ place. IsChangedAt place self.old.chunks.items self.new.chunks.items) }
     {
         if let Some((given, place)) = put_behind(&mut self.chunks, near, first, later) {
             self.count += given + 1;
+            self.spare -= given + 1;
             let place = Some(place);
             return Run { given, place };
         }
@@ -343,8 +350,8 @@ impl Table {
         ensures given { result.given ≤ length later.now }
         ensures table { IsTable self.new }
         ensures entries { all_listed self.new.chunks.items ≡ others_all (first.now ∷ take result.given later.now) (all_listed self.old.chunks.items) }
-        ensures free { free self.old ≤ free self.new }
-        ensures length { length self.new.chunks.items ≤ length self.old.chunks.items }
+        ensures spare { self.old.spare ≤ self.new.spare }
+        ensures sum { length self.new.chunks.items + length self.new.pool.items ≤ length self.old.chunks.items + length self.old.pool.items }
         ensures changed { IfSome result.place (λ place. IsChangedAt place self.old.chunks.items self.new.chunks.items) }
     {
         if self.chunks.is_empty() {
@@ -362,8 +369,8 @@ impl Table {
         ensures table { IsTable self.new }
         ensures answer { result ≡ list_any (is_entry written place) (all_listed self.old.chunks.items) }
         ensures entries { all_listed self.new.chunks.items ≡ without written place (all_listed self.old.chunks.items) }
-        ensures free { free self.old ≤ free self.new }
-        ensures length { length self.new.chunks.items ≤ length self.old.chunks.items }
+        ensures spare { self.old.spare ≤ self.new.spare }
+        ensures sum { length self.new.chunks.items + length self.new.pool.items ≤ length self.old.chunks.items + length self.old.pool.items }
     {
         let mut is_found = false;
         while let Some(entry) = find(&self.chunks, written, place) {
@@ -373,20 +380,42 @@ impl Table {
         is_found
     }
 
-    /// Makes room for that many more entries.
-    pub(crate) fn reserve(&mut self, more: usize) -> Result<(), AllocError>
-        requires { IsTable self.old }
+    /// How many chunks there are to be, with those of the pool, for that many more entries to be sure of their room; None
+    /// where there can't be so many entries.
+    pub(crate) fn places_for(&self, more: usize) -> Option<usize>
+        requires { IsTable self.now }
+        ensures all { IfSome result (λ places. length self.now.chunks.items + length self.now.pool.items ≤ places) }
+        ensures sure { IfSome result (λ places. (pool : List AnyChunk) → places ≤ length self.now.chunks.items + length pool → IsSure more self.now.chunks.items pool) }
+        ensures bound { IfSome result (λ places. self.now.count + more < 2 ^ 64) }
+    {
+        if more >= usize::MAX - self.count {
+            return None;
+        }
+        let chunks = self.chunks.len();
+        let wanted = chunks_for(more, chunks) + 1;
+        chunks.checked_add(wanted.max(self.pool.len()))
+    }
+
+    /// Makes room for that many more entries: so many chunks there are to be, with those of the pool.
+    pub(crate) fn reserve(&mut self, more: usize, places: usize) -> Result<(), AllocError>
+        requires table { IsTable self.old }
+        requires all { length self.old.chunks.items + length self.old.pool.items ≤ places }
+        requires sure { (pool : List AnyChunk) → places ≤ length self.old.chunks.items + length pool → IsSure more self.old.chunks.items pool }
+        requires bound { self.old.count + more < 2 ^ 64 }
+        requires more { self.old.spare ≤ more }
         ensures table { IsTable self.new }
         ensures chunks { self.new.chunks.items ≡ self.old.chunks.items }
-        ensures free { OnOk result (more ≤ free self.new) }
-        ensures kept { free self.old ≤ free self.new }
+        ensures spare { OnOk result (more ≤ self.new.spare) }
+        ensures kept { self.old.spare ≤ self.new.spare }
+        ensures all { length self.new.chunks.items + length self.new.pool.items ≤ places }
     {
-        if usize::MAX - self.count < more {
-            return Err(AllocError);
-        }
         let alloc = *self.chunks.allocator();
-        self.chunks.reserve(more)?;
-        fill(&mut self.pool, alloc, more)
+        let wanted = places - self.chunks.len();
+        self.chunks.reserve(wanted)?;
+        self.pool.reserve(places - self.pool.len())?;
+        fill(&mut self.pool, alloc, wanted)?;
+        self.spare = more;
+        Ok(())
     }
 
     /// A table of the same entries.
@@ -395,23 +424,37 @@ impl Table {
         ensures table { IfOk result IsTable }
         ensures entries { IfOk result (λ table. all_listed table.chunks.items ≡ all_listed self.now.chunks.items) }
         ensures length { IfOk result (λ table. length table.chunks.items ≡ length self.now.chunks.items) }
+        ensures pool { IfOk result (λ table. table.pool.items ≡ []) }
     {
         let alloc = *self.chunks.allocator();
         let chunks = copy_chunks(alloc, &self.chunks)?;
+        let pool = Vec::with_capacity(alloc, chunks.len())?;
         Ok(Table {
             chunks,
-            pool: Vec::new(alloc),
+            pool,
             count: self.count,
+            spare: 0,
         })
     }
 }
 
+/// How many chunks of the pool make sure of room for so many more entries, beside so many chunks that may be full.
+fn chunks_for(more: usize, chunks: usize) -> usize
+    ensures within { result ≤ more }
+    ensures sure { (result ≡ more) ⊎ (more + 32 * chunks ≤ 32 * result) }
+{
+    more.min((more / 32 + 1).saturating_add(chunks))
+}
+
 /// Fills the pool up to that many chunks.
 fn fill(pool: &mut Vec<Chunk>, alloc: Global, wanted: usize) -> Result<(), AllocError>
-    requires { ArePooled pool.old.items }
+    requires pool { ArePooled pool.old.items }
+    requires most { length pool.old.items ≤ wanted }
     ensures pool { ArePooled pool.new.items }
     ensures kept { length pool.old.items ≤ length pool.new.items }
-    ensures full { OnOk result (wanted ≤ length pool.new.items) }
+    ensures most { length pool.new.items ≤ wanted }
+    ensures full { OnOk result (length pool.new.items ≡ wanted) }
+    ensures room { vec_capacity pool.old ≤ vec_capacity pool.new }
 {
     while pool.len() < wanted {
         let chunk = Chunk::empty(alloc)?;

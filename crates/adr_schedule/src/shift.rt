@@ -158,11 +158,12 @@ impl Schedule {
         Ok(made)
     }
 
-    /// The schedule after an event goes and another comes for the resources at these places: where the one was among the
-    /// writes of a place's group it is not any more, and where the other was not it is.
+    /// The schedule after an event goes and another comes for the resources at these places: where the one was among
+    /// the writes of a place's group it is not any more, and where the other was not it is.
     ///
     /// Members of one group among the places stay together. The crew repairs each group once, inside the entries of the
-    /// events, one job a payload type. Cost: for each place a few look-ups, and that of the jobs. `NoMemory` where there is no room.
+    /// events, one job a payload type. Cost: for each place a few look-ups, and that of the jobs. `NoMemory` where
+    /// there is no room.
     pub fn shifted<C: Fn(&Indexes, &[Job]) -> Result<Vec<Done>, Refusal>>(
         &self,
         alloc: Global,

@@ -17,8 +17,8 @@ loop-first-preserved c =
       table = c.put_run-run.ensures.table;
       entries = rw (c.split_at.ensures.back, c.put_run-run.ensures.entries) (inserted_rest c.put_run-run.result.given c.in-Some.first.now c.in-Some.later.now (all_listed c.loop-first.table.chunks.items) ∙ (rw parts at c.loop-first.invariant.entries));
       fresh = rw (c.split_at.ensures.back, c.put_run-run.ensures.entries) (new_rest c.put_run-run.result.given c.in-Some.first.now c.in-Some.later.now (all_listed c.loop-first.table.chunks.items) (rw parts at c.loop-first.invariant.fresh));
-      free = omega (arith, c.put_run-run.ensures.free, c.loop-first.invariant.free, count, left);
+      spare = omega (arith, c.put_run-run.ensures.spare, c.loop-first.invariant.spare, count, left);
       nodes = search rules;
-      length = omega (arith, c.put_run-run.ensures.length, c.loop-first.invariant.length, count, left);
+      sum = omega (arith, c.put_run-run.ensures.sum, c.loop-first.invariant.sum);
       tops = rw c.deref-in-Some.ensures.value at c.update-is_kept.ensures;
     }

@@ -1,7 +1,7 @@
 use Rattle.std.proofs.Common.{◌≡◌, ◌+◌, ◌≤◌, true, length}
 use Rattle.adr_index.specs.Chunks.{all_listed}
 use Rattle.adr_index.specs.Index.{inserted_all, AreNew}
-use Rattle.adr_index.specs.Tables.{free, HasTops, IsTable}
+use Rattle.adr_index.specs.Tables.{HasTops, IsTable}
 use Rattle.adr_index.proofs.index.put_all.Given as goal
 
 abbrev pub invariant-loop-first : goal.invariant-loop-first
@@ -9,9 +9,9 @@ invariant-loop-first l = record {
   table : IsTable l.table;
   entries : inserted_all l.rest (all_listed l.table.chunks.items) ≡ inserted_all l.new (all_listed l.fn.table.chunks.items);
   fresh : AreNew l.rest (all_listed l.table.chunks.items);
-  free : free l.fn.table + length l.rest ≤ free l.table + length l.new;
+  spare : l.fn.table.spare + length l.rest ≤ l.table.spare + length l.new;
   nodes : length l.tops ≡ length l.fn.tops;
-  length : length l.table.chunks.items + length l.rest ≤ length l.fn.table.chunks.items + length l.new;
+  sum : length l.table.chunks.items + length l.table.pool.items ≤ length l.fn.table.chunks.items + length l.fn.table.pool.items;
   tops : l.is_kept ≡ true → HasTops l.table.chunks.items l.tops;
 }
 

@@ -13,8 +13,8 @@ loop-first-preserved c =
     record {
       table = c.take-run.ensures.table;
       entries = rw (c.split_at.ensures.back, c.take-run.ensures.entries) (others_rest c.take-run.result.given c.in-Some.first.now c.in-Some.later.now (all_listed c.loop-first.table.chunks.items) ∙ (rw parts at c.loop-first.invariant.entries));
-      free = omega (arith, c.take-run.ensures.free, c.loop-first.invariant.free);
+      spare = omega (arith, c.take-run.ensures.spare, c.loop-first.invariant.spare);
       nodes = search rules;
-      length = omega (arith, c.take-run.ensures.length, c.loop-first.invariant.length);
+      sum = omega (arith, c.take-run.ensures.sum, c.loop-first.invariant.sum);
       tops = rw c.deref-in-Some.ensures.value at c.update-is_kept.ensures;
     }

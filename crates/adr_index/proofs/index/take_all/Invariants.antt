@@ -1,16 +1,16 @@
-use Rattle.std.proofs.Common.{◌≡◌, ◌≤◌, true, length}
+use Rattle.std.proofs.Common.{◌≡◌, ◌+◌, ◌≤◌, true, length}
 use Rattle.adr_index.specs.Chunks.{all_listed}
 use Rattle.adr_index.specs.Index.{others_all}
-use Rattle.adr_index.specs.Tables.{free, HasTops, IsTable}
+use Rattle.adr_index.specs.Tables.{HasTops, IsTable}
 use Rattle.adr_index.proofs.index.take_all.Given as goal
 
 abbrev pub invariant-loop-first : goal.invariant-loop-first
 invariant-loop-first l = record {
   table : IsTable l.table;
   entries : others_all l.rest (all_listed l.table.chunks.items) ≡ others_all l.old (all_listed l.fn.table.chunks.items);
-  free : free l.fn.table ≤ free l.table;
+  spare : l.fn.table.spare ≤ l.table.spare;
   nodes : length l.tops ≡ length l.fn.tops;
-  length : length l.table.chunks.items ≤ length l.fn.table.chunks.items;
+  sum : length l.table.chunks.items + length l.table.pool.items ≤ length l.fn.table.chunks.items + length l.fn.table.pool.items;
   tops : l.is_kept ≡ true → HasTops l.table.chunks.items l.tops;
 }
 

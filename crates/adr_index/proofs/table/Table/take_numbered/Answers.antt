@@ -18,8 +18,8 @@ loop-entry-preserved c =
       table = c.take.ensures.table;
       entries = rw (c.take.ensures.entries, none) (without_others c.args.written c.args.place c.in-Some.entry found.named (all_listed c.loop-entry.self.chunks.items) ∙ c.loop-entry.invariant.entries);
       answer = or_there c.loop-entry.is_found (list_any (is_entry c.args.written c.args.place) (all_listed c.loop-entry.self.chunks.items)) _ found.any c.loop-entry.invariant.answer;
-      free = omega (arith, c.take.ensures.free, c.loop-entry.invariant.free);
-      length = omega (arith, c.take.ensures.length, c.loop-entry.invariant.length);
+      spare = omega (arith, c.take.ensures.spare, c.loop-entry.invariant.spare);
+      sum = omega (arith, c.take.ensures.sum, c.loop-entry.invariant.sum);
     }
 
 pub returns-clause-entries : goal.returns-clause-entries
