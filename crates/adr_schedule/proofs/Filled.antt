@@ -1,14 +1,16 @@
 -- Places that are added one by one, with the slots that they have.
-use Rattle.std.proofs.Common.{◌≡◌, ℕ, suc, ◌<◌, ◌⊎◌, inl, inr, true, false, List, [], ◌∷◌, ◌++◌, length, slice_get, Option, Some, None, refl, ap, sym, ◌∙◌, arith}
+use Rattle.std.proofs.Common.{◌≡◌, ℕ, zero, suc, ◌<◌, ◌⊎◌, inl, inr, true, false, List, [], ◌∷◌, ◌++◌, length, slice_get, Option, Some, None, refl, ap, sym, subst, ◌∙◌, arith, append-nil}
 use Rattle.std.specs.Borrow.{Bor}
+use Rattle.std.specs.Option.{option_and_then}
 use Rattle.std.specs.Slice.{IsItemAt}
 use Rattle.std.proofs.lemmas.Option.{slice_get-get_or}
 use Rattle.adr_shared.specs.Map.{put}
 use Rattle.adr_group.specs.Group.{Lines}
-use Rattle.adr_schedule.specs.Slots.{in_slot, is_taken, AreSeated}
+use Rattle.adr_schedule.specs.Seating.{group_at, Seating}
+use Rattle.adr_schedule.specs.Slots.{in_slot, is_taken, value_at, AreSeated}
 use Rattle.adr_schedule.proofs.Numbered.{one_or_other, put_here, put_elsewhere, has_place, place_of_taken}
 use Rattle.adr_schedule.proofs.Places.{last_or_before, added_seated, before_last}
-use Rattle.adr_schedule.proofs.Seated.{some_same}
+use Rattle.adr_schedule.proofs.Seated.{some_same, at_slot}
 
 -- a place more with a slot that one has
 pub taken_seated : (seats : List ℕ) (values : List (List ℕ × Lines)) (slot : ℕ) → AreSeated seats values → is_taken seats slot ≡ true
@@ -30,6 +32,16 @@ put_groups values slot group s g h = by (one_or_other s slot)
     by : (s ≡ slot) ⊎ (s ≡ slot → ⊥) → (in_slot values s ≡ Some g) ⊎ ((s ≡ slot) × (g ≡ group))
     by (inl e) = inr (e, some_same g group (sym h ∙ ap (λ x. in_slot (put (slot ∷ []) group values) x) e ∙ put_here values slot group))
     by (inr a) = inl (sym (put_elsewhere values slot s group a) ∙ h)
+
+-- each place has the group that stands in its slot
+pub gathered_groups : (seats : List ℕ) (values : List (List ℕ × Lines)) (groups : List Lines) → AreSeated seats values
+    → ((s : ℕ) (g : Lines) → in_slot values s ≡ Some g → slice_get groups s ≡ Some g)
+    → (place : ℕ) → group_at (record { seats = seats; groups = values }) place ≡ option_and_then (λ slot. slice_get groups slot) (slice_get seats place)
+gathered_groups seats values groups old same place = by (slice_get seats place) refl
+  where
+    by : (o : Option ℕ) → slice_get seats place ≡ o → value_at seats values place ≡ option_and_then (λ slot. slice_get groups slot) o
+    by None e = ap (λ o. option_and_then (λ slot. in_slot values slot) o) e
+    by (Some s) e = let g = old.held place s e in at_slot seats values place s e ∙ g.1 ∙ sym (same s g.0 g.1)
 
 pub same_seated : (seats more : List ℕ) (values same : List (List ℕ × Lines)) (slot : ℕ) → AreSeated seats values → is_taken seats slot ≡ true
     → more ≡ seats ++ slot ∷ [] → same ≡ values → AreSeated more same
@@ -73,6 +85,18 @@ none_in s g values e h = by (sym (ap (λ vs. in_slot vs s) e) ∙ h)
   where
     by : None ≡ Some g → ⊥
     by k = absurd (cc)
+
+pub none_seated : (seats : List ℕ) (values : List (List ℕ × Lines)) → seats ≡ [] → values ≡ [] → AreSeated seats values
+none_seated seats values e f = record {
+  held = λ p s h. absurd (nothing p s (sym (ap (λ xs. slice_get xs p) e) ∙ h));
+  taken = λ s g h. absurd (none_in s g values f h);
+}
+  where
+    none_at : List ℕ
+    none_at = []
+
+    nothing : (p s : ℕ) → slice_get none_at p ≡ Some s → ⊥
+    nothing p s k = absurd (cc)
 
 -- what is looked up at a place that is there
 pub item_there : (groups : List Lines) (i : ℕ) (x : Bor Lines) → IsItemAt groups i (Some x) → slice_get groups i ≡ Some x.now
