@@ -167,14 +167,28 @@ fn is_right_after(
     is_right
 }
 
-/// How many of the edits the desk takes; nothing where it is wrong after one of them.
+/// Puts in place of the desk one that is made over its book, where that has no events.
+fn make_over(alloc: Global, desk: &mut Desk) -> Result<(), Refusal> {
+    if desk.book().count(Kind::Event) == 0 {
+        let book = desk.book().copy()?;
+        *desk = Desk::over(alloc, desk.tie(), book)?;
+    }
+    Ok(())
+}
+
+/// How many of the edits the desk takes; nothing where it is wrong after one of them. Before each that finds no events, the
+/// desk is made anew over its book where that is asked for.
 fn taken(
     alloc: Global,
     desk: &mut Desk,
     edits: Vec<Edit>,
     types: &[PayloadType],
+    is_made_over: bool,
 ) -> Result<Option<u64>, Refusal> {
     for edit in edits {
+        if is_made_over {
+            make_over(alloc, desk)?;
+        }
         if !is_right_after(alloc, desk, edit, types)? {
             return Ok(None);
         }
@@ -188,20 +202,23 @@ fn taken_by_new(
     tie: Tie,
     seed: &mut u64,
     types: &[PayloadType],
+    is_made_over: bool,
 ) -> Result<Option<u64>, Refusal> {
     let edits = many_edits(alloc, seed, EDITS)?;
     let mut desk = Desk::new(alloc, tie)?;
-    let taken = taken(alloc, &mut desk, edits, types);
+    let taken = taken(alloc, &mut desk, edits, types, is_made_over);
     drop(desk);
     taken
 }
 
-/// Whether all desks are right after each edit, of which many are taken and many refused.
+/// Whether all desks are right after each edit, of which many are taken and many refused. Every other desk is made over
+/// its book while that has no events.
 fn are_desks_right(alloc: Global, tie: Tie, types: &[PayloadType]) -> Result<bool, Refusal> {
     let mut seed = 1;
     let mut all = 0_u64;
-    for _ in 0..DESKS {
-        let Some(taken) = taken_by_new(alloc, tie, &mut seed, types)? else {
+    for number in 0..DESKS {
+        let is_made_over = number % 2 == 1;
+        let Some(taken) = taken_by_new(alloc, tie, &mut seed, types, is_made_over)? else {
             return Ok(false);
         };
         all = all.saturating_add(taken);

@@ -1,6 +1,6 @@
 -- What is asked for by an instant or a window.
 use Rattle.std.proofs.Common.{◌≡◌, Bool, true, false, ◌&&◌, List, [], ◌∷◌, refl}
-use Rattle.adr_time.specs.Spans.{is_before, meets}
+use Rattle.adr_time.specs.Spans.{is_before}
 use Rattle.adr_time.specs.declared.span.Span.{Span}
 use Rattle.adr_model.specs.declared.entry.Entry.{Entry}
 use Rattle.adr_model.specs.Entries.{meeting}

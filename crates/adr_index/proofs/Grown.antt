@@ -1,16 +1,16 @@
 -- A tree of greatest ends is made of those of its halves.
-use Rattle.std.proofs.Common.{◌≡◌, ℕ, zero, suc, ◌+◌, ◌-◌, ◌*◌, ◌/◌, ◌^◌, ◌<◌, ◌≤◌, Bool, true, false, ◌||◌, List, [], ◌∷◌, ◌++◌, length, take, drop, get_or, set, Option, Some, None, refl, sym, ◌∙◌, ap, subst, arith, ℤ, int_lt}
+use Rattle.std.proofs.Common.{◌≡◌, ℕ, zero, suc, ◌+◌, ◌-◌, ◌*◌, ◌/◌, ◌^◌, ◌<◌, ◌≤◌, Bool, true, false, ◌&&◌, ◌||◌, List, [], ◌∷◌, ◌++◌, length, take, drop, get_or, set, Option, Some, None, cond, refl, sym, ◌∙◌, ap, subst, arith, ℤ, int_lt}
 use Rattle.std.specs.List.{flat_map}
 use Rattle.std.proofs.lemmas.Int.{ints}
 use Rattle.std.proofs.lemmas.Nat.{leading_length}
-use Rattle.std.proofs.lemmas.List.{get_or_at, get_or_read, take_at, drop_at, append_assoc, length-append, take-append-drop, length-take-le, length-drop}
+use Rattle.std.proofs.lemmas.List.{get_or_at, get_or_read, take_at, drop_at, drop_more, append_assoc, length-append, take-append-drop, length-take-le, length-drop}
 use Rattle.std.proofs.lemmas.List.Concat.{flat_map-append}
 use Rattle.adr_time.specs.declared.span.End.{End}
 use Rattle.adr_time.specs.declared.span.End.TheVariants.{At, Endless}
 use Rattle.adr_model.specs.declared.entry.Entry.{Entry}
-use Rattle.adr_time.specs.Spans.{is_before, later_end}
+use Rattle.adr_time.specs.Spans.{is_before, lasts, later_end}
 use Rattle.adr_index.specs.Index.{digits}
-use Rattle.adr_index.specs.Tree.{any_lasts, comes_after, only, IsGreatest, IsTree, greater_end}
+use Rattle.adr_index.specs.Tree.{any_lasts, comes_after, greater_end, only, own_end, IsGreatest, IsTree}
 use Rattle.adr_index.specs.Query.{lasts_past}
 use Rattle.adr_index.proofs.Ordered.{or_grouped}
 
@@ -56,6 +56,19 @@ pub later_after : (g h : Option End) (t : ℤ) → comes_after (greater_end g h)
 later_after None h t = refl
 later_after (Some e) None t = or_false (is_before t e)
 later_after (Some e) (Some f) t = max_after e f t
+
+own_after : (e : Entry) (t : ℤ) → comes_after (own_end e) t ≡ lasts_past e t
+own_after e t = either (lasts e.span)
+  where
+    either : (b : Bool) → comes_after (cond b (Some e.span.end) None) t ≡ (b && is_before t e.span.end)
+    either true = refl
+    either false = refl
+
+-- an entry's own end is taken in, and those behind it are left
+pub own_taken : (es : List Entry) (i : ℕ) (e : Entry) → i < length es → e ≡ get_or es i e → (t : ℤ) (g : Option End) (all : Bool)
+    → (comes_after g t || any_lasts (drop i es) t) ≡ all → (comes_after (greater_end g (own_end e)) t || any_lasts (drop (i + 1) es) t) ≡ all
+own_taken es i e inside read t g all h =
+    rw (later_after g (own_end e) t, own_after e t) (sym (or_grouped (comes_after g t) (lasts_past e t) (any_lasts (drop (i + 1) es) t)) ∙ (ap (λ (xs : List Entry). comes_after g t || any_lasts xs t) (sym (drop_more es i e inside ∙ ap (λ (d : Entry). d ∷ drop (i + 1) es) (sym read))) ∙ h))
 
 pub lasts_append : (xs ys : List Entry) (t : ℤ) → any_lasts (xs ++ ys) t ≡ (any_lasts xs t || any_lasts ys t)
 lasts_append [] ys t = refl

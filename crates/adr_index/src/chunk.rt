@@ -7,10 +7,11 @@ ghost use Rattle.adr_index.specs.Index.{inserted, inserted_all, others, others_a
 
 use crate::order::{comes_before, place_of};
 use crate::query::Query;
+use crate::reach::Reach;
 use crate::tree::{digits, rebuild, search};
 use adr_model::Entry;
 use adr_rule::Meter;
-use adr_time::{End, Moment};
+use adr_time::Moment;
 use std::alloc::{AllocError, Global};
 
 /// How many entries a chunk has at most.
@@ -21,8 +22,8 @@ const MOST: usize = 64;
 #[derive(Drop)]
 pub(crate) struct Chunk {
     pub(crate) entries: Vec<Entry>,
-    pub(crate) greatest: Vec<Option<End>>,
-    pub(crate) end: Option<End>,
+    pub(crate) greatest: Vec<Reach>,
+    pub(crate) end: Reach,
     pub(crate) last: Moment,
 }
 
@@ -92,11 +93,11 @@ impl Chunk {
         ensures { IfOk result IsPooled }
     {
         let entries = Vec::with_capacity(alloc, MOST + 1)?;
-        let greatest = Vec::from_elem(alloc, None, MOST)?;
+        let greatest = Vec::from_elem(alloc, Reach::nothing(), MOST)?;
         Ok(Chunk {
             entries,
             greatest,
-            end: None,
+            end: Reach::nothing(),
             last: Moment::MIN,
         })
     }

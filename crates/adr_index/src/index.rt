@@ -12,12 +12,13 @@ ghost use Rattle.adr_index.specs.Tables.{HasTops, HasTopsBut, IsTable};
 use crate::chunk::Chunk;
 use crate::order::sort;
 use crate::query::{Latest, Query};
+use crate::reach::Reach;
 use crate::table::Table;
 use crate::tops::{rebuild_chunks, search_chunks};
 use crate::tree::digits;
 use adr_model::Entry;
 use adr_rule::Meter;
-use adr_time::{End, Moment, Span};
+use adr_time::{Moment, Span};
 use adr_value::Refusal;
 use std::alloc::{AllocError, Global};
 use std::marker::Model;
@@ -33,7 +34,7 @@ use std::marker::Model;
 /// that loses entries is not put together with others.
 pub struct Index {
     table: Table,
-    tops: Vec<Option<End>>,
+    tops: Vec<Reach>,
 }
 
 // A function of its own, so that callers that let a value go need not look into it.
@@ -58,7 +59,7 @@ impl Model for Index {
 }
 
 /// Writes the tree over the chunks anew.
-fn refresh(chunks: &[Chunk], tops: &mut [Option<End>])
+fn refresh(chunks: &[Chunk], tops: &mut [Reach])
     requires chunks { AreChunks chunks.now }
     requires lengths { length chunks.now ≤ length tops.old + 1 }
     ensures { HasTops chunks.now tops.new }
@@ -68,7 +69,7 @@ fn refresh(chunks: &[Chunk], tops: &mut [Option<End>])
 }
 
 /// Writes the ends over one chunk anew, where the tree is that of the others. Answers whether it is that of them all.
-fn update(chunks: &[Chunk], tops: &mut [Option<End>], changed: Option<usize>, is_kept: bool) -> bool
+fn update(chunks: &[Chunk], tops: &mut [Reach], changed: Option<usize>, is_kept: bool) -> bool
     requires chunks { AreChunks chunks.now }
     requires lengths { length chunks.now ≤ length tops.old + 1 }
     requires tops { is_kept ≡ true → IfSome changed (λ place. HasTopsBut place chunks.now tops.old) }
@@ -86,7 +87,7 @@ fn update(chunks: &[Chunk], tops: &mut [Option<End>], changed: Option<usize>, is
 }
 
 /// Writes the tree over the chunks anew, where it is not theirs.
-fn settle(chunks: &[Chunk], tops: &mut [Option<End>], is_kept: bool)
+fn settle(chunks: &[Chunk], tops: &mut [Reach], is_kept: bool)
     requires chunks { AreChunks chunks.now }
     requires lengths { length chunks.now ≤ length tops.old + 1 }
     requires tops { is_kept ≡ true → HasTops chunks.now tops.old }
@@ -105,7 +106,7 @@ fn are_few(entries: &[Entry], chunks: &[Chunk]) -> bool {
 
 /// Takes out what stands in the places of the old entries, those of one chunk together, and answers whether the tree
 /// over the chunks is kept.
-fn take_all(table: &mut Table, tops: &mut [Option<End>], old: &[Entry]) -> bool
+fn take_all(table: &mut Table, tops: &mut [Reach], old: &[Entry]) -> bool
     requires table { IsTable table.old }
     requires lengths { length table.old.chunks.items + length table.old.pool.items ≤ length tops.old }
     requires tops { HasTops table.old.chunks.items tops.old }
@@ -130,7 +131,7 @@ fn take_all(table: &mut Table, tops: &mut [Option<End>], old: &[Entry]) -> bool
 
 /// Adds the entries, those of one chunk together as far as it has room, and answers whether the tree over the chunks is
 /// kept.
-fn put_all(table: &mut Table, tops: &mut [Option<End>], new: &[Entry], was_kept: bool) -> bool
+fn put_all(table: &mut Table, tops: &mut [Reach], new: &[Entry], was_kept: bool) -> bool
     requires table { IsTable table.old }
     requires spare { length new.now ≤ table.old.spare }
     requires fresh { AreNew new.now (all_listed table.old.chunks.items) }
@@ -156,7 +157,7 @@ fn put_all(table: &mut Table, tops: &mut [Option<End>], new: &[Entry], was_kept:
 }
 
 /// Makes room for the ends of that many chunks.
-fn widen(chunks: &[Chunk], tops: &mut Vec<Option<End>>, wanted: usize) -> Result<(), AllocError>
+fn widen(chunks: &[Chunk], tops: &mut Vec<Reach>, wanted: usize) -> Result<(), AllocError>
     requires chunks { AreChunks chunks.now }
     requires lengths { length chunks.now ≤ length tops.old.items }
     requires tops { HasTops chunks.now tops.old.items }
@@ -167,7 +168,7 @@ fn widen(chunks: &[Chunk], tops: &mut Vec<Option<End>>, wanted: usize) -> Result
     if wanted <= tops.len() {
         return Ok(());
     }
-    tops.resize(wanted, None)?;
+    tops.resize(wanted, Reach::nothing())?;
     refresh(chunks, tops);
     Ok(())
 }
@@ -189,7 +190,7 @@ impl Index {
         ensures { IfOk result (λ index. index.entries ≡ entries.now) }
     {
         let table = Table::of(alloc, entries)?;
-        let mut tops = Vec::from_elem(alloc, None, table.chunks.len())?;
+        let mut tops = Vec::from_elem(alloc, Reach::nothing(), table.chunks.len())?;
         refresh(&table.chunks, &mut tops);
         Ok(Index { table, tops })
     }

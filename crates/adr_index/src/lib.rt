@@ -5,6 +5,7 @@ mod chunk;
 mod index;
 mod order;
 mod query;
+mod reach;
 mod table;
 mod tops;
 mod tree;

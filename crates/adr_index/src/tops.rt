@@ -8,10 +8,9 @@ ghost use Rattle.adr_index.specs.Tree.{any_lasts, IsByStart, IsGreatest, IsTree,
 
 use crate::chunk::Chunk;
 use crate::query::Query;
-use crate::tree::{greater, reaches};
+use crate::reach::Reach;
 use adr_model::Entry;
 use adr_rule::Meter;
-use adr_time::End;
 use std::alloc::AllocError;
 
 /// How many chunks are gone through one by one.
@@ -42,13 +41,13 @@ fn scan_chunks(
 }
 
 /// Whether an entry of the chunks ends after what is asked for begins, as their tree has it.
-fn any_chunk_reaches(chunks: &[Chunk], tops: &[Option<End>], query: &Query) -> bool
+fn any_chunk_reaches(chunks: &[Chunk], tops: &[Reach], query: &Query) -> bool
     requires some { 1 < length chunks.now }
     requires lengths { length chunks.now ≤ length tops.now + 1 }
     requires tops { HasTops chunks.now tops.now }
     ensures { result ≡ any_lasts (all_listed chunks.now) query.now.from }
 {
-    reaches(&tops[chunks.len() / 2 - 1], query)
+    tops[chunks.len() / 2 - 1].is_past(query.from)
 }
 
 /// Adds the entries of the chunks that are asked for, as the search of a chunk does, which takes `depth` levels.
@@ -56,7 +55,7 @@ pub(crate) fn search_chunks(
     levels: u32,
     depth: u32,
     chunks: &[Chunk],
-    tops: &[Option<End>],
+    tops: &[Reach],
     query: &Query,
     found: &mut Vec<Entry>,
     meter: &mut Meter,
@@ -94,19 +93,19 @@ pub(crate) fn search_chunks(
 }
 
 /// The greatest end of the few chunks.
-fn greatest_of_chunks(chunks: &[Chunk]) -> Option<End>
+fn greatest_of_chunks(chunks: &[Chunk]) -> Reach
     requires { AreChunks chunks.now }
     ensures { IsGreatest result (all_listed chunks.now) }
 {
-    let mut greatest = None;
+    let mut greatest = Reach::nothing();
     for chunk in chunks {
-        greatest = greater(greatest, chunk.end);
+        greatest = greatest.later(chunk.end);
     }
     greatest
 }
 
 /// The greatest end of the chunks, as their tree has it.
-fn top_of(chunks: &[Chunk], tops: &[Option<End>]) -> Option<End>
+fn top_of(chunks: &[Chunk], tops: &[Reach]) -> Reach
     requires chunks { AreChunks chunks.now }
     requires lengths { length chunks.now ≤ length tops.now + 1 }
     requires tops { HasTops chunks.now tops.now }
@@ -126,8 +125,8 @@ pub(crate) fn rebuild_chunks(
     from: usize,
     to: usize,
     chunks: &[Chunk],
-    tops: &mut [Option<End>],
-) -> Option<End>
+    tops: &mut [Reach],
+) -> Reach
     requires chunks { AreChunks chunks.now }
     requires levels { length chunks.now ≤ 2 ^ levels }
     requires lengths { length chunks.now ≤ length tops.old + 1 }
@@ -153,6 +152,6 @@ pub(crate) fn rebuild_chunks(
     let left_greatest = rebuild_chunks(levels - 1, from.min(middle), to.min(middle), left, front);
     let (from, to) = (from.saturating_sub(middle), to.saturating_sub(middle));
     let right_greatest = rebuild_chunks(levels - 1, from, to, right, back);
-    here[0] = greater(left_greatest, right_greatest);
+    here[0] = left_greatest.later(right_greatest);
     here[0]
 }

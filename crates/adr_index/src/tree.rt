@@ -3,9 +3,10 @@
 ghost use Rattle.std.specs.Prelude.{◌≡◌, ◌+◌, ◌*◌, ◌<◌, ◌≤◌, ◌^◌, ◌++◌, IfOk, OnOk, length};
 ghost use Rattle.adr_index.specs.Index.{digits as digits_of};
 ghost use Rattle.adr_index.specs.Query.{any_late, hits, if_hit, looks};
-ghost use Rattle.adr_index.specs.Tree.{any_lasts, comes_after, greater_end, only, own_end as end_of, IsByStart, HasTree, IsGreatest, IsTree};
+ghost use Rattle.adr_index.specs.Tree.{any_lasts, only, IsByStart, HasTree, IsGreatest, IsTree};
 
 use crate::query::{Query, is_hit, is_late};
+use crate::reach::Reach;
 use adr_model::Entry;
 use adr_rule::Meter;
 use adr_time::{End, Span};
@@ -20,16 +21,6 @@ pub(crate) fn digits(number: usize) -> u32
     ensures below { number < 2 ^ result }
 {
     usize::BITS - number.leading_zeros()
-}
-
-/// Whether an end lies after what is asked for begins.
-pub(crate) fn reaches(greatest: &Option<End>, query: &Query) -> bool
-    ensures { result ≡ comes_after greatest.now query.now.from }
-{
-    match greatest {
-        Some(end) => query.from.is_before(*end),
-        None => false,
-    }
 }
 
 /// Adds the entry, where it is asked for.
@@ -76,13 +67,13 @@ fn scan(
 }
 
 /// Whether an entry ends after what is asked for begins, as their tree has it.
-fn any_reaches(entries: &[Entry], greatest: &[Option<End>], query: &Query) -> bool
+fn any_reaches(entries: &[Entry], greatest: &[Reach], query: &Query) -> bool
     requires some { 1 < length entries.now }
     requires lengths { length entries.now ≤ length greatest.now + 1 }
     requires tree { HasTree only entries.now greatest.now }
     ensures { result ≡ any_lasts entries.now query.now.from }
 {
-    reaches(&greatest[entries.len() / 2 - 1], query)
+    greatest[entries.len() / 2 - 1].is_past(query.from)
 }
 
 /// Adds the entries that are asked for, in order, and answers whether it came to one that lasts and starts too late.
@@ -90,7 +81,7 @@ fn any_reaches(entries: &[Entry], greatest: &[Option<End>], query: &Query) -> bo
 pub(crate) fn search(
     levels: u32,
     entries: &[Entry],
-    greatest: &[Option<End>],
+    greatest: &[Reach],
     query: &Query,
     found: &mut Vec<Entry>,
     meter: &mut Meter,
@@ -125,41 +116,19 @@ pub(crate) fn search(
     search(levels - 1, right, back, query, found, meter)
 }
 
-/// The later of two ends, where there is one.
-pub(crate) fn greater(first: Option<End>, second: Option<End>) -> Option<End>
-    ensures { result ≡ greater_end first second }
-{
-    match (first, second) {
-        (Some(one), Some(other)) => Some(one.later(other)),
-        (None, _) => second,
-        (_, None) => first,
-    }
-}
-
-/// The entry's end, where the entry covers some moment.
-fn own_end(entry: &Entry) -> Option<End>
-    ensures { result ≡ end_of entry.now }
-{
-    if entry.span.lasts() {
-        Some(entry.span.end)
-    } else {
-        None
-    }
-}
-
 /// The greatest end of the few entries.
-fn greatest_of(entries: &[Entry]) -> Option<End>
+fn greatest_of(entries: &[Entry]) -> Reach
     ensures { IsGreatest result entries.now }
 {
-    let mut greatest = None;
+    let mut greatest = Reach::nothing();
     for entry in entries {
-        greatest = greater(greatest, own_end(entry));
+        greatest = greatest.later(Reach::of(entry));
     }
     greatest
 }
 
 /// Writes the tree of greatest ends anew, in place, and answers the greatest of all.
-pub(crate) fn rebuild(levels: u32, entries: &[Entry], greatest: &mut [Option<End>]) -> Option<End>
+pub(crate) fn rebuild(levels: u32, entries: &[Entry], greatest: &mut [Reach]) -> Reach
     requires levels { length entries.now ≤ 2 ^ levels }
     requires lengths { length entries.now ≤ length greatest.old + 1 }
     ensures tree { IsTree only levels entries.now greatest.new }
@@ -179,6 +148,6 @@ pub(crate) fn rebuild(levels: u32, entries: &[Entry], greatest: &mut [Option<End
     let (here, back) = back.split_at_mut(1);
     let left_greatest = rebuild(levels - 1, left, front);
     let right_greatest = rebuild(levels - 1, right, back);
-    here[0] = greater(left_greatest, right_greatest);
+    here[0] = left_greatest.later(right_greatest);
     here[0]
 }

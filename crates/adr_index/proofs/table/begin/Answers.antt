@@ -1,4 +1,4 @@
-use Rattle.std.proofs.Common.{rules, ◌≡◌, ◌+◌, ◌-◌, ◌<◌, length, true, arith, subst, Bool}
+use Rattle.std.proofs.Common.{rules, ◌≡◌, ◌<◌, length, true, subst, Bool}
 use Rattle.adr_index.specs.Chunks.{EndsBefore}
 use Rattle.adr_index.proofs.Placed.{chunk_at, goes_right}
 use Rattle.adr_index.proofs.table.begin.Goals as goal

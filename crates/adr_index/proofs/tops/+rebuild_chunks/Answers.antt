@@ -34,7 +34,7 @@ returns-clause-tree t c =
     let level = level_some c.args.levels (length c.args.chunks.now) two c.requires.levels in
     let front : length c.rebuild_chunks-left_greatest.new.tops ≡ length c.args.chunks.now / 2 - 1 = search rules in
     let here : length c.split_at_mut-here.result.0.now ≡ 1 = search rules in
-    tree_written listed c.args.levels c.args.chunks.now c.split_at.result.0.now c.split_at.result.1.now c.rebuild_chunks-left_greatest.new.tops c.split_at_mut-here.result.0.now c.rebuild_chunks-right_greatest.new.tops c.greater.result c.rebuild_chunks-left_greatest.result c.rebuild_chunks-right_greatest.result level two c.split_at.ensures.front c.split_at.ensures.back front here c.greater.ensures
+    tree_written listed c.args.levels c.args.chunks.now c.split_at.result.0.now c.split_at.result.1.now c.rebuild_chunks-left_greatest.new.tops c.split_at_mut-here.result.0.now c.rebuild_chunks-right_greatest.new.tops c.later.result c.rebuild_chunks-left_greatest.result c.rebuild_chunks-right_greatest.result level two c.split_at.ensures.front c.split_at.ensures.back front here c.later.ensures
     c.rebuild_chunks-left_greatest.ensures.greatest c.rebuild_chunks-right_greatest.ensures.greatest
     c.rebuild_chunks-left_greatest.ensures.tree c.rebuild_chunks-right_greatest.ensures.tree
 
@@ -42,6 +42,6 @@ pub returns-clause-greatest : goal.returns-clause-greatest
 returns-clause-greatest t c =
     let two : 1 < length c.args.chunks.now = search rules in
     let here : length c.split_at_mut-here.result.0.now ≡ 1 = search rules in
-    subst (λ (g : Option End). IsGreatest g (all_listed c.args.chunks.now)) (sym (set_read c.split_at_mut-here.result.0.now c.greater.result c.index-here-0.result here c.index-here-0.is))
-    (greatest_halves listed c.args.chunks.now c.split_at.result.0.now c.split_at.result.1.now c.greater.result c.rebuild_chunks-left_greatest.result c.rebuild_chunks-right_greatest.result c.split_at.ensures.front c.split_at.ensures.back c.greater.ensures
+    subst (λ (g : Option End). IsGreatest g (all_listed c.args.chunks.now)) (sym (set_read c.split_at_mut-here.result.0.now c.later.result c.index-here-0.result here c.index-here-0.is))
+    (greatest_halves listed c.args.chunks.now c.split_at.result.0.now c.split_at.result.1.now c.later.result c.rebuild_chunks-left_greatest.result c.rebuild_chunks-right_greatest.result c.split_at.ensures.front c.split_at.ensures.back c.later.ensures
     c.rebuild_chunks-left_greatest.ensures.greatest c.rebuild_chunks-right_greatest.ensures.greatest)

@@ -30,7 +30,7 @@ returns-clause-tree t c =
     let level = level_some c.args.levels (length c.args.entries.now) two c.requires.levels in
     let front : length c.rebuild-left_greatest.new.greatest ≡ length c.args.entries.now / 2 - 1 = search rules in
     let here : length c.split_at_mut-here.result.0.now ≡ 1 = search rules in
-    tree_written only c.args.levels c.args.entries.now c.split_at.result.0.now c.split_at.result.1.now c.rebuild-left_greatest.new.greatest c.split_at_mut-here.result.0.now c.rebuild-right_greatest.new.greatest c.greater.result c.rebuild-left_greatest.result c.rebuild-right_greatest.result level two c.split_at.ensures.front c.split_at.ensures.back front here c.greater.ensures
+    tree_written only c.args.levels c.args.entries.now c.split_at.result.0.now c.split_at.result.1.now c.rebuild-left_greatest.new.greatest c.split_at_mut-here.result.0.now c.rebuild-right_greatest.new.greatest c.later.result c.rebuild-left_greatest.result c.rebuild-right_greatest.result level two c.split_at.ensures.front c.split_at.ensures.back front here c.later.ensures
     (rw (only_all c.split_at.result.0.now) c.rebuild-left_greatest.ensures.greatest) (rw (only_all c.split_at.result.1.now) c.rebuild-right_greatest.ensures.greatest)
     c.rebuild-left_greatest.ensures.tree c.rebuild-right_greatest.ensures.tree
 
@@ -38,7 +38,7 @@ pub returns-clause-greatest : goal.returns-clause-greatest
 returns-clause-greatest t c =
     let two : 1 < length c.args.entries.now = search rules in
     let here : length c.split_at_mut-here.result.0.now ≡ 1 = search rules in
-    subst (λ (g : Option End). IsGreatest g c.args.entries.now) (sym (set_read c.split_at_mut-here.result.0.now c.greater.result c.index-here-0.result here c.index-here-0.is))
-    (subst (λ (xs : List Entry). IsGreatest c.greater.result xs) (only_all c.args.entries.now)
-    (greatest_halves only c.args.entries.now c.split_at.result.0.now c.split_at.result.1.now c.greater.result c.rebuild-left_greatest.result c.rebuild-right_greatest.result c.split_at.ensures.front c.split_at.ensures.back c.greater.ensures
+    subst (λ (g : Option End). IsGreatest g c.args.entries.now) (sym (set_read c.split_at_mut-here.result.0.now c.later.result c.index-here-0.result here c.index-here-0.is))
+    (subst (λ (xs : List Entry). IsGreatest c.later.result xs) (only_all c.args.entries.now)
+    (greatest_halves only c.args.entries.now c.split_at.result.0.now c.split_at.result.1.now c.later.result c.rebuild-left_greatest.result c.rebuild-right_greatest.result c.split_at.ensures.front c.split_at.ensures.back c.later.ensures
     (rw (only_all c.split_at.result.0.now) c.rebuild-left_greatest.ensures.greatest) (rw (only_all c.split_at.result.1.now) c.rebuild-right_greatest.ensures.greatest)))
