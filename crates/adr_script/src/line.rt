@@ -4,7 +4,8 @@ ghost use Rattle.adr_script.specs.Begun.{Holds};
 
 use std::alloc::Global;
 
-pub(crate) const MAX_LINE: usize = 4_194_304;
+/// How many bytes a line has at most, without its end.
+pub const MAX_LINE: usize = 4_194_304;
 
 /// Why the bytes of a line aren't kept.
 #[derive(Clone, Copy, PartialEq, Eq)]

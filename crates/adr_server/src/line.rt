@@ -11,12 +11,11 @@ use crate::fields::{
 };
 use adr_object::{Edit, Id, Kind, Object, Shared};
 use adr_read::{read_event, read_program, read_resource, read_ven};
+use adr_script::MAX_LINE;
 use adr_time::{Moment, read_moment};
 use adr_value::{PayloadType, Refusal};
 use std::alloc::Global;
 use std::str;
-
-const MAX_LINE: usize = 4_194_304;
 
 fn moment_word(word: &[u8]) -> Result<Moment, Refusal>
     ensures { result ≡ moment_word word.now }
