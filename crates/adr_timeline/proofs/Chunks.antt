@@ -1,6 +1,7 @@
 -- Segments in chunks, and lists that are put at the end of others.
-use Rattle.std.proofs.Common.{◌≡◌, ℕ, zero, suc, ◌+◌, ◌-◌, ◌<◌, Bool, true, false, not, List, [], ◌∷◌, ◌++◌, length, slice_get, get_or, Option, Some, None, if◌then◌else◌, refl, sym, ◌∙◌, ap, subst, arith, ℤ, ◌≤ℤ◌, int_le, int_lt}
+use Rattle.std.proofs.Common.{◌≡◌, ℕ, zero, suc, ◌+◌, ◌-◌, ◌<◌, Bool, true, false, not, ◌&&◌, List, [], ◌∷◌, ◌++◌, length, slice_get, get_or, Option, Some, None, if◌then◌else◌, refl, sym, ◌∙◌, ap, subst, arith, ℤ, ◌≤ℤ◌, int_le, int_lt}
 use Rattle.std.specs.Int.{int_max, int_min}
+use Rattle.std.specs.Option.{option_map_or}
 use Rattle.std.proofs.lemmas.Int.{ints}
 use Rattle.std.proofs.lemmas.List.{append_assoc, append-nil}
 use Rattle.std.proofs.lemmas.Bool.{false≢true, and_parts, false_from_ne_true}
@@ -326,3 +327,55 @@ canonical_front a b k = linked_canonical a (linked_front a b (canonical_linked (
 
 pub canonical_back : (a b : List Segment) → IsCanonical (a ++ b) → IsCanonical b
 canonical_back a b k = linked_canonical b (linked_back a b (canonical_linked (a ++ b) k))
+
+-- ---- some chunks at once
+
+first_listed : (c : List Segment) (cs : List (List Segment)) (p : Segment) → first_of c ≡ Some p → first_of (listed (c ∷ cs)) ≡ Some p
+first_listed [] cs p h = absurd (cc)
+first_listed (s ∷ c) cs p h = h
+
+pub first_chunk : (chunks : List (List Segment)) (c : List Segment) (p : Segment) → slice_get chunks 0 ≡ Some c → first_of c ≡ Some p → first_of (listed chunks) ≡ Some p
+first_chunk [] c p h f = absurd (cc)
+first_chunk (d ∷ cs) c p h f = first_listed d cs p (rw (some_is d c h) f)
+  where
+    some_is : (x y : List Segment) → Some x ≡ Some y → x ≡ y
+    some_is x y k = cc
+
+-- chunks at the end of a line whose last segment does not lead to their first
+pub joined_chunks : (chunks : List (List Segment)) (c out : List Segment) (p : Segment) → IsCanonical (listed chunks) → slice_get chunks 0 ≡ Some c → first_of c ≡ Some p → goes_on out p ≡ false → joined_all out (listed chunks) ≡ out ++ listed chunks
+joined_chunks chunks c out p k h f apart = joined_whole (listed chunks) out p k (first_chunk chunks c p h f) apart
+
+pub last_of_all : (chunks : List (List Segment)) (c : List Segment) → slice_get chunks (length chunks - 1) ≡ Some c → 0 < length c → last_of (listed chunks) ≡ last_of c
+last_of_all chunks c h f = sym (ap last_of (append-nil (listed chunks))) ∙ last_chunk chunks c [] (omega arith) h f
+
+-- the chunks lie within as their first and their last do
+pub all_within : (chunks : List (List Segment)) (c d : List Segment) (p : Segment) (from : Option ℤ) (until : End) → slice_get chunks 0 ≡ Some c → first_of c ≡ Some p → slice_get chunks (length chunks - 1) ≡ Some d → 0 < length d
+    → is_within from until (listed chunks) ≡ (is_from from p.start && is_over_by d until)
+all_within chunks c d p from until h f k l = rw (first_chunk chunks c p h f) (ap (λ (b : Bool). is_from from p.start && b) (over until))
+  where
+    over : (u : End) → is_over_by (listed chunks) u ≡ is_over_by d u
+    over Endless = refl
+    over (At t) = ap (λ (s : Option Segment). not (option_map_or (λ x. is_before t x.end) s false)) (last_of_all chunks d k l)
+
+-- the first chunk, some whole ones and the rest, one after the other
+pub joined_runs : (chunks others whole rest : List (List Segment)) (first line one two three : List Segment) (from : Option ℤ) (until : End) → chunks ≡ first ∷ others → others ≡ whole ++ rest
+    → one ≡ joined_all line (part from until first) → two ≡ joined_all one (part from until (listed whole)) → three ≡ joined_all two (part from until (listed rest))
+    → three ≡ joined_all line (part from until (listed chunks))
+joined_runs chunks others whole rest first line one two three from until c o h k m =
+    rw (m, k, h)
+    (sym (joined_part_append (joined_all line (part from until first)) from until (listed whole) (listed rest))
+    ∙ (ap (λ (ss : List Segment). joined_all (joined_all line (part from until first)) (part from until ss)) (sym (listed_append whole rest) ∙ ap listed (sym o))
+    ∙ (sym (joined_part_append line from until first (listed others)) ∙ ap (λ (cs : List (List Segment)). joined_all line (part from until (listed cs))) (sym c))))
+
+-- a turn of the loop over whole chunks
+pub chunk_joined : (chunks rest : List (List Segment)) (chunk line new whole : List Segment) → chunks ≡ chunk ∷ rest → IsCanonical (listed chunks) → joined_all line (listed chunks) ≡ whole → new ≡ joined_all line chunk
+    → IsCanonical (listed rest) × (joined_all new (listed rest) ≡ whole)
+chunk_joined chunks rest chunk line new whole c k h n = (
+  canonical_rest chunk rest (rw c at k),
+  rw n (sym (joined_all_append line chunk (listed rest)) ∙ (sym (ap (λ (cs : List (List Segment)). joined_all line (listed cs)) c) ∙ h)),
+)
+
+pub whole_canonical : (others whole rest : List (List Segment)) → others ≡ whole ++ rest → IsCanonical (listed others) → IsCanonical (listed whole) × IsCanonical (listed rest)
+whole_canonical others whole rest o k =
+    let both : IsCanonical (listed whole ++ listed rest) = subst IsCanonical (ap listed o ∙ listed_append whole rest) k in
+    (canonical_front (listed whole) (listed rest) both, canonical_back (listed whole) (listed rest) both)

@@ -92,6 +92,18 @@ pub from_canonical : (from : Option ℤ) (cs : List (List Segment)) → IsCanoni
 from_canonical None cs k = k
 from_canonical (Some t) cs k = open_canonical t cs k
 
+open_filled : (t : ℤ) (cs : List (List Segment)) → AreFilled cs → AreFilled (open_chunks t cs)
+open_filled t [] h = tt
+open_filled t (c ∷ cs) h = either (lasts_past c t) (open_filled t cs h.1)
+  where
+    either : (b : Bool) → AreFilled (open_chunks t cs) → AreFilled (if b then c ∷ cs else open_chunks t cs)
+    either true rest = h
+    either false rest = rest
+
+pub from_filled : (from : Option ℤ) (cs : List (List Segment)) → AreFilled cs → AreFilled (chunks_from from cs)
+from_filled None cs h = h
+from_filled (Some t) cs h = open_filled t cs h
+
 -- what ends by the bound has no part from there on
 ended_gone : (f a : ℤ) (until e : End) → is_over e (At f) ≡ true → is_before (start_from (Some f) a) (earlier_end until e) ≡ false
 ended_gone f a (At u) (At v) h = grind (arith, ints)

@@ -256,6 +256,47 @@ impl Line {
         }
     }
 
+    /// Puts chunks at the end, one after the other, which stay shared as `join_chunk` has it.
+    fn join_each_chunk(&mut self, chunks: &[Chunk]) -> Result<(), AllocError>
+        requires { IsCanonical (listed chunks.now) }
+        ensures { OnOk result (self.new ≡ joined_all self.old (listed chunks.now)) }
+    {
+        let mut chunks = chunks;
+        while let Some((chunk, rest)) = chunks.split_first() {
+            self.join_chunk(chunk)?;
+            chunks = rest;
+        }
+        Ok(())
+    }
+
+    /// Puts chunks at the end, which stay shared where that is worth it.
+    fn add_chunks(&mut self, chunks: &[Chunk]) -> Result<(), AllocError>
+        ensures { OnOk result (self.new ≡ self.old ++ listed chunks.now) }
+    {
+        let mut chunks = chunks;
+        while let Some((chunk, rest)) = chunks.split_first() {
+            self.add_chunk(chunk)?;
+            chunks = rest;
+        }
+        Ok(())
+    }
+
+    /// Puts the segments of chunks at the end, which stay shared where nothing of the first goes on from what is there.
+    #[tactic(auto, using(crate::proofs::Chunks::joined_chunks))]
+    pub(crate) fn join_chunks(&mut self, chunks: &[Chunk]) -> Result<(), AllocError>
+        requires { IsCanonical (listed chunks.now) }
+        ensures { OnOk result (self.new ≡ joined_all self.old (listed chunks.now)) }
+    {
+        let Some(first) = chunks.first() else {
+            return Ok(());
+        };
+        if self.leads_to(&first.first()) {
+            self.join_each_chunk(chunks)
+        } else {
+            self.add_chunks(chunks)
+        }
+    }
+
     /// The chunks of the line.
     pub(crate) fn into_chunks(self) -> Result<Vec<Chunk>, AllocError>
         ensures listed { IfOk result (λ chunks. listed chunks.items ≡ self) }

@@ -1,5 +1,5 @@
 //! Parts of lists of segments, put together.
-ghost use Rattle.std.specs.Prelude.{◌≡◌, OnOk, IfOk, IsTrue, ℤ, if◌then◌else◌, None, []};
+ghost use Rattle.std.specs.Prelude.{◌≡◌, ◌≤◌, OnOk, IfOk, IsTrue, ℤ, if◌then◌else◌, None, [], length};
 ghost use Rattle.adr_time.specs.Spans.{covers};
 ghost use Rattle.adr_model.specs.Timeline.{shows, IsCanonical};
 ghost use Rattle.adr_timeline.specs.Chunks.{listed, AreFilled, chunks_from as from_chunk, is_from as is_start_from, is_over_by as is_ended_by, is_past as is_passed, is_within as lies_within, last_of, starts_late as is_late};
@@ -159,8 +159,8 @@ fn join_chunk(
     }
 }
 
-/// Puts the parts of chunks at the end of a line, up to the first that starts too late.
-fn join_chunks(
+/// Puts the parts of chunks at the end of a line, one after the other, up to the first that starts too late.
+fn join_each_chunk(
     line: &mut Line,
     chunks: &[Chunk],
     from: &Option<Moment>,
@@ -178,6 +178,70 @@ fn join_chunks(
         chunks = rest;
     }
     Ok(())
+}
+
+/// Whether the chunks lie from the moment on and before the end.
+fn are_within(chunks: &[Chunk], from: &Option<Moment>, until: &End) -> bool
+    ensures { result ≡ lies_within from.now until.now (listed chunks.now) }
+{
+    let (Some(first), Some(last)) = (chunks.first(), chunks.last()) else {
+        return true;
+    };
+    is_from(from, first.first().start()) && is_over_by(last.segments(), *until)
+}
+
+/// Puts the parts of chunks at the end of a line, which shares those that are worth it where they lie inside as a whole.
+#[tactic(auto, using(crate::proofs::Chunks::part_within))]
+fn join_whole(
+    line: &mut Line,
+    chunks: &[Chunk],
+    from: &Option<Moment>,
+    until: &End,
+) -> Result<(), AllocError>
+    requires { IsCanonical (listed chunks.now) }
+    ensures { OnOk result (line.new ≡ joined_all line.old (part from.now until.now (listed chunks.now))) }
+{
+    if are_within(chunks, from, until) {
+        line.join_chunks(chunks)
+    } else {
+        join_each_chunk(line, chunks, from, until)
+    }
+}
+
+/// How many of the chunks end by the end.
+fn count_over(chunks: &[Chunk], until: &End) -> usize
+    requires canonical { IsCanonical (listed chunks.now) }
+    requires filled { AreFilled chunks.now }
+    ensures { result ≤ length chunks.now }
+{
+    match until {
+        End::At(end) => chunks.len().saturating_sub(open_chunks(chunks, *end).len()),
+        End::Endless => chunks.len(),
+    }
+}
+
+/// Puts the parts of chunks at the end of a line: those between the first and the last that there is a part of lie inside as
+/// a whole, and are not looked into.
+fn join_chunks(
+    line: &mut Line,
+    chunks: &[Chunk],
+    from: &Option<Moment>,
+    until: &End,
+) -> Result<(), AllocError>
+    requires canonical { IsCanonical (listed chunks.now) }
+    requires filled { AreFilled chunks.now }
+    ensures { OnOk result (line.new ≡ joined_all line.old (part from.now until.now (listed chunks.now))) }
+{
+    let Some((first, others)) = chunks.split_first() else {
+        return Ok(());
+    };
+    if starts_late(first.segments(), until) {
+        return Ok(());
+    }
+    join_chunk(line, first, from, until)?;
+    let (whole, rest) = others.split_at(count_over(others, until));
+    join_whole(line, whole, from, until)?;
+    join_each_chunk(line, rest, from, until)
 }
 
 /// The chunks from the first on that does not end by the bound.

@@ -243,7 +243,7 @@ impl Timeline {
 
     /// What the inner timeline shows inside the windows, and this one outside: one repair for all windows of an edit.
     /// [`are_apart`](crate::are_apart) tests windows. `NoMemory` where there is no room. Cost: that of a table of the
-    /// chunks, of two searches for each window, and of the segments of those chunks that the windows reach into; the other
+    /// chunks, of three searches for each window, and of the segments of those chunks that the windows reach into; the other
     /// chunks are shared, but for small ones beside those.
     pub fn splice_all(&self, windows: &[Span], inner: &Timeline) -> Result<Timeline, Refusal>
         requires { IsTrue (are_apart windows.now) }
