@@ -2,6 +2,7 @@ pub mod Costs
 pub mod Edited
 pub mod Eventless
 pub mod Joining
+pub mod Laid
 pub mod LastKind
 pub mod Made
 pub mod Room

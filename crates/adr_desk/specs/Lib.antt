@@ -1,3 +1,4 @@
 pub mod Desk
 pub mod Edited
+pub mod Ranks
 pub mod Room

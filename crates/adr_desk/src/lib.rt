@@ -9,6 +9,7 @@ mod kinds;
 mod laws;
 mod make;
 mod making;
+mod ranks;
 mod receipt;
 mod side;
 

@@ -20,6 +20,7 @@ ghost use Rattle.adr_desk.specs.Edited.{come_of, gone_of, is_of_event, with_come
 
 use crate::events::{joining, leaving};
 use crate::laws::edits_have_room;
+use crate::ranks::NewestRanks;
 use crate::side::{come_side, gone_side};
 use adr_audience::Audiences;
 use adr_book::{Book, Judged};
@@ -93,13 +94,32 @@ fn regrouped<C: Fn(&Indexes, &[Job]) -> Result<Vec<Done>, Refusal>>(
     right_moves();
     let joining = joining(alloc, keys, book, edit)?;
     let leaving = leaving(alloc, keys, book, edit)?;
-    let mid = schedule.shifted(alloc, indexes, crew, joining.as_slice(), change, meter)?;
+    let newest = NewestRanks::of(book);
+    let ranks = newest.under(tie);
+    let mid = schedule.shifted(
+        alloc,
+        indexes,
+        crew,
+        joining.as_slice(),
+        change,
+        ranks,
+        meter,
+    )?;
     if leaving.as_slice() == joining.as_slice() {
         return Ok(mid);
     }
     let gone = gone_side(alloc, tie, book, edit)?;
     let alone = Change { gone, come: None };
-    let after = mid.shifted(alloc, indexes, crew, leaving.as_slice(), &alone, meter)?;
+    let no_ranks: Option<&NewestRanks> = None;
+    let after = mid.shifted(
+        alloc,
+        indexes,
+        crew,
+        leaving.as_slice(),
+        &alone,
+        no_ranks,
+        meter,
+    )?;
     Ok(after)
 }
 

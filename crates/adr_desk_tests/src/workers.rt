@@ -32,7 +32,7 @@ change program p1 {"programName":"P"}
 delete event e2 -"#;
 
 /// How many lines go before one whose edit has two jobs or more: of an event, of a ven, of a resource and of a program.
-const MEETINGS: [usize; 4] = [5, 10, 11, 12];
+const MEETINGS: [usize; 4] = [7, 10, 11, 12];
 
 /// Who governs at an instant.
 fn winner(line: Option<&Timeline>, at: Moment) -> Option<(u64, u32)> {

@@ -2,6 +2,7 @@ pub mod Crossing
 pub mod Gathered
 pub mod Halves
 pub mod Jobs
+pub mod Joining
 pub mod Listed
 pub mod Numbers
 pub mod Possible

@@ -33,7 +33,7 @@ one_win : (indexes : Indexes) (writes : List ℕ) (a b : PayloadType) (t : ℤ) 
 one_win indexes writes a b t same =
     ap (λ (n : List ℕ). winner_at (written_in writes (option_map_or (λ i. i.entries) (get_by_text indexes.by_name n) [])) t) (one_name a b same)
 
-one_shown : (lines : List (List ℕ × List Segment)) (a b : PayloadType) (t : ℤ) → same_type a b ≡ true → shown_in lines a t ≡ shown_in lines b t
+pub one_shown : (lines : List (List ℕ × List Segment)) (a b : PayloadType) (t : ℤ) → same_type a b ≡ true → shown_in lines a t ≡ shown_in lines b t
 one_shown lines a b t same = ap (λ (n : List ℕ). option_map_or (λ line. shows line t) (lookup n lines) None) (one_name a b same)
 
 -- one type is repaired

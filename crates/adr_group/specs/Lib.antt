@@ -1,5 +1,6 @@
 pub mod Group
 pub mod Jobs
+pub mod Laid
 pub mod Repair
 pub mod Room
 pub mod Writes

@@ -1,5 +1,5 @@
 //! The timelines of resources to which the same events apply.
-ghost use Rattle.std.specs.Prelude.{◌≡◌, ◌≢◌, ◌+◌, ◌++◌, ◌<◌, ◌≤◌, ◌^◌, ℤ, List, [], None, length, option_map, slice_get, IfOk, IfSome, if◌then◌else◌};
+ghost use Rattle.std.specs.Prelude.{◌≡◌, ◌≢◌, ◌+◌, ◌*◌, ◌++◌, ◌<◌, ◌≤◌, ◌^◌, ℕ, ℤ, true, false, List, [], None, Some, Ok, length, option_map, slice_get, IfOk, IfSome, if◌then◌else◌};
 ghost use Rattle.std.specs.List.{AllZip};
 ghost use Rattle.std.specs.Option.{option_copied, option_map_or};
 ghost use Rattle.adr_value.specs.Answer.{OnlyNoMemory};
@@ -12,15 +12,19 @@ ghost use Rattle.adr_model.specs.declared.written.Written.{Written};
 ghost use Rattle.adr_model.specs.Governor.{winner_at};
 ghost use Rattle.adr_model.specs.Timeline.{shows, IsCanonical};
 ghost use Rattle.adr_stretch.specs.Grouped.{any_covers_at, entries_under};
-ghost use Rattle.adr_stretch.specs.Right.{written_in};
+ghost use Rattle.adr_stretch.specs.Counted.{entries_in_groups};
+ghost use Rattle.adr_stretch.specs.Right.{has_number, written_in};
 ghost use Rattle.adr_lines.specs.declared.indexes.Indexes.{Indexes as AllIndexes};
 ghost use Rattle.adr_lines.specs.Exchange.{IsIndexOf};
 ghost use Rattle.adr_lines.specs.Indexes.{under};
 ghost use Rattle.adr_group.specs.Group.{shown_in, AgreeOutside, AllShow, AreWindowsOf, IsRightOf};
 ghost use Rattle.adr_group.specs.Jobs.{jobs_for, IsDone};
+ghost use Rattle.adr_group.specs.Laid.{are_runs, IsComing};
 ghost use Rattle.adr_group.specs.Repair.{most_repaired};
+ghost use Rattle.adr_group.specs.Writes.{changed_number};
 
 use crate::job::Done;
+use crate::laid::{all_laid, all_met};
 use crate::repair::{repaired, together};
 use crate::timelines::Timelines;
 use crate::writes::Writes;
@@ -28,7 +32,7 @@ use adr_lines::Indexes;
 use adr_rule::Meter;
 use adr_shared::Shared;
 use adr_stretch::TypeEntries;
-use adr_timeline::Timeline;
+use adr_timeline::{Ranks, Timeline};
 use adr_value::{PayloadType, Refusal, TryClone};
 use std::alloc::Global;
 use std::marker::Model;
@@ -169,6 +173,36 @@ impl Group {
         let lines = together(alloc, &self.lines, windows, done)?;
         let writes = writes.copy()?;
         Ok(Group { writes, lines })
+    }
+
+    /// The group of those writes, which an event joins: its entries are laid over the timelines, and compete with what is
+    /// shown by the ranks of its winners. If this group is right of the events that are indexed, then the new one is. None
+    /// where under some type the entries don't come in turn, or meet more than twice as many segments as they are: then
+    /// nothing was compared. `NoMemory` where there is no room.
+    ///
+    /// Cost: for each type a search of its timeline for each entry, a rank for each segment that is met, and one splice.
+    pub fn laid<R: Ranks>(
+        &self,
+        alloc: Global,
+        writes: &Shared<Writes>,
+        entries: &[TypeEntries],
+        ranks: &R,
+        meter: &mut Meter,
+    ) -> Result<Option<Group>, Refusal>
+        requires room { are_runs entries.now ≡ true → meter.old + 3 * entries_in_groups entries.now < 2 ^ 128 }
+        ensures writes { IfOk result (λ made. IfSome made (λ group. group.writes ≡ writes.now)) }
+        ensures right { IfOk result (λ made. IfSome made (λ group. (indexes : AllIndexes) (number : ℕ) → IsComing indexes (R.rank ranks.now) number entries.now → has_number self.now.writes number ≡ false → ((n : ℕ) → has_number writes.now n ≡ changed_number None (Some number) self.now.writes n) → (tie : Tie) (events : List Written) → IsIndexOf tie events indexes → IsRightOf tie events self.now → IsRightOf tie events group)) }
+        ensures runs { IfOk result (λ made. IfSome made (λ group. are_runs entries.now ≡ true)) }
+        ensures compared { meter.new ≤ meter.old + 3 * entries_in_groups entries.now }
+        ensures none { result ≡ Ok None → meter.new ≡ meter.old }
+        ensures memory { OnlyNoMemory result }
+    {
+        let Some(met) = all_met(alloc, &self.lines, entries)? else {
+            return Ok(None);
+        };
+        let lines = all_laid(alloc, &self.lines, entries, &met, ranks, meter)?;
+        let writes = writes.copy()?;
+        Ok(Some(Group { writes, lines }))
     }
 }
 

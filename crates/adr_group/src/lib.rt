@@ -3,6 +3,7 @@
 
 mod group;
 mod job;
+mod laid;
 mod laws;
 mod line;
 mod repair;

@@ -9,7 +9,7 @@ use crate::random::below;
 use adr_model::{Entry, Rank, Segment, Winner};
 use adr_rule::Meter;
 use adr_time::{End, Moment, Span, covers};
-use adr_timeline::{Chunk, PackedSegment, Ranks, Source, Timeline, are_apart, first_run};
+use adr_timeline::{Chunk, PackedSegment, Ranks, Source, Timeline, are_apart, first_run, is_run};
 use adr_value::Refusal;
 use std::alloc::Global;
 use std::test::Fail;
@@ -147,7 +147,29 @@ fn random_span(seed: &mut u64, instants: u32, longest: u32) -> Span {
     }
 }
 
-/// So many entries, of few intervals, so that neighbours often are one interval's.
+/// One of few intervals, so that neighbours often are one interval's.
+fn random_winner(seed: &mut u64) -> Winner {
+    Winner {
+        written: u64::from(below(seed, 9)),
+        place: below(seed, 3),
+    }
+}
+
+/// An entry in each of the windows.
+fn entries_in(alloc: Global, seed: &mut u64, windows: &[Span]) -> Result<Vec<Entry>, Refusal> {
+    let mut entries = Vec::new(alloc);
+    for window in windows {
+        let winner = random_winner(seed);
+        let entry = Entry {
+            rank: rank_of(winner),
+            span: *window,
+        };
+        entries.push(entry)?;
+    }
+    Ok(entries)
+}
+
+/// So many entries.
 fn random_entries(
     alloc: Global,
     seed: &mut u64,
@@ -157,10 +179,7 @@ fn random_entries(
 ) -> Result<Vec<Entry>, Refusal> {
     let mut entries = Vec::new(alloc);
     for _ in 0..count {
-        let winner = Winner {
-            written: u64::from(below(seed, 9)),
-            place: below(seed, 3),
-        };
+        let winner = random_winner(seed);
         let entry = Entry {
             rank: rank_of(winner),
             span: random_span(seed, instants, longest),
@@ -246,6 +265,19 @@ fn built_all(alloc: Global, entries: &[Entry], windows: &[Span]) -> Result<Timel
     Timeline::build_all(alloc, &source, windows, &mut meter)
 }
 
+/// The timeline with entries that come in turn laid over what they meet of it, or a copy where that is too much.
+fn run_laid(timeline: &Timeline, run: &[Entry]) -> Result<Timeline, Refusal> {
+    let mut meter = Meter::new();
+    if run.len() > MOST || !is_run(run) {
+        return timeline.copy();
+    }
+    let met = timeline.met(run)?;
+    if !met.has_at_most(MOST) {
+        return timeline.copy();
+    }
+    timeline.lay_run(&met, run, &Named, &mut meter)
+}
+
 /// The timeline with the entries laid over it, or a copy where there are too many.
 fn laid(timeline: &Timeline, entries: &[Entry]) -> Result<Timeline, Refusal> {
     let mut meter = Meter::new();
@@ -315,7 +347,7 @@ fn repaired(
 ) -> Result<Timeline, Refusal> {
     let count = below(seed, scale.entries);
     let entries = random_entries(alloc, seed, count, scale.instants, scale.longest)?;
-    match below(seed, 3) {
+    match below(seed, 4) {
         0 => {
             let windows = [random_span(seed, scale.instants, scale.instants)];
             repair_one(alloc, timeline, shown, &windows, &entries)
@@ -325,9 +357,16 @@ fn repaired(
             let (run, _) = windows.split_at(first_run(&windows));
             repair_all(alloc, timeline, shown, run, &entries)
         }
-        _ => {
+        2 => {
             lay_plainly(shown, &entries);
             laid(timeline, &entries)
+        }
+        _ => {
+            let windows = random_windows(alloc, seed, scale.instants / 2)?;
+            let (run, _) = windows.split_at(first_run(&windows));
+            let entries = entries_in(alloc, seed, run)?;
+            lay_plainly(shown, &entries);
+            run_laid(timeline, &entries)
         }
     }
 }

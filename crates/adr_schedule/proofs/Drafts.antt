@@ -23,7 +23,7 @@ use Rattle.adr_schedule.specs.declared.change.Change.{Change}
 use Rattle.adr_schedule.specs.declared.change.Side.{Side}
 use Rattle.adr_schedule.specs.declared.draft.Draft.{Draft}
 use Rattle.adr_schedule.specs.declared.draft.Windows.{Windows}
-use Rattle.adr_schedule.specs.Draft.{jobs_of, most_drafted, AreDraftsIn, AreMadeOf, AreMadeSoFar, AreSeen, AreWindowsFor, IsDraftOf, IsMadeOf, IsSame, IsSeen}
+use Rattle.adr_schedule.specs.Draft.{jobs_of, most_drafted, AreDraftsIn, AreDraftsOf, AreMadeOf, AreMadeSoFar, AreSeen, AreWindowsFor, IsDraftOf, IsMadeOf, IsSame, IsSeen}
 use Rattle.adr_schedule.specs.Moves.{asked_at, is_among, AreMadeFor}
 use Rattle.adr_schedule.specs.Shift.{entries_in, kept_side, most_shifted, sides_for, sides_of, AreTwo, Becomes}
 use Rattle.adr_schedule.specs.Slots.{in_slot, value_at}
@@ -60,7 +60,7 @@ module _ (change : Change) (writes : List ℕ) where
   for_gone : (s : Side) → kept_side true writes change.gone ≡ Some s → kept_side false writes change.come ≡ None → entries_in change.gone ≡ sides_for change writes
   for_gone s gone come = ap entries_in (kept_is true writes change.gone s gone) ∙ sym (append-nil (entries_in (Some s))) ∙ sym (rw (gone, come) refl)
 
-  for_come : (s : Side) → kept_side true writes change.gone ≡ None → kept_side false writes change.come ≡ Some s → entries_in change.come ≡ sides_for change writes
+  pub for_come : (s : Side) → kept_side true writes change.gone ≡ None → kept_side false writes change.come ≡ Some s → entries_in change.come ≡ sides_for change writes
   for_come s gone come = ap entries_in (kept_is false writes change.come s come) ∙ sym (rw (gone, come) refl)
 
   for_both : (s r : Side) → kept_side true writes change.gone ≡ Some s → kept_side false writes change.come ≡ Some r → entries_in change.gone ++ entries_in change.come ≡ sides_for change writes
@@ -132,13 +132,6 @@ pub long_done : {X D : Type 0} (R : X → D → Type 0) (xs ys : List X) (done :
 long_done R [] ys done h = omega arith
 long_done R (x ∷ xs) ys [] h = absurd h
 long_done R (x ∷ xs) ys (d ∷ done) h = let r = long_done R xs ys done h.1 in omega (arith, r)
-
-pub none_made : (indexes : Indexes) (drafts : List Draft) (made : List (List ℕ × Lines)) → made ≡ [] → AreMadeSoFar indexes drafts drafts made
-none_made indexes drafts made none = record {
-  of = λ s h k. absurd (none_is_some h (subst (λ z. in_slot z s ≡ Some h) none k));
-  has = λ d m. inl m;
-  left = λ d m. m;
-}
 
 -- one more is made
 pub one_made : (indexes : Indexes) (drafts rest more : List Draft) (d : Draft) (made after : List (List ℕ × Lines)) (h : Lines)
@@ -250,6 +243,14 @@ module _ (change : Change) (groups : List (List ℕ × Lines)) where
         by (inr same) =
             let one : group ≡ g = some_same group g (sym here ∙ subst (λ z. in_slot groups z ≡ Some g) (ap (λ (x : Draft). x.slot) (sym same) ∙ own) at) in
             subst (λ z. IsDraftOf change g z) same (subst (λ x. IsDraftOf change x draft) one of)
+
+    -- and each is of the group that it has
+    pub add_own : AreDraftsOf change list → AreDraftsOf change new
+    add_own before d m = by (in_either d draft list (subst (λ l. In d l) pushed m))
+      where
+        by : In d list ⊎ (draft ≡ d) → IsDraftOf change d.group d
+        by (inl old) = before d old
+        by (inr same) = subst (λ (x : Draft). IsDraftOf change x.group x) same (subst (λ g. IsDraftOf change g draft) (sym of.group) of)
 
     pub add_grows : (d : Draft) → In d list → In d new
     add_grows d m = subst (λ l. In d l) (sym pushed) (in_before d list (draft ∷ []) m)

@@ -41,6 +41,10 @@ IsDraftIn change groups draft = (g : Lines) → in_slot groups draft.slot ≡ So
 abbrev pub AreDraftsIn : Change → List (List ℕ × Lines) → List Draft → Type 0
 AreDraftsIn change groups drafts = (d : Draft) → In d drafts → IsDraftIn change groups d
 
+-- each draft is of the group that it has
+abbrev pub AreDraftsOf : Change → List Draft → Type 0
+AreDraftsOf change drafts = (d : Draft) → In d drafts → IsDraftOf change d.group d
+
 -- the change makes no difference to the group in the slot, or there is a draft of it
 abbrev pub IsSeen : Change → List (List ℕ × Lines) → List Draft → ℕ → Type 0
 IsSeen change groups drafts slot = (g : Lines) → in_slot groups slot ≡ Some g → IsSame change g ⊎ ((d : Draft) × In d drafts × (d.slot ≡ slot))

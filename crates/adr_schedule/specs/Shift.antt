@@ -1,7 +1,9 @@
 -- What becomes of a group where an event goes or comes.
 use Rattle.std.specs.Prelude.{◌≡◌, ◌⊎◌, ℕ, Bool, true, false, List, [], ◌++◌, map, filter, Option, Some, None, option_map, option_to_list, if◌then◌else◌}
 use Rattle.adr_value.specs.declared.payload.PayloadType.{PayloadType}
+use Rattle.adr_model.specs.declared.entry.Rank.{Rank}
 use Rattle.adr_model.specs.declared.entry.Tie.{Tie}
+use Rattle.adr_model.specs.declared.timeline.Winner.{Winner}
 use Rattle.adr_model.specs.declared.written.Written.{Written}
 use Rattle.adr_model.specs.Governor.{entries_of}
 use Rattle.adr_model.specs.Lists.{In}
@@ -12,6 +14,7 @@ use Rattle.adr_stretch.specs.declared.grouped.TypeEntries.{TypeEntries}
 use Rattle.adr_stretch.specs.Grouped.{entries_under}
 use Rattle.adr_stretch.specs.Right.{has_number}
 use Rattle.adr_group.specs.Group.{Lines, IsRightOf}
+use Rattle.adr_group.specs.Laid.{IsComing}
 pub use Rattle.adr_group.specs.Repair.{most_possible}
 use Rattle.adr_group.specs.Repair.{most_repaired}
 use Rattle.adr_group.specs.Writes.{is_number, stays}
@@ -46,6 +49,10 @@ kept_side false writes (Some s) = if has_number writes s.written then None else 
 abbrev pub entries_in : Option Side → List TypeEntries
 entries_in None = []
 entries_in (Some s) = s.entries.items
+
+-- the indexes have the entries of the event that comes, and the ranks are those of all others
+abbrev pub IsLaidBy : Option (Winner → Rank) → Indexes → Change → Type 0
+IsLaidBy ranks indexes change = (rank : Winner → Rank) (side : Side) → ranks ≡ Some rank → change.come ≡ Some side → IsComing indexes rank side.written side.entries.items
 
 -- one number goes and one comes, and the group is right still
 pub record Becomes (change : Change) (indexes : Indexes) (g h : Lines) : Type 0 where

@@ -6,7 +6,7 @@ ghost use Rattle.adr_model.specs.Lists.{In};
 ghost use Rattle.adr_lines.specs.declared.indexes.Indexes.{Indexes as AllIndexes};
 ghost use Rattle.adr_group.specs.Jobs.{AreAlike};
 ghost use Rattle.adr_schedule.specs.declared.draft.Draft.{Draft as AnyDraft};
-ghost use Rattle.adr_schedule.specs.Draft.{most_drafted, AreDraftsIn, AreSeen, AreWindowsFor, IsDraftIn, IsDraftOf, IsSame, IsSeen};
+ghost use Rattle.adr_schedule.specs.Draft.{most_drafted, AreDraftsIn, AreDraftsOf, AreSeen, AreWindowsFor, IsDraftOf, IsSame, IsSeen};
 ghost use Rattle.adr_schedule.specs.Moves.{asked_at, is_among};
 ghost use Rattle.adr_schedule.specs.Shift.{entries_in, kept_side, most_shifted, number_in, sides_for, AreTwo};
 ghost use Rattle.adr_schedule.specs.Slots.{in_slot};
@@ -38,7 +38,7 @@ pub(crate) struct Windows {
 }
 
 /// The event that goes, where it is one of the writes.
-fn leaving<'a>(writes: &Writes, side: &'a Option<Side>) -> Option<&'a Side>
+pub(crate) fn leaving<'a>(writes: &Writes, side: &'a Option<Side>) -> Option<&'a Side>
     ensures { option_copied result ≡ kept_side true writes.now side.now }
 {
     match side {
@@ -48,7 +48,7 @@ fn leaving<'a>(writes: &Writes, side: &'a Option<Side>) -> Option<&'a Side>
 }
 
 /// The event that comes, where it is not yet one of the writes.
-fn joining<'a>(writes: &Writes, side: &'a Option<Side>) -> Option<&'a Side>
+pub(crate) fn joining<'a>(writes: &Writes, side: &'a Option<Side>) -> Option<&'a Side>
     ensures { option_copied result ≡ kept_side false writes.now side.now }
 {
     match side {
@@ -189,6 +189,7 @@ fn add(
     requires two { AreTwo change.now }
     requires drafts { AreDraftsIn change.now groups.now list.old.items }
     ensures drafts { OnOk result (AreDraftsIn change.now groups.now list.new.items) }
+    ensures own { OnOk result (AreDraftsOf change.now list.old.items → AreDraftsOf change.now list.new.items) }
     ensures grows { OnOk result ((d : AnyDraft) → In d list.old.items → In d list.new.items) }
     ensures seen { OnOk result (IsSeen change.now groups.now list.new.items slot) }
     ensures least { OnOk result ((indexes : AllIndexes) → most_drafted indexes list.new.items ≤ most_drafted indexes list.old.items + option_map_or (most_shifted change.now indexes) (in_slot groups.now slot) 0) }
@@ -218,6 +219,7 @@ fn add_place(
     requires drafts { AreDraftsIn change.now groups.now drafts.old.list.items }
     requires known { AreSeen change.now groups.now drafts.old.list.items drafts.old.seen }
     ensures drafts { OnOk result (AreDraftsIn change.now groups.now drafts.new.list.items) }
+    ensures own { OnOk result (AreDraftsOf change.now drafts.old.list.items → AreDraftsOf change.now drafts.new.list.items) }
     ensures known { OnOk result (AreSeen change.now groups.now drafts.new.list.items drafts.new.seen) }
     ensures grows { OnOk result ((d : AnyDraft) → In d drafts.old.list.items → In d drafts.new.list.items) }
     ensures seen { OnOk result ((slot : ℕ) → slice_get seats.now place ≡ Some slot → IsSeen change.now groups.now drafts.new.list.items slot) }
@@ -248,6 +250,7 @@ pub(crate) fn drafts_of(
     requires windows { AreWindowsFor change.now windows.now }
     requires two { AreTwo change.now }
     ensures drafts { IfOk result (λ list. AreDraftsIn change.now groups.now list.items) }
+    ensures own { IfOk result (λ list. AreDraftsOf change.now list.items) }
     ensures seen { IfOk result (λ list. (place slot : ℕ) → is_among places.now place ≡ true → slice_get seats.now place ≡ Some slot → IsSeen change.now groups.now list.items slot) }
     ensures least { IfOk result (λ list. (indexes : AllIndexes) → most_drafted indexes list.items ≤ sum_by (asked_at (most_shifted change.now indexes) seats.now groups.now) places.now) }
     ensures refusal { OnlyNoMemory result }

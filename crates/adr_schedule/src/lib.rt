@@ -4,6 +4,7 @@
 mod change;
 mod draft;
 mod gathered;
+mod laying;
 mod made;
 mod moves;
 mod place;

@@ -1,12 +1,13 @@
 //! The groups that are made of drafts.
-ghost use Rattle.std.specs.Prelude.{◌≡◌, ◌≤◌, ◌<◌, ◌+◌, ◌++◌, ◌∷◌, ◌^◌, [], flat_map, sum_by, IfOk, OnOk};
+ghost use Rattle.std.specs.Prelude.{◌≡◌, ◌≤◌, ◌<◌, ◌+◌, ◌++◌, ◌∷◌, ◌^◌, List, [], flat_map, sum_by, IfOk, OnOk};
 ghost use Rattle.std.specs.List.{AllZip};
 ghost use Rattle.adr_value.specs.Answer.{OnlyNoMemory};
 ghost use Rattle.adr_shared.specs.Map.{put};
 ghost use Rattle.adr_lines.specs.declared.indexes.Indexes.{Indexes as AllIndexes};
 ghost use Rattle.adr_group.specs.Jobs.{most_done, AreDone, IsCrew, IsDone};
 ghost use Rattle.adr_group.specs.Repair.{most_repaired};
-ghost use Rattle.adr_schedule.specs.Draft.{jobs_of as the_jobs_of, most_drafted, AreMadeOf, IsMadeOf};
+ghost use Rattle.adr_schedule.specs.declared.draft.Draft.{Draft as AnyDraft};
+ghost use Rattle.adr_schedule.specs.Draft.{jobs_of as the_jobs_of, most_drafted, AreMadeOf, AreMadeSoFar, IsMadeOf};
 
 use crate::draft::Draft;
 use adr_group::{Done, Group, Job};
@@ -56,8 +57,8 @@ fn count(meter: &mut Meter, done: &[Done])
 }
 
 /// Groups that were made, each in its slot.
-struct Made {
-    groups: SharedMap<u64, Group>,
+pub(crate) struct Made {
+    pub(crate) groups: SharedMap<u64, Group>,
 }
 
 // A function of its own, so that callers that let a value go need not look into it.
@@ -69,8 +70,17 @@ impl Drop for Made {
 }
 
 impl Made {
+    /// No group.
+    pub(crate) fn new() -> Made
+        ensures { result.groups ≡ [] }
+    {
+        Made {
+            groups: SharedMap::new(),
+        }
+    }
+
     /// The same with this group in the slot.
-    fn with(&self, alloc: Global, slot: u64, group: Group) -> Result<Made, Refusal>
+    pub(crate) fn with(&self, alloc: Global, slot: u64, group: Group) -> Result<Made, Refusal>
         ensures groups { IfOk result (λ made. made.groups ≡ put (slot ∷ []) group self.now.groups) }
         ensures refusal { OnlyNoMemory result }
     {
@@ -89,14 +99,12 @@ fn made_of(alloc: Global, draft: &Draft, done: &[Done]) -> Result<Group, Refusal
     Ok(made)
 }
 
-/// The groups of the drafts, each in its slot, of what was built for them.
-fn made_each(alloc: Global, drafts: &[Draft], done: &[Done]) -> Result<Made, Refusal>
-    ensures made { IfOk result (λ made. (indexes : AllIndexes) → AllZip (IsDone indexes) (flat_map the_jobs_of drafts.now) done.now → AreMadeOf indexes drafts.now made.groups) }
+/// The groups of the drafts, each in its slot, of what was built for them, beside those that were made before.
+fn made_each(alloc: Global, before: Made, drafts: &[Draft], done: &[Done]) -> Result<Made, Refusal>
+    ensures made { IfOk result (λ made. (indexes : AllIndexes) (all : List AnyDraft) → AllZip (IsDone indexes) (flat_map the_jobs_of drafts.now) done.now → AreMadeSoFar indexes all drafts.now before.groups → AreMadeOf indexes all made.groups) }
     ensures refusal { OnlyNoMemory result }
 {
-    let mut made = Made {
-        groups: SharedMap::new(),
-    };
+    let mut made = before;
     let mut left = done;
     let mut rest = drafts;
     'rest: while let Some((draft, more)) = rest.split_first() {
@@ -150,24 +158,26 @@ pub(crate) fn one_made_by<C: Fn(&Indexes, &[Job]) -> Result<Vec<Done>, Refusal>>
     Ok(made)
 }
 
-/// The groups of the drafts, each in its slot: the crew does their jobs. `NoMemory` where there is no room.
+/// The groups of all drafts, each in its slot: some were made before, and the crew does the jobs of those that are left.
+/// `NoMemory` where there is no room.
 pub(crate) fn made_by<C: Fn(&Indexes, &[Job]) -> Result<Vec<Done>, Refusal>>(
     alloc: Global,
     indexes: &Indexes,
     crew: &C,
-    drafts: &[Draft],
+    before: Made,
+    left: &[Draft],
     meter: &mut Meter,
 ) -> Result<SharedMap<u64, Group>, Refusal>
-    requires room { meter.old + most_drafted indexes.now drafts.now < 2 ^ 128 }
+    requires room { meter.old + most_drafted indexes.now left.now < 2 ^ 128 }
     requires crew { IsCrew (λ v. v.items) (C.pre crew.now) (C.post crew.now) }
-    ensures made { IfOk result (AreMadeOf indexes.now drafts.now) }
-    ensures compared { meter.new ≤ meter.old + most_drafted indexes.now drafts.now }
+    ensures made { IfOk result (λ made. (all : List AnyDraft) → AreMadeSoFar indexes.now all left.now before.groups → AreMadeOf indexes.now all made) }
+    ensures compared { meter.new ≤ meter.old + most_drafted indexes.now left.now }
     ensures refusal { OnlyNoMemory result }
 {
-    let jobs = jobs_of(alloc, drafts)?;
+    let jobs = jobs_of(alloc, left)?;
     let done = done_by(indexes, crew, jobs.as_slice())?;
     count(meter, done.as_slice());
-    let made = made_each(alloc, drafts, done.as_slice())?;
+    let made = made_each(alloc, before, left, done.as_slice())?;
     let groups = made.groups.copy()?;
     Ok(groups)
 }

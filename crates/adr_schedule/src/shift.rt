@@ -1,11 +1,12 @@
 //! An event goes and another comes, for some places: first what becomes of their groups is made, then the places move.
 ghost use Rattle.std.specs.Prelude.{◌≡◌, ◌<◌, ◌≤◌, ◌+◌, ◌*◌, ◌^◌, ◌∷◌, [], ℕ, List, false, Some, None, length, slice_get, sum_by, IfOk, OnOk};
+ghost use Rattle.std.specs.Option.{option_copied, option_map};
 ghost use Rattle.adr_value.specs.Answer.{OnlyNoMemory};
 ghost use Rattle.adr_group.specs.Group.{Lines};
 ghost use Rattle.adr_group.specs.Jobs.{IsCrew};
 ghost use Rattle.adr_schedule.specs.Moves.{is_among, AreMadeFor, AreMoving, HasMoved, IsMadeAt, IsNext, KeepsUnknown};
 ghost use Rattle.adr_schedule.specs.declared.change.Change.{Change as AnyChange};
-ghost use Rattle.adr_schedule.specs.Shift.{most_at, most_possible, number_in, sides_of, AreSidesOf, AreTwo, Becomes};
+ghost use Rattle.adr_schedule.specs.Shift.{most_at, most_possible, number_in, sides_of, AreSidesOf, AreTwo, Becomes, IsLaidBy};
 ghost use Rattle.adr_shared.specs.Map.{put};
 ghost use Rattle.adr_schedule.specs.Slots.{in_slot, is_taken, AreSeated};
 ghost use Rattle.adr_schedule.specs.Seating.{AreRight, IsShifted};
@@ -16,6 +17,7 @@ ghost use Rattle.adr_lines.specs.Exchange.{IsIndexOf};
 
 use crate::change::Change;
 use crate::draft::{drafts_of, windows_of};
+use crate::laying::{Laid, laid_over};
 use crate::made::made_by;
 use crate::moves::{Moves, sit};
 use crate::schedule::Schedule;
@@ -24,6 +26,7 @@ use adr_lines::Indexes;
 use adr_rule::Meter;
 use adr_seats::Seats;
 use adr_shared::SharedMap;
+use adr_timeline::Ranks;
 use adr_value::Refusal;
 use std::alloc::Global;
 
@@ -134,17 +137,20 @@ fn move_all(
 }
 
 impl Schedule {
-    /// What becomes of the groups of the places that the change touches, each in its slot: the crew does their jobs.
-    fn made_for<C: Fn(&Indexes, &[Job]) -> Result<Vec<Done>, Refusal>>(
+    /// What becomes of the groups of the places that the change touches, each in its slot: the event that comes is laid
+    /// over those to which it only comes, and the crew does the jobs of the others.
+    fn made_for<C: Fn(&Indexes, &[Job]) -> Result<Vec<Done>, Refusal>, R: Ranks>(
         &self,
         alloc: Global,
         indexes: &Indexes,
         crew: &C,
         places: &[usize],
         change: &Change,
+        ranks: Option<&R>,
         meter: &mut Meter,
     ) -> Result<SharedMap<u64, Group>, Refusal>
         requires two { AreTwo change.now }
+        requires laid { IsLaidBy (option_map R.rank (option_copied ranks)) indexes.now change.now }
         requires crew { IsCrew (λ v. v.items) (C.pre crew.now) (C.post crew.now) }
         requires room { meter.old + length places.now * most_possible (sides_of change.now) indexes.now < 2 ^ 128 }
         ensures made { IfOk result (AreMadeFor (Becomes change.now indexes.now) places.now self.now.seats self.now.groups) }
@@ -154,26 +160,35 @@ impl Schedule {
     {
         let windows = windows_of(alloc, change)?;
         let drafts = drafts_of(alloc, &self.seats, &self.groups, places, change, &windows)?;
-        let made = made_by(alloc, indexes, crew, drafts.as_slice(), meter)?;
+        let laid = laid_over(alloc, change, ranks, drafts, meter)?;
+        let Laid { made, left } = laid;
+        let made = made_by(alloc, indexes, crew, made, left.as_slice(), meter)?;
         Ok(made)
     }
 
     /// The schedule after an event goes and another comes for the resources at these places: where the one was among
     /// the writes of a place's group it is not any more, and where the other was not it is.
     ///
-    /// Members of one group among the places stay together. The crew repairs each group once, inside the entries of the
-    /// events, one job a payload type. Cost: for each place a few look-ups, and that of the jobs. `NoMemory` where
-    /// there is no room.
-    pub fn shifted<C: Fn(&Indexes, &[Job]) -> Result<Vec<Done>, Refusal>>(
+    /// Members of one group among the places stay together, and each group is made once. Where there are ranks, the event
+    /// that comes is laid over the timelines of the groups that only gain it, which needs no look at the indexes.
+    /// The crew repairs the other groups, and those over which the entries cannot be laid, inside the entries of the
+    /// events, one job a payload type.
+    ///
+    /// Cost: for each place a few look-ups; for each group that is laid and each type of the event a search of the
+    /// timeline for each entry, a rank for each segment that is met, and one splice; and that of the jobs of the others.
+    /// `NoMemory` where there is no room.
+    pub fn shifted<C: Fn(&Indexes, &[Job]) -> Result<Vec<Done>, Refusal>, R: Ranks>(
         &self,
         alloc: Global,
         indexes: &Indexes,
         crew: &C,
         places: &[usize],
         change: &Change,
+        ranks: Option<&R>,
         meter: &mut Meter,
     ) -> Result<Schedule, Refusal>
         requires two { AreTwo change.now }
+        requires laid { IsLaidBy (option_map R.rank (option_copied ranks)) indexes.now change.now }
         requires crew { IsCrew (λ v. v.items) (C.pre crew.now) (C.post crew.now) }
         requires room { meter.old + length places.now * most_possible (sides_of change.now) indexes.now < 2 ^ 128 }
         ensures shifted { IfOk result (λ after. IsShifted (number_in change.now.gone) (number_in change.now.come) places.now self.now after) }
@@ -182,7 +197,7 @@ impl Schedule {
         ensures least { OnOk result (meter.new ≤ meter.old + sum_by (most_at change.now indexes.now self.now) places.now) }
         ensures refusal { OnlyNoMemory result }
     {
-        let made = self.made_for(alloc, indexes, crew, places, change, meter)?;
+        let made = self.made_for(alloc, indexes, crew, places, change, ranks, meter)?;
         let mut seats = self.seats.copy()?;
         let groups = self.groups.copy()?;
         let moves = move_all(alloc, &mut seats, groups, places, &made)?;

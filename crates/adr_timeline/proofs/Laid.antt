@@ -1,5 +1,5 @@
 -- Entries laid over what is shown.
-use Rattle.std.proofs.Common.{◌≡◌, ℕ, ◌+◌, ◌*◌, ◌<◌, ◌≤◌, ◌&&◌, not, Bool, true, false, List, [], ◌∷◌, ◌++◌, map, length, drop, get_or, Option, Some, None, if◌then◌else◌, inl, inr, refl, sym, ◌∙◌, ap, arith, ℤ, int_le}
+use Rattle.std.proofs.Common.{◌≡◌, ℕ, ◌+◌, ◌*◌, ◌<◌, ◌≤◌, ◌&&◌, ◌||◌, not, Bool, true, false, List, [], ◌∷◌, ◌++◌, map, length, drop, get_or, Option, Some, None, if◌then◌else◌, inl, inr, refl, sym, ◌∙◌, ap, arith, ℤ, int_le}
 use Rattle.std.specs.Option.{option_map}
 use Rattle.std.specs.Int.{int_max, int_min}
 use Rattle.std.proofs.lemmas.Int.{ints}
@@ -18,12 +18,13 @@ use Rattle.adr_model.specs.Timeline.{shows, span_of, IsCanonical}
 use Rattle.adr_timeline.specs.declared.step.Step.{Step}
 use Rattle.adr_timeline.specs.Parts.{part, joined, joined_all, leads_to, trimmed}
 use Rattle.adr_timeline.specs.Chunks.{listed}
-use Rattle.adr_timeline.specs.Overlay.{hull_with, hull, most_laid, most_merged, segments_in, shown_entry}
-use Rattle.adr_timeline.specs.Steps.{IsInOrder, is_run, starts_from, steps_of, steps_in_turn, lesser, pieces, rank_at, rank_from, winner_of_rank}
+use Rattle.adr_timeline.specs.Overlay.{hull_with, hull, most_laid, most_merged, segments_in, shown_entry, spans_of, IsMetBy}
+use Rattle.adr_timeline.specs.Windows.{any_covers, are_apart, is_followed_by}
+use Rattle.adr_timeline.specs.Steps.{IsInOrder, is_run, starts_from, steps_of, steps_in_turn, lesser, pieces, rank_at, rank_from, rises, winner_of_rank}
 use Rattle.adr_timeline.proofs.Canonical.{none_before, starts_end, after_endless, canonical_is_unique}
 use Rattle.adr_timeline.proofs.Pieces.{clip_made, clipped_as}
 use Rattle.adr_timeline.proofs.Least.{lesser_none, rank_cons, rank_append, winner_rank}
-use Rattle.adr_timeline.proofs.Runs.{run_ranked}
+use Rattle.adr_timeline.proofs.Runs.{run_parts, run_ranked, run_rises}
 use Rattle.adr_timeline.proofs.Segments.{winner_in, EndsBy, IsApart, IsLinked}
 use Rattle.adr_timeline.proofs.Stepped.{pieces_spread, pieces_show}
 use Rattle.adr_timeline.proofs.Words.{shows_is, canonical_linked}
@@ -67,6 +68,7 @@ module _ (rank : Winner → Rank) where
   pub record AreShown (ss : List Segment) (steps : List Step) : Type 0 where
     pub order : IsInOrder steps
     pub few : length steps ≤ 2 * length ss
+    pub up : rises steps ≤ length ss
     pub ranks : (t : ℤ) → rank_from None steps t ≡ option_map rank (shows ss t)
 
   -- the steps of what is shown have its ranks
@@ -77,6 +79,7 @@ module _ (rank : Winner → Rank) where
       rw (h, n) (record {
         order = made.0;
         few = omega (arith, made.1, map_length ss);
+        up = omega (arith, run_rises (map (shown_entry rank) ss), map_length ss);
         ranks = λ t. made.2 t ∙ (rank_shown ss t l ∙ ap (option_map rank) (sym (shows_is ss t)));
       })
 
@@ -121,6 +124,45 @@ hull_none (e ∷ es) w t h c =
     let rest = hull_with_none es e.span t (ap (λ (v : Span). covers v t) (some_is (hull_with e.span es) w h) ∙ c) in
     rank_none e es t rest.0 rest.1
 
+neither : (a b : Bool) → (a || b) ≡ false → (a ≡ false) × (b ≡ false)
+neither true b h = absurd (false≢true (sym h))
+neither false b h = (refl, h)
+
+-- where no span covers there is no rank
+rank_uncovered : (es : List Entry) (t : ℤ) → any_covers (spans_of es) t ≡ false → rank_at es t ≡ None
+rank_uncovered [] t h = refl
+rank_uncovered (e ∷ es) t h = let parts = neither (covers e.span t) (any_covers (spans_of es) t) h in rank_none e es t parts.0 (rank_uncovered es t parts.1)
+
+hull_with_covers : (es : List Entry) (s : Span) (t : ℤ) → covers (hull_with s es) t ≡ false → (covers s t ≡ false) × (any_covers (spans_of es) t ≡ false)
+hull_with_covers [] s t h = (h, refl)
+hull_with_covers (e ∷ es) s t h =
+    let rest = hull_with_covers es (spanned s e.span) t h in
+    let both = spanned_none s.start e.span.start s.end e.span.end t rest.0 in
+    (both.0, rw (both.1, rest.1) refl)
+
+-- the hull covers where an entry does
+hull_covers : (es : List Entry) (w : Span) (t : ℤ) → hull es ≡ Some w → any_covers (spans_of es) t ≡ true → covers w t ≡ true
+hull_covers [] w t h c = absurd (false≢true c)
+hull_covers (e ∷ es) w t h c = elim (cases_Bool (covers w t)) [
+  | inl here ↦ here
+  | inr gone ↦
+      let rest = hull_with_covers es e.span t (ap (λ (v : Span). covers v t) (some_is (hull_with e.span es) w h) ∙ gone) in
+      let none : (covers e.span t || any_covers (spans_of es) t) ≡ false = rw (rest.0, rest.1) refl in
+      absurd (false≢true (sym none ∙ c))
+]
+
+-- spans of entries in turn are apart
+pub run_apart : (es : List Entry) → is_run es ≡ true → are_apart (spans_of es) ≡ true
+run_apart [] h = refl
+run_apart (e ∷ es) h =
+    let parts = run_parts e es h in
+    let next : is_followed_by e.span (spans_of es) ≡ true = followed e.span es parts.1 in
+    rw (parts.0, next, run_apart es parts.2) refl
+  where
+    followed : (w : Span) (xs : List Entry) → starts_from w.end xs ≡ true → is_followed_by w (spans_of xs) ≡ true
+    followed w [] k = refl
+    followed w (x ∷ xs) k = k
+
 none_some : (a : Span) → Some a ≡ None → ⊥
 none_some a h = cc
 
@@ -156,6 +198,21 @@ module _ (rank : Winner → Rank) (names : (w : Winner) → winner_of_rank (rank
     | inl c ↦ rw c at (n t)
     | inr c ↦ (rw c at (n t)) ∙ kept (shows old t) (rank_at es t) (hull_none es w t h c)
   ]
+
+  -- what is laid over what the entries meet goes into what is shown
+  pub run_shows : (es : List Entry) (w : Span) (windows : List Span) (old met laid new : List Segment) → hull es ≡ Some w → windows ≡ spans_of es → IsMetBy es old met
+      → ((t : ℤ) → shows laid t ≡ (if covers w t then option_map winner_of_rank (lesser (option_map rank (shows met t)) (rank_at es t)) else None))
+      → ((t : ℤ) → shows new t ≡ (if any_covers windows t then shows laid t else shows old t))
+      → (t : ℤ) → shows new t ≡ option_map winner_of_rank (lesser (option_map rank (shows old t)) (rank_at es t))
+  run_shows es w windows old met laid new h s m l n t = by (any_covers (spans_of es) t) refl (m t) (rw s at (n t))
+    where
+      by : (c : Bool) → any_covers (spans_of es) t ≡ c → shows met t ≡ (if c then shows old t else None) → shows new t ≡ (if c then shows laid t else shows old t)
+          → shows new t ≡ option_map winner_of_rank (lesser (option_map rank (shows old t)) (rank_at es t))
+      by true c here there =
+          there
+          ∙ ((rw (hull_covers es w t h c) at (l t))
+          ∙ ap (λ (o : Option Winner). option_map winner_of_rank (lesser (option_map rank o) (rank_at es t))) here)
+      by false c here there = there ∙ kept (shows old t) (rank_at es t) (rank_uncovered es t c)
 
 -- what is laid in the window, between what is shown outside
 pub spliced_shows : (rank : Winner → Rank) (es : List Entry) (w : Span) (old inside laid new : List Segment)

@@ -1,5 +1,5 @@
 -- Two lists of steps merged into one.
-use Rattle.std.proofs.Common.{◌≡◌, ℕ, ◌+◌, ◌-◌, ◌<◌, ◌≤◌, Bool, true, false, List, [], ◌∷◌, ◌++◌, length, take, drop, get_or, slice_get, Option, Some, None, refl, sym, ◌∙◌, ap, arith, ℤ, pos, ◌≤ℤ◌, ◌<ℤ◌, int_le, int_lt, inl, inr}
+use Rattle.std.proofs.Common.{◌≡◌, ℕ, suc, ◌+◌, ◌*◌, ◌-◌, ◌<◌, ◌≤◌, Bool, true, false, List, [], ◌∷◌, ◌++◌, length, take, drop, get_or, slice_get, Option, Some, None, refl, sym, ◌∙◌, ap, arith, ℤ, pos, ◌≤ℤ◌, ◌<ℤ◌, int_le, int_lt, inl, inr}
 use Rattle.std.proofs.Math.Nat.{lt_of_not-le}
 use Rattle.std.proofs.lemmas.Int.{ints, by_lt_z}
 use Rattle.std.proofs.lemmas.Bool.{cases_Bool, false≢true}
@@ -7,7 +7,7 @@ use Rattle.std.proofs.lemmas.List.{append_assoc, append-nil, drop_more, drop_all
 use Rattle.std.proofs.lemmas.Option.{get_or_from_slice_get, none-some, same_Some, slice_get_within}
 use Rattle.adr_model.specs.declared.entry.Rank.{Rank}
 use Rattle.adr_timeline.specs.declared.step.Step.{Step}
-use Rattle.adr_timeline.specs.Steps.{lesser, rank_from, IsFrom, IsInOrder, IsMergeOf, goes_left}
+use Rattle.adr_timeline.specs.Steps.{lesser, rank_from, rise, rises, IsFrom, IsInOrder, IsMergeOf, goes_left}
 
 -- the steps are those of both lists, from the ranks before them on
 pub record IsMerge (a b : Option Rank) (left right steps : List Step) : Type 0 where
@@ -76,44 +76,74 @@ merge_right a b r y left right steps g is m = rw is (record {
 abbrev pub no_step : Step
 no_step = record { from = pos 0; rank = None }
 
+-- no more steps lead up than there are
+pub rises_few : (ss : List Step) → rises ss ≤ length ss
+rises_few [] = omega arith
+rises_few (s ∷ ss) = by s.rank (rises_few ss)
+  where
+    by : {a b : ℕ} (r : Option Rank) → a ≤ b → rise r + a ≤ suc b
+    by None h = omega (arith, h)
+    by (Some r) h = omega (arith, h)
+
+-- two are compared only where both are there
+pub both_rise : (a b : Option Rank) → (rise a * rise b ≤ rise a) × (rise a * rise b ≤ rise b)
+both_rise None None = (omega arith, omega arith)
+both_rise None (Some b) = (omega arith, omega arith)
+both_rise (Some a) None = (omega arith, omega arith)
+both_rise (Some a) (Some b) = (omega arith, omega arith)
+
 -- what is done so far, whatever completes it
 pub record IsBegun (whole_left whole_right done : List Step) (a b : Option Rank) (i j now start : ℕ) : Type 0 where
   pub left_in : i ≤ length whole_left
   pub right_in : j ≤ length whole_right
   pub count : length done ≡ i + j
   pub completes : (rest : List Step) → IsMerge a b (drop i whole_left) (drop j whole_right) rest → IsMerge None None whole_left whole_right (done ++ rest)
-  pub compared : now ≤ start + (i + j)
+  pub compared : now + (rises (drop i whole_left) + rises (drop j whole_right)) ≤ start + (rises whole_left + rises whole_right)
 
 -- a step that is taken is the first of those that are left
 taken : (xs : List Step) (i : ℕ) (x : Step) → i < length xs → x ≡ get_or xs i x → drop i xs ≡ x ∷ drop (i + 1) xs
 taken xs i x lt h = drop_more xs i x lt ∙ ap (λ (y : Step). y ∷ drop (i + 1) xs) (sym h)
 
-module _ (left right done new : List Step) (a b r : Option Rank) (i j now later start : ℕ) (x : Step) (so_far : IsBegun left right done a b i j now start) (cost : later ≤ now + 1) (grown : new ≡ done ++ record { from = x.from; rank = r } ∷ []) where
+module _ (left right done new : List Step) (a b r : Option Rank) (i j now later start : ℕ) (x : Step) (so_far : IsBegun left right done a b i j now start) (grown : new ≡ done ++ record { from = x.from; rank = r } ∷ []) where
   one_more : (rest : List Step) → new ++ rest ≡ done ++ (record { from = x.from; rank = r } ∷ rest)
   one_more rest = rw grown (append_assoc done (record { from = x.from; rank = r } ∷ []) rest)
 
   new_count : length new ≡ (i + j) + 1
   new_count = rw (grown, length-append done (record { from = x.from; rank = r } ∷ [])) (omega (arith, so_far.count))
 
-  pub turn_left : i < length left → x ≡ get_or left i x → goes_left (drop i left) (drop j right) ≡ true → r ≡ lesser x.rank b → IsBegun left right new x.rank b (i + 1) j later start
-  turn_left lt h g is = record {
+  pub turn_left : i < length left → x ≡ get_or left i x → goes_left (drop i left) (drop j right) ≡ true → r ≡ lesser x.rank b → later ≤ now + rise x.rank * rise b → IsBegun left right new x.rank b (i + 1) j later start
+  turn_left lt h g is cost = record {
     left_in = omega arith;
     right_in = so_far.right_in;
     count = omega (arith, new_count);
     completes = λ rest m. rw (one_more rest) (so_far.completes (record { from = x.from; rank = r } ∷ rest)
         (rw (taken left i x lt h) (merge_left a b r x (drop (i + 1) left) (drop j right) rest (rw (taken left i x lt h) at g) is m)));
-    compared = omega (arith, so_far.compared);
+    compared = omega (arith, so_far.compared, cost, (both_rise x.rank b).0, ap rises (taken left i x lt h));
   }
 
-  pub turn_right : j < length right → x ≡ get_or right j x → goes_left (drop i left) (drop j right) ≡ false → r ≡ lesser a x.rank → IsBegun left right new a x.rank i (j + 1) later start
-  turn_right lt h g is = record {
+  pub turn_right : j < length right → x ≡ get_or right j x → goes_left (drop i left) (drop j right) ≡ false → r ≡ lesser a x.rank → later ≤ now + rise a * rise x.rank → IsBegun left right new a x.rank i (j + 1) later start
+  turn_right lt h g is cost = record {
     left_in = so_far.left_in;
     right_in = omega arith;
     count = omega (arith, new_count);
     completes = λ rest m. rw (one_more rest) (so_far.completes (record { from = x.from; rank = r } ∷ rest)
         (rw (taken right j x lt h) (merge_right a b r x (drop i left) (drop (j + 1) right) rest (rw (taken right j x lt h) at g) is m)));
-    compared = omega (arith, so_far.compared);
+    compared = omega (arith, so_far.compared, cost, (both_rise a x.rank).1, ap rises (taken right j x lt h));
   }
+
+-- there is room to compare the next step, and no more is compared then
+module _ (left right done : List Step) (a b : Option Rank) (i j now start most : ℕ) (x : Step) (so_far : IsBegun left right done a b i j now start) (room : start + (rises left + rises right) < most) where
+  pub room_left : i < length left → x ≡ get_or left i x → now + rise x.rank * rise b < most
+  room_left lt h = omega (arith, so_far.compared, room, (both_rise x.rank b).0, ap rises (taken left i x lt h))
+
+  pub room_right : j < length right → x ≡ get_or right j x → now + rise a * rise x.rank < most
+  room_right lt h = omega (arith, so_far.compared, room, (both_rise a x.rank).1, ap rises (taken right j x lt h))
+
+  pub over_left : (later : ℕ) → i < length left → x ≡ get_or left i x → later ≤ now + rise x.rank * rise b → later ≤ start + (rises left + rises right)
+  over_left later lt h cost = omega (arith, so_far.compared, cost, (both_rise x.rank b).0, ap rises (taken left i x lt h))
+
+  pub over_right : (later : ℕ) → j < length right → x ≡ get_or right j x → later ≤ now + rise a * rise x.rank → later ≤ start + (rises left + rises right)
+  over_right later lt h cost = omega (arith, so_far.compared, cost, (both_rise a x.rank).1, ap rises (taken right j x lt h))
 
 pub order_of : (left right steps : List Step) → ((v : ℤ) → IsFrom v left → IsFrom v right → IsFrom v steps) → IsInOrder left → IsInOrder right → IsInOrder steps
 order_of [] [] [] h l r = tt

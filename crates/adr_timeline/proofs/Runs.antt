@@ -1,5 +1,5 @@
 -- The steps of entries that come one after the other.
-use Rattle.std.proofs.Common.{◌≡◌, ◌+◌, ◌*◌, ◌≤◌, true, not, ◌&&◌, List, [], ◌∷◌, ◌++◌, length, map, Option, Some, None, refl, sym, ◌∙◌, ap, arith, ℤ, int_le, int_lt}
+use Rattle.std.proofs.Common.{◌≡◌, ◌+◌, ◌*◌, ◌≤◌, Bool, true, false, not, ◌&&◌, List, [], ◌∷◌, ◌++◌, length, map, Option, Some, None, refl, sym, ◌∙◌, ap, arith, ℤ, int_le, int_lt}
 use Rattle.std.proofs.lemmas.Int.{ints}
 use Rattle.std.proofs.lemmas.Bool.{false≢true, and_parts}
 use Rattle.adr_time.specs.Spans.{is_before}
@@ -12,7 +12,7 @@ use Rattle.adr_model.specs.declared.timeline.Segment.{Segment}
 use Rattle.adr_timeline.specs.declared.step.Step.{Step}
 use Rattle.adr_timeline.specs.Build.{Takes}
 use Rattle.adr_timeline.specs.Parts.{joined_all, part}
-use Rattle.adr_timeline.specs.Steps.{Adds, AreRanked, IsMergeOf, goes_left, down_at, own_segment, pieces, steps_of, starts_from, is_run, steps_in_turn, winner_of_rank}
+use Rattle.adr_timeline.specs.Steps.{Adds, AreRanked, IsMergeOf, goes_left, down_at, own_segment, pieces, steps_of, starts_from, is_run, rises, steps_in_turn, winner_of_rank}
 use Rattle.adr_timeline.proofs.Merged.{IsMerge, merge_none, merge_left, merge_right, order_of}
 use Rattle.adr_timeline.proofs.Least.{rank_append}
 use Rattle.adr_timeline.proofs.Stepped.{steps_rank, steps_order, steps_few}
@@ -87,6 +87,26 @@ run_ranked (e ∷ es) h =
       merged.count,
       λ t. merged.ranks t,
     )
+
+-- one step of each leads up
+pub run_rises : (es : List Entry) → rises (steps_in_turn es) ≤ length es
+run_rises [] = omega arith
+run_rises (e ∷ es) = let parts = rises_append (steps_of e) (steps_in_turn es) in omega (arith, parts, one_rises e, run_rises es)
+  where
+    rises_append : (xs ys : List Step) → rises (xs ++ ys) ≡ rises xs + rises ys
+    rises_append [] ys = omega arith
+    rises_append (x ∷ xs) ys = let rest = rises_append xs ys in omega (arith, rest)
+
+    down_rises : (end : End) → rises (down_at end) ≡ 0
+    down_rises (At u) = refl
+    down_rises Endless = refl
+
+    one_rises : (e : Entry) → rises (steps_of e) ≤ 1
+    one_rises e = by (is_before e.span.start e.span.end) refl
+      where
+        by : (x : Bool) → is_before e.span.start e.span.end ≡ x → rises (steps_of e) ≤ 1
+        by true h = let up_down = ap rises (steps_if e h) in omega (arith, up_down, down_rises e.span.end)
+        by false h = rw h (omega arith)
 
 pub one_few : (e : Entry) (es run : List Entry) (left : List Step) → left ≡ steps_of e → run ≡ es → is_run es ≡ true → length left + length (steps_in_turn run) ≤ 2 * (1 + length es)
 one_few e es run left l r h = rw (l, r) (omega (arith, steps_few e, (run_ranked es h).1))

@@ -1,5 +1,5 @@
 -- What a new event's entries are laid over, and how much that compares.
-use Rattle.std.specs.Prelude.{ℕ, ◌+◌, ◌*◌, List, [], ◌∷◌, length, filter, Option, Some, None}
+use Rattle.std.specs.Prelude.{◌≡◌, ℕ, ℤ, ◌+◌, ◌*◌, List, [], ◌∷◌, length, filter, map, Option, Some, None, if◌then◌else◌}
 use Rattle.std.specs.Option.{option_map_or}
 use Rattle.adr_time.specs.Spans.{meets, spanned}
 use Rattle.adr_time.specs.declared.span.Span.{Span}
@@ -7,7 +7,8 @@ use Rattle.adr_model.specs.declared.entry.Entry.{Entry}
 use Rattle.adr_model.specs.declared.entry.Rank.{Rank}
 use Rattle.adr_model.specs.declared.timeline.Winner.{Winner}
 use Rattle.adr_model.specs.declared.timeline.Segment.{Segment}
-use Rattle.adr_model.specs.Timeline.{span_of}
+use Rattle.adr_model.specs.Timeline.{shows, span_of}
+use Rattle.adr_timeline.specs.Windows.{any_covers}
 
 -- from the earliest start of a span and the spans of entries to their latest end
 abbrev pub hull_with : Span → List Entry → Span
@@ -22,6 +23,14 @@ hull (e ∷ es) = Some (hull_with e.span es)
 -- the segments that meet the window
 abbrev pub segments_in : Span → List Segment → List Segment
 segments_in window segments = filter (λ s. meets (span_of s) window) segments
+
+-- where the entries lie
+abbrev pub spans_of : List Entry → List Span
+spans_of entries = map (λ e. e.span) entries
+
+-- what the entries meet of the timeline: what it shows inside their spans
+abbrev pub IsMetBy : List Entry → List Segment → List Segment → Type 0
+IsMetBy entries timeline met = (t : ℤ) → shows met t ≡ (if any_covers (spans_of entries) t then shows timeline t else None)
 
 -- two steps for each of n segments and of k entries, and the comparisons among the entries
 abbrev pub most_merged : ℕ → ℕ → ℕ

@@ -1,5 +1,5 @@
 -- The least rank from instant to instant.
-use Rattle.std.specs.Prelude.{◌+◌, ◌*◌, ◌≤◌, ◌≡◌, ◌++◌, length, ℤ, ◌≤ℤ◌, int_le, int_lt, ⊤, Bool, true, false, List, [], ◌∷◌, Option, Some, None, if◌then◌else◌, filter, not, ◌&&◌}
+use Rattle.std.specs.Prelude.{ℕ, ◌+◌, ◌*◌, ◌≤◌, ◌≡◌, ◌++◌, length, ℤ, ◌≤ℤ◌, int_le, int_lt, ⊤, Bool, true, false, List, [], ◌∷◌, Option, Some, None, if◌then◌else◌, filter, not, ◌&&◌}
 use Rattle.std.specs.Option.{option_map}
 use Rattle.adr_time.specs.Spans.{covers, is_before, lasts}
 use Rattle.adr_time.specs.declared.span.End.{End}
@@ -26,6 +26,16 @@ rank_at entries t = option_map (λ e. e.rank) (first_of (filter (λ e. covers e.
 abbrev pub rank_from : Option Rank → List Step → ℤ → Option Rank
 rank_from rank [] t = rank
 rank_from rank (s ∷ ss) t = if int_lt t s.from then rank else rank_from s.rank ss t
+
+-- one for a step up to a rank, none for one down
+abbrev pub rise : Option Rank → ℕ
+rise None = 0
+rise (Some rank) = 1
+
+-- how many of the steps lead up to a rank
+abbrev pub rises : List Step → ℕ
+rises [] = 0
+rises (s ∷ ss) = rise s.rank + rises ss
 
 -- the steps are in order, the first at the instant or later
 abbrev pub IsFrom : ℤ → List Step → Type 0

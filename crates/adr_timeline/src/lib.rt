@@ -20,5 +20,6 @@ pub use build::Source;
 pub use chunk::Chunk;
 pub use overlay::Ranks;
 pub use packed::PackedSegment;
+pub use step::is_run;
 pub use timeline::{Timeline, timeline_laws};
 pub use windows::{are_apart, first_run};

@@ -1,12 +1,13 @@
 //! What is shown and the entries of a new event, as steps that are merged.
-ghost use Rattle.std.specs.Prelude.{◌≡◌, ◌+◌, ◌*◌, ◌<◌, ◌≤◌, ◌^◌, ◌++◌, ℤ, IfOk, OnOk, None, map, length};
+ghost use Rattle.std.specs.Prelude.{◌≡◌, ◌+◌, ◌*◌, ◌<◌, ◌≤◌, ◌^◌, ◌++◌, ℤ, IfOk, IsTrue, OnOk, None, map, length};
 ghost use Rattle.std.specs.Option.{option_map};
 ghost use Rattle.adr_model.specs.Timeline.{shows, IsCanonical};
 ghost use Rattle.adr_timeline.specs.Chunks.{listed};
-ghost use Rattle.adr_timeline.specs.Overlay.{hull, most_merged, shown_entry};
-ghost use Rattle.adr_timeline.specs.Steps.{IsInOrder, IsMergeOf, lesser, rank_at, rank_from, steps_in_turn};
+ghost use Rattle.adr_timeline.specs.Overlay.{hull, most_merged, shown_entry, spans_of as where_they_lie};
+ghost use Rattle.adr_timeline.specs.Steps.{IsInOrder, IsMergeOf, is_run, lesser, rank_at, rank_from, rises, steps_in_turn};
 
 use crate::chunk::Chunk;
+use crate::list::{StepList, StepsInTurn};
 use crate::packed::PackedSegment;
 use crate::step::{Step, add_steps_of, merge, ranked};
 use adr_model::{Entry, Rank, Winner};
@@ -41,6 +42,17 @@ pub(crate) fn hull_of(entries: &[Entry]) -> Option<Span>
         window = window.hull(&entry.span);
     }
     Some(window)
+}
+
+/// Where the entries lie.
+pub(crate) fn spans_of(alloc: Global, entries: &[Entry]) -> Result<Vec<Span>, AllocError>
+    ensures { IfOk result (λ spans. spans.items ≡ where_they_lie entries.now) }
+{
+    let mut spans = Vec::with_capacity(alloc, entries.len())?;
+    for entry in entries {
+        spans.push(entry.span)?;
+    }
+    Ok(spans)
 }
 
 /// Puts the steps of the segments, by the ranks of their winners, at the end of others.
@@ -87,6 +99,7 @@ fn shown_steps<R: Ranks>(
     requires { IsCanonical (listed chunks.now) }
     ensures order { IfOk result (λ steps. IsInOrder steps.items) }
     ensures few { IfOk result (λ steps. length steps.items ≤ 2 * length (listed chunks.now)) }
+    ensures up { IfOk result (λ steps. rises steps.items ≤ length (listed chunks.now)) }
     ensures ranks { IfOk result (λ steps. (t : ℤ) → rank_from None steps.items t ≡ option_map (R.rank ranks.now) (shows (listed chunks.now) t)) }
 {
     let mut steps = Vec::new(alloc);
@@ -95,19 +108,19 @@ fn shown_steps<R: Ranks>(
 }
 
 /// Two lists of steps merged into one.
-fn merged(
+fn merged<R: StepList>(
     alloc: Global,
     left: &[Step],
-    right: &[Step],
+    right: R,
     meter: &mut Meter,
 ) -> Result<Vec<Step>, AllocError>
-    requires room { meter.old + (length left.now + length right.now) < 2 ^ 128 }
+    requires room { meter.old + (rises left.now + rises (R.listed right)) < 2 ^ 128 }
     requires left { IsInOrder left.now }
-    requires right { IsInOrder right.now }
-    ensures merged { IfOk result (λ steps. IsMergeOf left.now right.now steps.items) }
-    ensures compared { meter.new ≤ meter.old + (length left.now + length right.now) }
+    requires right { IsInOrder (R.listed right) }
+    ensures merged { IfOk result (λ steps. IsMergeOf left.now (R.listed right) steps.items) }
+    ensures compared { meter.new ≤ meter.old + (rises left.now + rises (R.listed right)) }
 {
-    let room = left.len().saturating_add(right.len());
+    let room = left.len().saturating_add(right.count());
     let mut steps = Vec::with_capacity(alloc, room)?;
     merge(&mut steps, left, right, meter)?;
     Ok(steps)
@@ -129,5 +142,24 @@ pub(crate) fn laid_steps<R: Ranks>(
 {
     let given = ranked(alloc, entries, meter)?;
     let held = shown_steps(alloc, shown, ranks)?;
-    merged(alloc, &held, &given, meter)
+    merged(alloc, &held, given.as_slice(), meter)
+}
+
+/// The steps of the lesser rank of what the chunks show and of entries that come in turn, which compete with nothing else.
+pub(crate) fn steps_over<R: Ranks>(
+    alloc: Global,
+    shown: &[Chunk],
+    run: &[Entry],
+    ranks: &R,
+    meter: &mut Meter,
+) -> Result<Vec<Step>, AllocError>
+    requires room { meter.old + (length (listed shown.now) + length run.now) < 2 ^ 128 }
+    requires in_turn { IsTrue (is_run run.now) }
+    requires canonical { IsCanonical (listed shown.now) }
+    ensures order { IfOk result (λ steps. IsInOrder steps.items) }
+    ensures ranks { IfOk result (λ steps. (t : ℤ) → rank_from None steps.items t ≡ lesser (option_map (R.rank ranks.now) (shows (listed shown.now) t)) (rank_at run.now t)) }
+    ensures compared { meter.new ≤ meter.old + (length (listed shown.now) + length run.now) }
+{
+    let held = shown_steps(alloc, shown, ranks)?;
+    merged(alloc, &held, StepsInTurn::of(run), meter)
 }

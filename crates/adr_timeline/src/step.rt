@@ -1,7 +1,7 @@
 //! Steps: the least rank from moment to moment, by halves that are merged.
 ghost use Rattle.std.specs.Prelude.{◌≡◌, ◌+◌, ◌*◌, ◌<◌, ◌≤◌, ◌^◌, ℤ, [], ◌++◌, ◌∷◌, IfOk, IsTrue, OnOk, None, drop, length, map};
 ghost use Rattle.adr_timeline.specs.Parts.{joined_all, part};
-ghost use Rattle.adr_timeline.specs.Steps.{Adds, AreRanked, IsInOrder, IsMergeOf, first_from, goes_left as is_left_next, is_run as are_in_turn, starts_from as starts_from_end, steps_in_turn, lesser, own_segment as segment_of, piece, pieces, rank_at, rank_from, steps_of};
+ghost use Rattle.adr_timeline.specs.Steps.{Adds, AreRanked, IsInOrder, IsMergeOf, first_from, goes_left as is_left_next, is_run as are_in_turn, starts_from as starts_from_end, steps_in_turn, lesser, own_segment as segment_of, piece, pieces, rank_at, rank_from, rise, rises, steps_of};
 
 use crate::line::Line;
 use crate::list::{StepList, StepsInTurn};
@@ -18,11 +18,11 @@ pub(crate) struct Step {
     pub(crate) rank: Option<Rank>,
 }
 
-/// The rank that goes before the other, where there are two. At most one comparison.
+/// The rank that goes before the other, where there are two: only then they are compared.
 fn lesser(first: Option<Rank>, second: Option<Rank>, meter: &mut Meter) -> Option<Rank>
-    requires { meter.old + 1 < 2 ^ 128 }
+    requires { meter.old + rise first * rise second < 2 ^ 128 }
     ensures lesser { result ≡ lesser first second }
-    ensures compared { meter.new ≤ meter.old + 1 }
+    ensures compared { meter.new ≤ meter.old + rise first * rise second }
 {
     match (first, second) {
         (Some(one), Some(other)) => {
@@ -51,18 +51,18 @@ fn goes_left<R: StepList>(left: &[Step], right: R, passed: usize) -> bool
 }
 
 /// Puts two lists of steps at the end of others, merged into one that has the lesser of both at each moment. At most
-/// one comparison a step.
+/// one comparison for a step up.
 pub(crate) fn merge<R: StepList>(
     steps: &mut Vec<Step>,
     left: &[Step],
     right: R,
     meter: &mut Meter,
 ) -> Result<(), AllocError>
-    requires room { meter.old + (length left.now + length (R.listed right)) < 2 ^ 128 }
+    requires room { meter.old + (rises left.now + rises (R.listed right)) < 2 ^ 128 }
     requires left { IsInOrder left.now }
     requires right { IsInOrder (R.listed right) }
     ensures merged { OnOk result (Adds (IsMergeOf left.now (R.listed right)) steps.old.items steps.new.items) }
-    ensures compared { meter.new ≤ meter.old + (length left.now + length (R.listed right)) }
+    ensures compared { meter.new ≤ meter.old + (rises left.now + rises (R.listed right)) }
 {
     let count = right.count();
     let mut passed_left = 0;
@@ -119,8 +119,8 @@ fn starts_from(end: End, entries: &[Entry]) -> bool
     }
 }
 
-/// Whether the entries last, and each ends before the next one starts, or where it starts.
-pub(crate) fn is_run(entries: &[Entry]) -> bool
+/// Whether the entries come in turn: they last, and each ends before the next one starts, or where it starts.
+pub fn is_run(entries: &[Entry]) -> bool
     ensures { result ≡ are_in_turn entries.now }
 {
     let mut entries = entries;

@@ -11,15 +11,15 @@ ghost use Rattle.adr_model.specs.Governor.{winner_at};
 ghost use Rattle.adr_model.specs.Timeline.{shows, CanonicalIsUnique, IsCanonical};
 ghost use Rattle.adr_timeline.specs.Build.{most_compared, most_compared_all};
 ghost use Rattle.adr_timeline.specs.Chunks.{listed};
-ghost use Rattle.adr_timeline.specs.Overlay.{most_laid, most_merged, segments_in};
-ghost use Rattle.adr_timeline.specs.Steps.{lesser, rank_at, winner_of_rank};
+ghost use Rattle.adr_timeline.specs.Overlay.{most_laid, most_merged, segments_in, IsMetBy};
+ghost use Rattle.adr_timeline.specs.Steps.{is_run, lesser, rank_at, winner_of_rank};
 ghost use Rattle.adr_timeline.specs.Windows.{any_covers, are_apart};
 
 use crate::build::{Source, join_windows};
 use crate::chunk::Chunk;
 use crate::line::Line;
 use crate::near::meeting;
-use crate::overlay::{Ranks, hull_of, laid_steps};
+use crate::overlay::{Ranks, hull_of, laid_steps, spans_of, steps_over};
 use crate::step::{join_steps, ranked};
 use crate::{part, search};
 use adr_model::{Entry, Segment, Winner};
@@ -94,6 +94,21 @@ fn shared(alloc: Global, chunks: &[Chunk]) -> Result<Vec<Chunk>, AllocError>
         copies.push(chunk.share()?)?;
     }
     Ok(copies)
+}
+
+/// Whether the chunks have no more segments than so many.
+fn fits(chunks: &[Chunk], most: usize) -> bool
+    ensures { result ≡ true → length (listed chunks.now) ≤ most }
+{
+    let mut left = most;
+    for chunk in chunks {
+        let count = chunk.segments().len();
+        if left < count {
+            return false;
+        }
+        left -= count;
+    }
+    true
 }
 
 impl Timeline {
@@ -306,6 +321,83 @@ impl Timeline {
         let inside = self.inside(*window)?;
         let laid = inside.lay_inside(entries, *window, ranks, meter)?;
         self.splice(*window, &laid)
+    }
+
+    /// Whether there are no more segments than so many. Cost: a look at each chunk.
+    pub fn has_at_most(&self, most: usize) -> bool
+        ensures { result ≡ true → length self.now ≤ most }
+    {
+        fits(&self.chunks, most)
+    }
+
+    /// What entries that come in turn meet of this timeline: what it shows inside their spans, and nothing outside.
+    /// [`is_run`](crate::is_run) tests entries. `NoMemory` where there is no room. Cost: that of `splice_all` of what they
+    /// meet.
+    pub fn met(&self, entries: &[Entry]) -> Result<Timeline, Refusal>
+        requires { IsTrue (is_run entries.now) }
+        ensures canonical { IfOk result (λ met. IsCanonical met) }
+        ensures shows { IfOk result (λ met. IsMetBy entries.now self.now met) }
+        ensures refused { OnlyNoMemory result }
+    {
+        let alloc = *self.chunks.allocator();
+        let windows = spans_of(alloc, entries)?;
+        let nothing = Timeline::in_chunks_of(alloc, self.most);
+        nothing.splice_all(&windows, self)
+    }
+
+    /// The least, at each instant of the window, of what this timeline shows and entries that come in turn, and nothing
+    /// outside.
+    fn lay_in_turn<R: Ranks>(
+        &self,
+        entries: &[Entry],
+        window: Span,
+        ranks: &R,
+        meter: &mut Meter,
+    ) -> Result<Timeline, Refusal>
+        requires room { meter.old + (length self.now + length entries.now) < 2 ^ 128 }
+        requires in_turn { IsTrue (is_run entries.now) }
+        ensures canonical { IfOk result (λ timeline. IsCanonical timeline) }
+        ensures shows { IfOk result (λ timeline. (t : ℤ) → shows timeline t ≡ (if covers window t then option_map winner_of_rank (lesser (option_map (R.rank ranks.now) (shows self.now t)) (rank_at entries.now t)) else None)) }
+        ensures compared { meter.new ≤ meter.old + (length self.now + length entries.now) }
+        ensures refused { OnlyNoMemory result }
+    {
+        let alloc = *self.chunks.allocator();
+        let steps = steps_over(alloc, &self.chunks, entries, ranks, meter)?;
+        let mut line = Line::new(alloc, self.most);
+        join_steps(&mut line, &steps, window)?;
+        timeline_of(self.most, line)
+    }
+
+    /// The same as [`Timeline::lay_over`] of entries that come in turn, where it is known what they meet: only that is
+    /// looked at, and no more is compared than once for each of its segments and for each entry. `NoMemory` where there
+    /// is no room. Cost: some steps for each of those, and that of `splice_all`.
+    pub fn lay_run<R: Ranks>(
+        &self,
+        met: &Timeline,
+        entries: &[Entry],
+        ranks: &R,
+        meter: &mut Meter,
+    ) -> Result<Timeline, Refusal>
+        requires room { meter.old + (length met.now + length entries.now) < 2 ^ 128 }
+        requires in_turn { IsTrue (is_run entries.now) }
+        requires met { IsMetBy entries.now self.now met.now }
+        ensures canonical { IfOk result (λ timeline. IsCanonical timeline) }
+        ensures shows { IfOk result (λ timeline. (t : ℤ) → shows timeline t ≡ option_map winner_of_rank (lesser (option_map (R.rank ranks.now) (shows self.now t)) (rank_at entries.now t))) }
+        ensures wins { IfOk result (λ timeline. (others : List Entry) → (t : ℤ) → option_map (R.rank ranks.now) (shows self.now t) ≡ rank_at others t → shows timeline t ≡ winner_at (others ++ entries.now) t) }
+        ensures compared { meter.new ≤ meter.old + (length met.now + length entries.now) }
+        ensures refused { OnlyNoMemory result }
+    {
+        match hull_of(entries) {
+            Some(window) => {
+                let laid = met.lay_in_turn(entries, window, ranks, meter)?;
+                let windows = spans_of(*self.chunks.allocator(), entries)?;
+                self.splice_all(&windows, &laid)
+            }
+            None => {
+                let copy = self.copy()?;
+                Ok(copy)
+            }
+        }
     }
 
     /// The least, at each instant, of what this timeline shows and the entries: what one new event's entries change.

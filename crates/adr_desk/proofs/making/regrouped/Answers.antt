@@ -1,17 +1,33 @@
-use Rattle.std.proofs.Common.{◌≡◌, List, None, ℕ, ◌*◌, ◌<◌, ◌^◌, length, refl, sum_by, ap, sym, subst, ◌∙◌, arith}
+use Rattle.std.proofs.Common.{◌≡◌, List, Option, None, ℕ, ◌*◌, ◌<◌, ◌^◌, length, refl, sum_by, ap, sym, subst, ◌∙◌, arith}
+use Rattle.std.specs.Option.{option_map}
 use Rattle.std.proofs.lemmas.Slice.Eq.{slice_eq-Decides}
 use Rattle.std.proofs.lemmas.Bool.Decides.{Decides-eqb}
+use Rattle.adr_model.specs.declared.entry.Rank.{Rank}
+use Rattle.adr_model.specs.declared.timeline.Winner.{Winner}
+use Rattle.adr_book.specs.Ledger.{Ledger}
 use Rattle.adr_group.specs.Repair.{most_possible}
 use Rattle.adr_schedule.specs.declared.change.Change.{Change}
 use Rattle.adr_schedule.specs.Moves.{is_among}
 use Rattle.adr_schedule.specs.Seating.{IsShifted}
-use Rattle.adr_schedule.specs.Shift.{entries_in, most_at, number_in, sides_of}
+use Rattle.adr_schedule.specs.Shift.{entries_in, most_at, number_in, sides_of, IsLaidBy}
+use Rattle.adr_desk.specs.declared.ranks.NewestRanks.{NewestRanks}
 use Rattle.adr_desk.specs.Edited.{come_of, gone_of}
+use Rattle.adr_desk.specs.Ranks.{if_newest, newest_rank}
 use Rattle.adr_desk.proofs.Costs.{shifts_cost}
+use Rattle.adr_desk.proofs.Laid.{laid_by, map_if_newest, next_number}
 use Rattle.adr_desk.proofs.Made.{room_for_both, room_for_one, seated_after}
 use Rattle.adr_desk.proofs.Shifted.{same_places}
 use Rattle.adr_desk.proofs.Sides.{groups_of_side}
 use Rattle.adr_desk.proofs.making.regrouped.Goals as goal
+
+pub shifted-requires-clause-laid : goal.shifted-requires-clause-laid
+shifted-requires-clause-laid g c =
+    let book = c.args.book.now.objects in
+    let come = come_of book c.args.edit.now in
+    let rank_in = λ (ranks : NewestRanks) (winner : Winner). newest_rank ranks.book.now.objects.events winner in
+    let ranks = ap (option_map rank_in) c.under-ranks.ensures ∙ map_if_newest rank_in c.args.tie c.of-newest.result ∙ ap (λ (b : Ledger). if_newest c.args.tie (newest_rank b.objects.events)) c.of-newest.ensures in
+    subst (λ (o : Option (Winner → Rank)). IsLaidBy o c.args.indexes.now c.args.change.now) (sym ranks)
+    (laid_by c.args.tie book come c.args.indexes.now c.args.change.now c.requires.whole (next_number book c.args.edit.now) c.requires.indexed c.requires.come)
 
 pub shifted-requires-clause-room : goal.shifted-requires-clause-room
 shifted-requires-clause-room g c =

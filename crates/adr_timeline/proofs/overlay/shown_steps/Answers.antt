@@ -10,3 +10,6 @@ returns-clause-few g c = (shown_ranked (g.R.Ranks.rank c.args.ranks.now) (listed
 
 pub returns-clause-ranks : goal.returns-clause-ranks
 returns-clause-ranks g c = (shown_ranked (g.R.Ranks.rank c.args.ranks.now) (listed c.args.chunks.now) c.new-steps.result.items c.add_chunks.new.steps.items c.requires c.new-steps.ensures.items c.in_ok-add_chunks.ensures).ranks
+
+pub returns-clause-up : goal.returns-clause-up
+returns-clause-up g c = (shown_ranked (g.R.Ranks.rank c.args.ranks.now) (listed c.args.chunks.now) c.new-steps.result.items c.add_chunks.new.steps.items c.requires c.new-steps.ensures.items c.in_ok-add_chunks.ensures).up

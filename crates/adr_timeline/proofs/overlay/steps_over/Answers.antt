@@ -1,0 +1,23 @@
+use Rattle.std.proofs.Common.{◌∙◌, List, Option, None, ap, ap₂, length, arith}
+use Rattle.std.proofs.lemmas.Result.{IfOk-weaker}
+use Rattle.adr_model.specs.declared.entry.Rank.{Rank}
+use Rattle.adr_timeline.specs.declared.step.Step.{Step}
+use Rattle.adr_timeline.specs.Steps.{lesser, rank_from, rises, steps_in_turn}
+use Rattle.adr_timeline.proofs.Runs.{run_ranked, run_rises}
+use Rattle.adr_timeline.proofs.overlay.steps_over.Goals as goal
+
+pub merged-requires-clause-room : goal.merged-requires-clause-room
+merged-requires-clause-room g c = omega (arith, c.requires.room, c.in_ok-held.ensures.up, ap rises c.deref.ensures.value, run_rises c.of.result.entries.now, ap length c.of.ensures)
+
+pub merged-requires-clause-right : goal.merged-requires-clause-right
+merged-requires-clause-right g c = rw c.of.ensures (run_ranked c.args.run.now c.requires.in_turn).0
+
+pub returns-clause-ranks : goal.returns-clause-ranks
+returns-clause-ranks g c = IfOk-weaker c.merged.result _ _
+    (λ steps merged t. merged.2 t
+    ∙ ap₂ lesser (ap (λ (ss : List Step). rank_from None ss t) c.deref.ensures.value ∙ c.in_ok-held.ensures.ranks t)
+    (ap (λ es. rank_from None (steps_in_turn es) t) c.of.ensures ∙ (run_ranked c.args.run.now c.requires.in_turn).2 t))
+    c.merged.ensures.merged
+
+pub returns-clause-compared : goal.returns-clause-compared
+returns-clause-compared g c = omega (arith, c.merged.ensures.compared, c.in_ok-held.ensures.up, ap rises c.deref.ensures.value, run_rises c.of.result.entries.now, ap length c.of.ensures)
