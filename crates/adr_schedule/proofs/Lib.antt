@@ -1,6 +1,7 @@
 pub mod Drafts
 pub mod Filled
 pub mod Laid
+pub mod Narrow
 pub mod Least
 pub mod Numbered
 pub mod Places
