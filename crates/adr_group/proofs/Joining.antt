@@ -35,7 +35,7 @@ use Rattle.adr_group.proofs.Turns.{one_shown}
 
 -- ---- the ranks of winners
 
-pub first_in : (es : List Entry) (e : Entry) → first_of es ≡ Some e → In e es
+first_in : (es : List Entry) (e : Entry) → first_of es ≡ Some e → In e es
 first_in [] e h = absurd (none-some e h)
 first_in (x ∷ xs) e h = by (first_of xs) (λ f k. first_in xs f k) h
   where
@@ -48,7 +48,7 @@ first_in (x ∷ xs) e h = by (first_of xs) (λ f k. first_in xs f k) h
         choose false m = inl (same_Some x e m)
 
 -- where the ranks are those of the entries, that of the winner is the least
-pub ranks_held : (rank : Winner → Rank) (es : List Entry) (t : ℤ) → ((e : Entry) → In e es → rank (winner_of e) ≡ e.rank) → option_map rank (winner_at es t) ≡ rank_at es t
+ranks_held : (rank : Winner → Rank) (es : List Entry) (t : ℤ) → ((e : Entry) → In e es → rank (winner_of e) ≡ e.rank) → option_map rank (winner_at es t) ≡ rank_at es t
 ranks_held rank es t held = by (first_of (filter (λ (e : Entry). covers e.span t) es)) refl
   where
     by : (o : Option Entry) → first_of (filter (λ (e : Entry). covers e.span t) es) ≡ o → option_map rank (option_map winner_of o) ≡ option_map (λ (e : Entry). e.rank) o
@@ -56,7 +56,7 @@ ranks_held rank es t held = by (first_of (filter (λ (e : Entry). covers e.span 
     by (Some e) h = ap (λ (r : Rank). Some r) (held e (In-from_filter (λ (x : Entry). covers x.span t) es e (first_in (filter (λ (x : Entry). covers x.span t) es) e h)).0)
 
 -- the least of what others show and of the entries wins among all
-pub least_wins : (rank : Winner → Rank) (others es : List Entry) (shown : Option Winner) (t : ℤ) → option_map rank shown ≡ rank_at others t → least_shown rank shown es t ≡ winner_at (others ++ es) t
+least_wins : (rank : Winner → Rank) (others es : List Entry) (shown : Option Winner) (t : ℤ) → option_map rank shown ≡ rank_at others t → least_shown rank shown es t ≡ winner_at (others ++ es) t
 least_wins rank others es shown t h =
     ap (λ (r : Option Rank). option_map winner_of_rank (lesser r (rank_at es t))) h
     ∙ (ap (option_map winner_of_rank) (sym (rank_append others es t)) ∙ winner_rank (others ++ es) t)

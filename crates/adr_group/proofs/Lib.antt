@@ -3,9 +3,7 @@ pub mod Gathered
 pub mod Halves
 pub mod Jobs
 pub mod Joining
-pub mod Leaving
 pub mod Listed
-pub mod Narrowed
 pub mod Numbers
 pub mod Possible
 pub mod Rights

@@ -1,5 +1,5 @@
 -- The entries of an event that are laid over a group's timelines.
-use Rattle.std.specs.Prelude.{◌≡◌, ◌↔◌, ◌≤◌, ◌*◌, ℕ, ℤ, Bool, true, List, length, Option, None, Some, if◌then◌else◌}
+use Rattle.std.specs.Prelude.{◌≡◌, ◌↔◌, ◌≤◌, ◌*◌, ℕ, ℤ, Bool, true, List, length, Option, None, if◌then◌else◌}
 use Rattle.std.specs.List.{list_all}
 use Rattle.std.specs.Option.{option_map}
 use Rattle.adr_value.specs.declared.payload.PayloadType.{PayloadType}
@@ -14,7 +14,7 @@ use Rattle.adr_timeline.specs.Overlay.{spans_of}
 use Rattle.adr_timeline.specs.Steps.{is_run, lesser, rank_at, winner_of_rank}
 use Rattle.adr_timeline.specs.Windows.{any_covers}
 use Rattle.adr_stretch.specs.declared.grouped.TypeEntries.{TypeEntries}
-use Rattle.adr_stretch.specs.Grouped.{any_covers_at, entries_under, HaveOwnTypes}
+use Rattle.adr_stretch.specs.Grouped.{entries_under, HaveOwnTypes}
 use Rattle.adr_lines.specs.declared.indexes.Indexes.{Indexes}
 use Rattle.adr_lines.specs.Indexes.{under}
 use Rattle.adr_group.specs.Group.{shown_in}
@@ -32,15 +32,6 @@ pub record IsMet (lines : List (List ℕ × List Segment)) (group : TypeEntries)
 -- the least, at each instant, of what is shown and of the entries, by the ranks of winners
 abbrev pub least_shown : (Winner → Rank) → Option Winner → List Entry → ℤ → Option Winner
 least_shown rank shown entries t = option_map winner_of_rank (lesser (option_map rank shown) (rank_at entries t))
-
--- what is shown is the least of what was and of the groups' entries
-abbrev pub IsLaidOver : (Winner → Rank) → List TypeEntries → List (List ℕ × List Segment) → List (List ℕ × List Segment) → Type 0
-IsLaidOver rank groups old new = (k : PayloadType) (t : ℤ) → shown_in new k t ≡ least_shown rank (shown_in old k t) (entries_under groups k) t
-
--- wherever an interval of the write of that number is shown, a window covers the instant
-abbrev pub HoldShown : ℕ → List (List ℕ × List Segment) → (PayloadType → List Entry) → Type 0
-HoldShown number lines windows =
-    (k : PayloadType) (t : ℤ) (w : Winner) → shown_in lines k t ≡ Some w → w.written ≡ number → any_covers_at (windows k) t ≡ true
 
 -- under each type the indexed entries of that number are just those of the groups
 abbrev pub AreOwnOf : Indexes → ℕ → List TypeEntries → Type 0

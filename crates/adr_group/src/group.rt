@@ -7,26 +7,22 @@ ghost use Rattle.adr_value.specs.Copy.{IsCopyOf};
 ghost use Rattle.adr_value.specs.Payload.{name_of};
 ghost use Rattle.adr_value.specs.declared.payload.PayloadType.{PayloadType as AnyType};
 ghost use Rattle.adr_shared.specs.Map.{IsAscending};
-ghost use Rattle.adr_model.specs.declared.entry.Rank.{Rank as AnyRank};
 ghost use Rattle.adr_model.specs.declared.entry.Tie.{Tie};
-ghost use Rattle.adr_model.specs.declared.timeline.Winner.{Winner as AnyWinner};
 ghost use Rattle.adr_model.specs.declared.written.Written.{Written};
 ghost use Rattle.adr_model.specs.Governor.{winner_at};
 ghost use Rattle.adr_model.specs.Timeline.{shows, IsCanonical};
-ghost use Rattle.adr_stretch.specs.declared.grouped.TypeEntries.{TypeEntries as AnyEntries};
-ghost use Rattle.adr_stretch.specs.Grouped.{any_covers_at, entries_under, HaveOwnTypes};
+ghost use Rattle.adr_stretch.specs.Grouped.{any_covers_at, entries_under};
 ghost use Rattle.adr_stretch.specs.Counted.{entries_in_groups};
 ghost use Rattle.adr_stretch.specs.Right.{has_number, written_in};
 ghost use Rattle.adr_lines.specs.declared.indexes.Indexes.{Indexes as AllIndexes};
 ghost use Rattle.adr_lines.specs.Exchange.{IsIndexOf};
 ghost use Rattle.adr_lines.specs.Indexes.{under};
-ghost use Rattle.adr_group.specs.Group.{shown_in, AgreeOutside, AllShow, AreWindowsOf, IsRightOf, Lines};
+ghost use Rattle.adr_group.specs.Group.{shown_in, AgreeOutside, AllShow, AreWindowsOf, IsRightOf};
 ghost use Rattle.adr_group.specs.Jobs.{jobs_for, IsDone};
-ghost use Rattle.adr_group.specs.Laid.{are_runs, HoldShown, IsComing, IsLaidOver};
+ghost use Rattle.adr_group.specs.Laid.{are_runs, IsComing};
 ghost use Rattle.adr_group.specs.Repair.{most_repaired};
 ghost use Rattle.adr_group.specs.Writes.{changed_number};
 
-use crate::governed::governed;
 use crate::job::Done;
 use crate::laid::{all_laid, all_met};
 use crate::repair::{repaired, together};
@@ -160,9 +156,7 @@ impl Group {
     }
 
     /// The group of those writes, put together of this one and of what was built inside the windows: if each was built of
-    /// the events that are indexed, then the new one is right of them as `Group::repaired` makes it. Where an event goes,
-    /// the windows need only hold the instants at which it is shown; and this group may be the old one with an event laid
-    /// over it, that comes in exchange. It compares nothing.
+    /// the events that are indexed, then the new one is right of them as `Group::repaired` makes it. It compares nothing.
     /// `NoMemory` where there is no room. Cost: for each type one splice where its windows stand in order and apart, else
     /// one for each window.
     pub fn with_built(
@@ -174,29 +168,11 @@ impl Group {
     ) -> Result<Group, Refusal>
         ensures writes { IfOk result (λ group. group.writes ≡ writes.now) }
         ensures right { IfOk result (λ group. (indexes : AllIndexes) → AllZip (IsDone indexes) (jobs_for writes.now windows.now) done.now → (tie : Tie) (events : List Written) → IsIndexOf tie events indexes → AreWindowsOf events self.now.writes writes.now (entries_under windows.now) → IsRightOf tie events self.now → IsRightOf tie events group) }
-        ensures left { IfOk result (λ group. (indexes : AllIndexes) → AllZip (IsDone indexes) (jobs_for writes.now windows.now) done.now → (gone : ℕ) → ((n : ℕ) → has_number writes.now n ≡ changed_number (Some gone) None self.now.writes n) → HoldShown gone self.now.lines (entries_under windows.now) → (tie : Tie) (events : List Written) → IsIndexOf tie events indexes → IsRightOf tie events self.now → IsRightOf tie events group) }
-        ensures exchanged { IfOk result (λ group. (indexes : AllIndexes) → AllZip (IsDone indexes) (jobs_for writes.now windows.now) done.now → (old : Lines) (rank : AnyWinner → AnyRank) (gone number : ℕ) (entries : List AnyEntries) → IsComing indexes rank number entries → has_number old.writes number ≡ false → (gone ≡ number → ⊥) → IsLaidOver rank entries old.lines self.now.lines → ((n : ℕ) → has_number writes.now n ≡ changed_number (Some gone) (Some number) old.writes n) → HoldShown gone old.lines (entries_under windows.now) → (tie : Tie) (events : List Written) → IsIndexOf tie events indexes → IsRightOf tie events old → IsRightOf tie events group) }
         ensures memory { OnlyNoMemory result }
     {
         let lines = together(alloc, &self.lines, windows, done)?;
         let writes = writes.copy()?;
         Ok(Group { writes, lines })
-    }
-
-    /// The event's windows in which an interval of the write of that number is shown: where the event goes, only they are
-    /// to be repaired. `NoMemory` where there is no room for them. Cost: for each window two searches of its timeline, and
-    /// a look at each segment that it meets where there are several.
-    pub fn governed(
-        &self,
-        alloc: Global,
-        number: u64,
-        event: &[TypeEntries],
-    ) -> Result<Vec<TypeEntries>, Refusal>
-        ensures held { IfOk result (λ windows. (k : AnyType) (t : ℤ) (w : AnyWinner) → any_covers_at (entries_under event.now k) t ≡ true → shown_in self.now.lines k t ≡ Some w → w.written ≡ number → any_covers_at (entries_under windows.items k) t ≡ true) }
-        ensures cost { IfOk result (λ windows. (numbers : List ℕ) (indexes : AllIndexes) → most_repaired windows.items numbers indexes ≤ most_repaired event.now numbers indexes) }
-        ensures memory { OnlyNoMemory result }
-    {
-        governed(alloc, &self.lines, number, event)
     }
 
     /// The group of those writes, which an event joins: its entries are laid over the timelines, and compete with what is
@@ -216,7 +192,6 @@ impl Group {
         requires room { are_runs entries.now ≡ true → meter.old + 3 * entries_in_groups entries.now < 2 ^ 128 }
         ensures writes { IfOk result (λ made. IfSome made (λ group. group.writes ≡ writes.now)) }
         ensures right { IfOk result (λ made. IfSome made (λ group. (indexes : AllIndexes) (number : ℕ) → IsComing indexes (R.rank ranks.now) number entries.now → has_number self.now.writes number ≡ false → ((n : ℕ) → has_number writes.now n ≡ changed_number None (Some number) self.now.writes n) → (tie : Tie) (events : List Written) → IsIndexOf tie events indexes → IsRightOf tie events self.now → IsRightOf tie events group)) }
-        ensures laid { IfOk result (λ made. IfSome made (λ group. HaveOwnTypes entries.now → IsLaidOver (R.rank ranks.now) entries.now self.now.lines group.lines)) }
         ensures runs { IfOk result (λ made. IfSome made (λ group. are_runs entries.now ≡ true)) }
         ensures compared { meter.new ≤ meter.old + 3 * entries_in_groups entries.now }
         ensures none { result ≡ Ok None → meter.new ≡ meter.old }

@@ -1,7 +1,6 @@
 #![tactic(auto)]
 //! The timelines of resources to which the same events apply, and their repair where events differ.
 
-mod governed;
 mod group;
 mod job;
 mod laid;

@@ -60,7 +60,7 @@ module _ (change : Change) (writes : List ℕ) where
   for_gone : (s : Side) → kept_side true writes change.gone ≡ Some s → kept_side false writes change.come ≡ None → entries_in change.gone ≡ sides_for change writes
   for_gone s gone come = ap entries_in (kept_is true writes change.gone s gone) ∙ sym (append-nil (entries_in (Some s))) ∙ sym (rw (gone, come) refl)
 
-  for_come : (s : Side) → kept_side true writes change.gone ≡ None → kept_side false writes change.come ≡ Some s → entries_in change.come ≡ sides_for change writes
+  pub for_come : (s : Side) → kept_side true writes change.gone ≡ None → kept_side false writes change.come ≡ Some s → entries_in change.come ≡ sides_for change writes
   for_come s gone come = ap entries_in (kept_is false writes change.come s come) ∙ sym (rw (gone, come) refl)
 
   for_both : (s r : Side) → kept_side true writes change.gone ≡ Some s → kept_side false writes change.come ≡ Some r → entries_in change.gone ++ entries_in change.come ≡ sides_for change writes
@@ -133,50 +133,40 @@ long_done R [] ys done h = omega arith
 long_done R (x ∷ xs) ys [] h = absurd h
 long_done R (x ∷ xs) ys (d ∷ done) h = let r = long_done R xs ys done h.1 in omega (arith, r)
 
--- what was made stands in the slot of a draft, and those that are left are others
-pub one_put : (change : Change) (indexes : Indexes) (drafts more : List Draft) (d own : Draft) (made after : List (List ℕ × Lines)) (h : Lines)
-    → after ≡ put (d.slot ∷ []) h made → In own drafts → own.slot ≡ d.slot → Becomes change indexes own.group h
-    → AreMadeSoFar change indexes drafts (d ∷ more) made → AreMadeSoFar change indexes drafts more after
-one_put change indexes drafts more d own made after h added here slot becomes a = record {
+-- one more is made
+pub one_made : (indexes : Indexes) (drafts rest more : List Draft) (d : Draft) (made after : List (List ℕ × Lines)) (h : Lines)
+    → rest ≡ d ∷ more → after ≡ put (d.slot ∷ []) h made → IsMadeOf indexes d h
+    → AreMadeSoFar indexes drafts rest made → AreMadeSoFar indexes drafts more after
+one_made indexes drafts rest more d made after h is added right a = record {
   of = λ s x k. of s x (subst (λ z. in_slot z s ≡ Some x) added k) (one_or_other s d.slot);
   has = λ e m. has e (a.has e m);
-  left = λ e m. a.left e (inr m);
+  left = λ e m. a.left e (subst (λ l. In e l) (sym is) (inr m));
 }
   where
-    of : (s : ℕ) (x : Lines) → in_slot (put (d.slot ∷ []) h made) s ≡ Some x → (s ≡ d.slot) ⊎ (s ≡ d.slot → ⊥) → (e : Draft) × In e drafts × (e.slot ≡ s) × Becomes change indexes e.group x
+    of : (s : ℕ) (x : Lines) → in_slot (put (d.slot ∷ []) h made) s ≡ Some x → (s ≡ d.slot) ⊎ (s ≡ d.slot → ⊥) → (e : Draft) × In e drafts × (e.slot ≡ s) × IsMadeOf indexes e x
     of s x k (inl e) =
         let same : h ≡ x = some_same h x (sym (put_here made d.slot h) ∙ subst (λ z. in_slot (put (d.slot ∷ []) h made) z ≡ Some x) e k) in
-        (own, here, slot ∙ sym e, subst (λ z. Becomes change indexes own.group z) same becomes)
+        (d, a.left d (subst (λ l. In d l) (sym is) (inl refl)), sym e, subst (λ z. IsMadeOf indexes d z) same right)
     of s x k (inr apart) = a.of s x (sym (put_elsewhere made d.slot s h apart) ∙ k)
 
     there : (s : ℕ) → (s ≡ d.slot) ⊎ (s ≡ d.slot → ⊥) → (x : Lines) × (in_slot made s ≡ Some x) → (x : Lines) × (in_slot (put (d.slot ∷ []) h made) s ≡ Some x)
     there s (inl e) k = (h, ap (λ z. in_slot (put (d.slot ∷ []) h made) z) e ∙ put_here made d.slot h)
     there s (inr apart) k = (k.0, put_elsewhere made d.slot s h apart ∙ k.1)
 
-    first : (e f : Draft) → f.slot ≡ e.slot → In f (d ∷ more) → ((x : Draft) × In x more × (x.slot ≡ e.slot)) ⊎ ((x : Lines) × (in_slot after e.slot ≡ Some x))
-    first e f slots (inl same) =
-        let at : d.slot ≡ e.slot = ap (λ (x : Draft). x.slot) same ∙ slots in
-        inr (h, ap (λ z. in_slot z e.slot) added ∙ subst (λ z. in_slot (put (d.slot ∷ []) h made) z ≡ Some h) at (put_here made d.slot h))
-    first e f slots (inr m) = inl (f, m, slots)
+    first : (e : Draft) → In e (d ∷ more) → In e more ⊎ ((x : Lines) × (in_slot after e.slot ≡ Some x))
+    first e (inl same) = inr (h, ap (λ z. in_slot z e.slot) added ∙ subst (λ z. in_slot (put (d.slot ∷ []) h made) z.slot ≡ Some h) same (put_here made d.slot h))
+    first e (inr m) = inl m
 
-    has : (e : Draft) → ((x : Draft) × In x (d ∷ more) × (x.slot ≡ e.slot)) ⊎ ((x : Lines) × (in_slot made e.slot ≡ Some x)) → ((x : Draft) × In x more × (x.slot ≡ e.slot)) ⊎ ((x : Lines) × (in_slot after e.slot ≡ Some x))
-    has e (inl (f, m, slots)) = first e f slots m
+    has : (e : Draft) → In e rest ⊎ ((x : Lines) × (in_slot made e.slot ≡ Some x)) → In e more ⊎ ((x : Lines) × (in_slot after e.slot ≡ Some x))
+    has e (inl m) = first e (subst (λ l. In e l) is m)
     has e (inr k) = let t = there e.slot (one_or_other e.slot d.slot) k in inr (t.0, ap (λ z. in_slot z e.slot) added ∙ t.1)
 
--- one more is made
-pub one_made : (change : Change) (indexes : Indexes) (drafts rest more : List Draft) (d : Draft) (made after : List (List ℕ × Lines)) (h : Lines)
-    → rest ≡ d ∷ more → after ≡ put (d.slot ∷ []) h made → IsMadeOf indexes d h
-    → AreMadeSoFar change indexes drafts rest made → AreMadeSoFar change indexes drafts more after
-one_made change indexes drafts rest more d made after h is added right a =
-    let o = a.left d (subst (λ l. In d l) (sym is) (inl refl)) in
-    one_put change indexes drafts more d o.0 made after h added o.1 o.2 (o.3 h right) (subst (λ l. AreMadeSoFar change indexes drafts l made) is a)
-
 -- all are made
-pub every_made : (change : Change) (indexes : Indexes) (drafts rest : List Draft) (made : List (List ℕ × Lines)) → rest ≡ [] → AreMadeSoFar change indexes drafts rest made → AreMadeOf change indexes drafts made
-every_made change indexes drafts rest made none a = record { of = a.of; has = λ d m. has d (a.has d m) }
+pub every_made : (indexes : Indexes) (drafts rest : List Draft) (made : List (List ℕ × Lines)) → rest ≡ [] → AreMadeSoFar indexes drafts rest made → AreMadeOf indexes drafts made
+every_made indexes drafts rest made none a = record { of = a.of; has = λ d m. has d (a.has d m) }
   where
-    has : (d : Draft) → ((e : Draft) × In e rest × (e.slot ≡ d.slot)) ⊎ ((h : Lines) × (in_slot made d.slot ≡ Some h)) → (h : Lines) × (in_slot made d.slot ≡ Some h)
-    has d (inl (e, m, slots)) = absurd (subst (λ l. In e l) none m)
+    has : (d : Draft) → In d rest ⊎ ((h : Lines) × (in_slot made d.slot ≡ Some h)) → (h : Lines) × (in_slot made d.slot ≡ Some h)
+    has d (inl m) = absurd (subst (λ l. In d l) none m)
     has d (inr k) = k
 
 -- windows that cover what others do hold what those hold
@@ -206,7 +196,7 @@ made_right indexes g h d writes windows group own alike made tie events index wi
 
 module _ (change : Change) (indexes : Indexes) (two : AreTwo change) where
   -- what was made of a group's draft is what becomes of it
-  pub draft_becomes : (g h : Lines) (d : Draft) → IsDraftOf change g d → IsMadeOf indexes d h → Becomes change indexes g h
+  draft_becomes : (g h : Lines) (d : Draft) → IsDraftOf change g d → IsMadeOf indexes d h → Becomes change indexes g h
   draft_becomes g h d of made =
       becomes_repaired change indexes g h two
       (λ n. ap (λ ws. has_number ws n) made.writes ∙ of.writes n)
@@ -224,16 +214,13 @@ module _ (change : Change) (indexes : Indexes) (two : AreTwo change) where
   pub all_become : (places seats : List ℕ) (groups : List (List ℕ × Lines)) (drafts : List Draft) (made : List (List ℕ × Lines))
       → AreDraftsIn change groups drafts
       → ((place slot : ℕ) → is_among places place ≡ true → slice_get seats place ≡ Some slot → IsSeen change groups drafts slot)
-      → AreMadeOf change indexes drafts made → AreMadeFor (Becomes change indexes) places seats groups made
+      → AreMadeOf indexes drafts made → AreMadeFor (Becomes change indexes) places seats groups made
   all_become places seats groups drafts made valid seen all place slot among at g here = by (in_slot made slot) refl (seen place slot among at g here)
     where
       by : (o : Option Lines) → in_slot made slot ≡ o → IsSame change g ⊎ ((d : Draft) × In d drafts × (d.slot ≡ slot)) → MatchOption o (Becomes change indexes g g) (λ h. Becomes change indexes g h)
       by None e (inl same) = becomes_itself change indexes g same.0 same.1
       by None e (inr (d, m, is)) = let h = all.has d m in absurd (none_is_some h.0 (sym e ∙ subst (λ z. in_slot made z ≡ Some h.0) is h.1))
-      by (Some h) e s =
-          let m = all.of slot h e in
-          let of = valid m.0 m.1 g (subst (λ z. in_slot groups z ≡ Some g) (sym m.2) here) in
-          subst (λ x. Becomes change indexes x h) of.group m.3
+      by (Some h) e s = let m = all.of slot h e in draft_becomes g h m.0 (valid m.0 m.1 g (subst (λ z. in_slot groups z ≡ Some g) (sym m.2) here)) m.3
 
 -- ---- one place after the other
 

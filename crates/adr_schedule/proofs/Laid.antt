@@ -10,7 +10,9 @@ use Rattle.adr_time.specs.Spans.{lasts, meets}
 use Rattle.adr_time.specs.declared.span.Span.{Span}
 use Rattle.adr_model.specs.declared.entry.Entry.{Entry}
 use Rattle.adr_model.specs.declared.entry.Rank.{Rank}
+use Rattle.adr_model.specs.declared.entry.Tie.{Tie}
 use Rattle.adr_model.specs.declared.timeline.Winner.{Winner}
+use Rattle.adr_model.specs.declared.written.Written.{Written}
 use Rattle.adr_model.specs.Entries.{meeting}
 use Rattle.adr_model.specs.Lists.{In}
 use Rattle.adr_model.proofs.Lists.{bytes_eq_self, In-append_cases, In-append_left, In-append_right, In-filter, In-flat_map}
@@ -21,21 +23,21 @@ use Rattle.adr_stretch.specs.Counted.{entries_in_groups}
 use Rattle.adr_stretch.specs.Grouped.{entries_under}
 use Rattle.adr_stretch.specs.Right.{has_number, written_in}
 use Rattle.adr_lines.specs.declared.indexes.Indexes.{Indexes}
+use Rattle.adr_lines.specs.Exchange.{IsIndexOf}
 use Rattle.adr_lines.specs.Indexes.{under}
-use Rattle.adr_group.specs.Group.{Lines}
+use Rattle.adr_group.specs.Group.{IsRightOf, Lines}
 use Rattle.adr_group.specs.Laid.{are_runs, IsComing}
 use Rattle.adr_group.specs.Repair.{most_inside, most_repaired}
+use Rattle.adr_group.specs.Writes.{changed_number}
 use Rattle.adr_group.proofs.Possible.{cost_rises}
-use Rattle.adr_group.proofs.Turns.{most_both}
 use Rattle.adr_shared.specs.Map.{put}
 use Rattle.adr_schedule.specs.declared.change.Change.{Change}
 use Rattle.adr_schedule.specs.declared.change.Side.{Side}
 use Rattle.adr_schedule.specs.declared.draft.Draft.{Draft}
-use Rattle.adr_schedule.specs.Draft.{most_drafted, most_over, AreDraftsOf, AreMadeSoFar, IsDraftOf, Suits}
-use Rattle.adr_schedule.specs.Shift.{entries_in, kept_side, AreTwo, Becomes, IsLaidBy}
+use Rattle.adr_schedule.specs.Draft.{most_drafted, AreDraftsOf, AreMadeSoFar, IsDraftOf, IsMadeOf}
+use Rattle.adr_schedule.specs.Shift.{entries_in, kept_side, IsLaidBy}
 use Rattle.adr_schedule.specs.Slots.{in_slot}
-use Rattle.adr_schedule.proofs.Drafts.{draft_becomes, in_before, in_last, one_put}
-use Rattle.adr_schedule.proofs.Seated.{none_is_some}
+use Rattle.adr_schedule.proofs.Drafts.{for_come, in_before, in_last, one_made}
 use Rattle.adr_schedule.proofs.Variant.{kept_is}
 
 -- ---- what the entries of an event compare at least
@@ -82,89 +84,73 @@ module _ (indexes : Indexes) (writes : List ℕ) (number : ℕ) (has : has_numbe
         let whole = sum_by-cons (λ (h : TypeEntries). length h.entries.items) g gs in
         omega (arith, whole, here, rest)
 
--- ---- a draft of a group that gains the event that comes
+-- ---- a draft whose group only gains the event that comes
 
-module _ (change : Change) (d : Draft) (side : Side) (of : IsDraftOf change d.group d) (come : kept_side false d.group.writes change.come ≡ Some side) where
-  -- its old writes have that event's number not yet
-  pub not_yet : has_number d.group.writes side.written ≡ false
+module _ (change : Change) (g : Lines) (d : Draft) (side : Side) (of : IsDraftOf change g d) (gone : kept_side true g.writes change.gone ≡ None) (come : kept_side false g.writes change.come ≡ Some side) where
+  -- its writes get that event's number
+  pub joined : (n : ℕ) → has_number d.writes n ≡ changed_number None (Some side.written) g.writes n
+  joined n = of.writes n ∙ rw (gone, come) refl
+
+  -- which they have not yet
+  pub not_yet : has_number g.writes side.written ≡ false
   not_yet = by change.come come
     where
-      by : (o : Option Side) → kept_side false d.group.writes o ≡ Some side → has_number d.group.writes side.written ≡ false
+      by : (o : Option Side) → kept_side false g.writes o ≡ Some side → has_number g.writes side.written ≡ false
       by None e = absurd (cc)
-      by (Some s) e = other (has_number d.group.writes s.written) refl e
+      by (Some s) e = other (has_number g.writes s.written) refl e
         where
-          other : (b : Bool) → has_number d.group.writes s.written ≡ b → (if b then None else Some s) ≡ Some side → has_number d.group.writes side.written ≡ false
+          other : (b : Bool) → has_number g.writes s.written ≡ b → (if b then None else Some s) ≡ Some side → has_number g.writes side.written ≡ false
           other true h k = absurd (cc)
-          other false h k = let one : s ≡ side = cc in subst (λ (x : Side). has_number d.group.writes x.written ≡ false) one h
+          other false h k = let one : s ≡ side = cc in subst (λ (x : Side). has_number g.writes x.written ≡ false) one h
 
-  -- and its new ones have it
-  pub joined : has_number d.writes side.written ≡ true
-  joined = of.writes side.written ∙ rw (come, eq-eqb side.written side.written refl) refl
-
-  module _ (ranks : Option (Winner → Rank)) (rank : Winner → Rank) (is : ranks ≡ Some rank) (indexes : Indexes) (laid : IsLaidBy ranks indexes change) where
+  module _ (rank : Winner → Rank) (indexes : Indexes) (laid : IsLaidBy (Some rank) indexes change) where
     pub comes : IsComing indexes rank side.written side.entries.items
-    comes = laid rank side is (kept_is false d.group.writes change.come side come)
+    comes = laid rank side refl (kept_is false g.writes change.come side come)
 
-    -- what is laid compares no more than the repair in the entries of the event does
-    pub laid_least : are_runs side.entries.items ≡ true → 3 * entries_in_groups side.entries.items ≤ most_repaired (entries_in (kept_side false d.group.writes change.come)) d.writes indexes
+    -- what is laid compares no more than the repair does
+    pub laid_least : are_runs side.entries.items ≡ true → 3 * entries_in_groups side.entries.items ≤ most_repaired d.windows.items d.writes indexes
     laid_least runs =
-        let least = groups_least indexes d.writes side.written joined side.entries.items rank comes side.entries.items (λ x m. m) runs in
-        let cost = ap (λ o. most_repaired (entries_in o) d.writes indexes) come in
+        let has : has_number d.writes side.written ≡ true = joined side.written ∙ (rw (eq-eqb side.written side.written refl) refl) in
+        let least = groups_least indexes d.writes side.written has side.entries.items rank comes side.entries.items (λ x m. m) runs in
+        let cost = of.windows.cost d.writes indexes ∙ ap (λ l. most_repaired l d.writes indexes) (sym (for_come change g.writes side gone come) ∙ ap entries_in (kept_is false g.writes change.come side come)) in
         omega (arith, least, cost)
 
     -- so what is laid compares no more, where nothing is compared unless it is laid
     pub laid_within : (made : Option Lines) (entries : List TypeEntries) (count : ℕ) → entries ≡ side.entries.items → (made ≡ None → count ≡ 0) → IfSome made (λ h. are_runs entries ≡ true)
-        → count ≤ 3 * entries_in_groups entries → count ≤ most_over change d made indexes
+        → count ≤ 3 * entries_in_groups entries → count ≤ most_repaired d.windows.items d.writes indexes
     laid_within None entries count same none runs most = omega (arith, none refl)
     laid_within (Some h) entries count same none runs most =
         let least = laid_least (subst (λ l. are_runs l ≡ true) same runs) in
         let as_many = ap entries_in_groups same in
         omega (arith, least, as_many, most)
 
--- to repair a draft in the entries of the one event and in those of the other
-pub draft_parts : (change : Change) (d : Draft) (indexes : Indexes) → IsDraftOf change d.group d
-    → most_repaired d.windows.items d.writes indexes
-    ≡ most_repaired (entries_in (kept_side true d.group.writes change.gone)) d.writes indexes + most_repaired (entries_in (kept_side false d.group.writes change.come)) d.writes indexes
-draft_parts change d indexes of =
-    of.windows.cost d.writes indexes ∙ most_both (entries_in (kept_side true d.group.writes change.gone)) (entries_in (kept_side false d.group.writes change.come)) d.writes indexes
-
--- what is laid compares no more than the whole repair does
-pub over_less : (change : Change) (d : Draft) (indexes : Indexes) (made : Option Lines) → IsDraftOf change d.group d → most_over change d made indexes ≤ most_repaired d.windows.items d.writes indexes
-over_less change d indexes None of = omega arith
-over_less change d indexes (Some h) of = let parts = draft_parts change d indexes of in omega (arith, parts)
+  -- the group with the event laid over it was made of the draft
+  pub laid_made : (rank : Winner → Rank) (made : Option Lines) (entries : List TypeEntries) → entries ≡ side.entries.items → IfSome made (λ h. h.writes ≡ d.writes)
+      → IfSome made (λ h. (indexes : Indexes) (number : ℕ) → IsComing indexes rank number entries → has_number g.writes number ≡ false → ((n : ℕ) → has_number d.writes n ≡ changed_number None (Some number) g.writes n)
+      → (tie : Tie) (events : List Written) → IsIndexOf tie events indexes → IsRightOf tie events g → IsRightOf tie events h)
+      → IfSome made (λ h. (indexes : Indexes) → IsLaidBy (Some rank) indexes change → IsMadeOf indexes d h)
+  laid_made rank None entries same writes right = tt
+  laid_made rank (Some h) entries same writes right = λ indexes laid. record {
+    writes = writes;
+    right = λ tie events index windows before.
+        right indexes side.written (subst (λ l. IsComing indexes rank side.written l) (sym same) (comes rank indexes laid)) not_yet joined tie events index
+        (subst (λ (x : Lines). IsRightOf tie events x) of.group before);
+  }
 
 -- ---- one draft after the other
 
 -- the drafts that are left may stand in another order
-pub same_left : (change : Change) (indexes : Indexes) (drafts rest others : List Draft) (made : List (List ℕ × Lines)) → ((d : Draft) → In d rest → In d others) → ((d : Draft) → In d others → In d rest)
-    → AreMadeSoFar change indexes drafts rest made → AreMadeSoFar change indexes drafts others made
-same_left change indexes drafts rest others made goes comes a = record {
+pub same_left : (indexes : Indexes) (drafts rest others : List Draft) (made : List (List ℕ × Lines)) → ((d : Draft) → In d rest → In d others) → ((d : Draft) → In d others → In d rest)
+    → AreMadeSoFar indexes drafts rest made → AreMadeSoFar indexes drafts others made
+same_left indexes drafts rest others made goes comes a = record {
   of = a.of;
   has = λ d m. by d (a.has d m);
-  left = λ e m. a.left e (comes e m);
+  left = λ d m. a.left d (comes d m);
 }
   where
-    by : (d : Draft) → ((e : Draft) × In e rest × (e.slot ≡ d.slot)) ⊎ ((h : Lines) × (in_slot made d.slot ≡ Some h)) → ((e : Draft) × In e others × (e.slot ≡ d.slot)) ⊎ ((h : Lines) × (in_slot made d.slot ≡ Some h))
-    by d (inl (e, m, slots)) = inl (e, goes e m, slots)
+    by : (d : Draft) → In d rest ⊎ ((h : Lines) × (in_slot made d.slot ≡ Some h)) → In d others ⊎ ((h : Lines) × (in_slot made d.slot ≡ Some h))
+    by d (inl m) = inl (goes d m)
     by d (inr k) = inr k
-
--- another stands for the first draft
-other_first : (change : Change) (indexes : Indexes) (drafts more : List Draft) (d e : Draft) (made : List (List ℕ × Lines)) → In d drafts → e.slot ≡ d.slot → Suits change indexes d.group e
-    → AreMadeSoFar change indexes drafts (d ∷ more) made → AreMadeSoFar change indexes drafts (e ∷ more) made
-other_first change indexes drafts more d e made here slot suits a = record {
-  of = a.of;
-  has = λ x m. by x (a.has x m);
-  left = left;
-}
-  where
-    by : (x : Draft) → ((y : Draft) × In y (d ∷ more) × (y.slot ≡ x.slot)) ⊎ ((h : Lines) × (in_slot made x.slot ≡ Some h)) → ((y : Draft) × In y (e ∷ more) × (y.slot ≡ x.slot)) ⊎ ((h : Lines) × (in_slot made x.slot ≡ Some h))
-    by x (inl (y, inl same, slots)) = inl (e, inl refl, slot ∙ ap (λ (z : Draft). z.slot) same ∙ slots)
-    by x (inl (y, inr m, slots)) = inl (y, inr m, slots)
-    by x (inr k) = inr k
-
-    left : (x : Draft) → In x (e ∷ more) → (y : Draft) × In y drafts × (y.slot ≡ x.slot) × Suits change indexes y.group x
-    left x (inl same) = (d, here, sym slot ∙ ap (λ (z : Draft). z.slot) same, subst (λ z. Suits change indexes d.group z) same suits)
-    left x (inr m) = a.left x (inr m)
 
 module _ {X : Type 0} (x : X) (xs ys : List X) where
   to_front : (y : X) → In y ((xs ++ x ∷ []) ++ ys) → In y (x ∷ (xs ++ ys))
@@ -207,21 +193,19 @@ module _ {X : Type 0} (x : X) (xs ys : List X) where
       by (inl a) = inr (In-append_left y xs ys a)
       by (inr b) = one (In-append_cases y ys (x ∷ []) b)
 
-module _ (change : Change) (indexes : Indexes) (all rest left : List Draft) (d : Draft) (made : List (List ℕ × Lines)) (here : In d all) (before : AreMadeSoFar change indexes all ((rest ++ d ∷ []) ++ left) made) where
-  first : AreMadeSoFar change indexes all (d ∷ (rest ++ left)) made
-  first = same_left change indexes all ((rest ++ d ∷ []) ++ left) (d ∷ (rest ++ left)) made (to_front d rest left) (from_front d rest left) before
+module _ (indexes : Indexes) (all rest left : List Draft) (d : Draft) (made : List (List ℕ × Lines)) (before : AreMadeSoFar indexes all ((rest ++ d ∷ []) ++ left) made) where
+  first : AreMadeSoFar indexes all (d ∷ (rest ++ left)) made
+  first = same_left indexes all ((rest ++ d ∷ []) ++ left) (d ∷ (rest ++ left)) made (to_front d rest left) (from_front d rest left) before
 
   -- the group of the draft is laid
-  pub one_laid : (e : Draft) (after : List (List ℕ × Lines)) (h : Lines) → e.slot ≡ d.slot → after ≡ put (e.slot ∷ []) h made → Becomes change indexes d.group h → AreMadeSoFar change indexes all (rest ++ left) after
-  one_laid e after h slot added becomes =
-      one_put change indexes all (rest ++ left) d d made after h (added ∙ ap (λ (s : ℕ). put (s ∷ []) h made) slot) here refl becomes first
+  pub one_laid : (after : List (List ℕ × Lines)) (h : Lines) → after ≡ put (d.slot ∷ []) h made → IsMadeOf indexes d h → AreMadeSoFar indexes all (rest ++ left) after
+  one_laid after h added right = one_made indexes all (d ∷ (rest ++ left)) (rest ++ left) d made after h refl added right first
 
-  -- or the draft is left, or another for it
-  pub one_left : (e : Draft) (more : List Draft) → e.slot ≡ d.slot → Suits change indexes d.group e → more ≡ left ++ e ∷ [] → AreMadeSoFar change indexes all (rest ++ more) made
-  one_left e more slot suits pushed =
-      subst (λ l. AreMadeSoFar change indexes all (rest ++ l) made) (sym pushed)
-      (same_left change indexes all (e ∷ (rest ++ left)) (rest ++ (left ++ e ∷ [])) made (to_back e rest left) (from_back e rest left)
-      (other_first change indexes all (rest ++ left) d e made here slot suits first))
+  -- or the draft is left
+  pub one_left : (more : List Draft) → more ≡ left ++ d ∷ [] → AreMadeSoFar indexes all (rest ++ more) made
+  one_left more pushed =
+      subst (λ l. AreMadeSoFar indexes all (rest ++ l) made) (sym pushed)
+      (same_left indexes all (d ∷ (rest ++ left)) (rest ++ (left ++ d ∷ [])) made (to_back d rest left) (from_back d rest left) first)
 
 -- where no last item is there is none
 pub none_popped : {X : Type 0} (xs rest : List X) (n : ℕ) → n ≡ 0 → rest ≡ take (n - 1) xs → xs ≡ rest ++ [] → xs ≡ []
@@ -234,19 +218,11 @@ none_popped xs rest n none taken all =
     take_none (x ∷ xs) = refl
 
 -- the last of the drafts is taken
-pub last_there : (all drafts rest : List Draft) (d : Draft) → drafts ≡ rest ++ d ∷ [] → ((x : Draft) → In x drafts → In x all) → In d all
-last_there all drafts rest d is held = held d (subst (λ l. In d l) (sym is) (in_last d rest))
+pub last_draft : (change : Change) (drafts rest : List Draft) (d : Draft) → drafts ≡ rest ++ d ∷ [] → AreDraftsOf change drafts → IsDraftOf change d.group d
+last_draft change drafts rest d is of = of d (subst (λ l. In d l) (sym is) (in_last d rest))
 
-pub first_there : (all drafts rest : List Draft) (d : Draft) → drafts ≡ rest ++ d ∷ [] → ((x : Draft) → In x drafts → In x all) → (x : Draft) → In x rest → In x all
-first_there all drafts rest d is held x m = held x (subst (λ l. In x l) (sym is) (in_before x rest (d ∷ []) m))
+pub first_drafts : (change : Change) (drafts rest : List Draft) (d : Draft) → drafts ≡ rest ++ d ∷ [] → AreDraftsOf change drafts → AreDraftsOf change rest
+first_drafts change drafts rest d is of x m = of x (subst (λ l. In x l) (sym is) (in_before x rest (d ∷ []) m))
 
 pub last_cost : (indexes : Indexes) (drafts rest : List Draft) (d : Draft) → drafts ≡ rest ++ d ∷ [] → most_drafted indexes drafts ≡ most_drafted indexes rest + most_repaired d.windows.items d.writes indexes
 last_cost indexes drafts rest d is = ap (most_drafted indexes) is ∙ sum_by_push (λ (x : Draft). most_repaired x.windows.items x.writes indexes) rest d
-
--- before any is laid all are left
-pub all_left : (change : Change) (indexes : Indexes) (all rest : List Draft) → AreTwo change → AreDraftsOf change all → all ≡ rest → AreMadeSoFar change indexes all rest []
-all_left change indexes all rest two of same = subst (λ l. AreMadeSoFar change indexes all l []) same (record {
-  of = λ s h e. absurd (none_is_some h e);
-  has = λ d m. inl (d, m, refl);
-  left = λ e m. (e, m, refl, λ h made. draft_becomes change indexes two e.group h e (of e m) made);
-})

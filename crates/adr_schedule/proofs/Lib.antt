@@ -1,7 +1,6 @@
 pub mod Drafts
 pub mod Filled
 pub mod Laid
-pub mod Narrow
 pub mod Least
 pub mod Numbered
 pub mod Places

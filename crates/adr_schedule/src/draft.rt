@@ -19,8 +19,8 @@ use adr_stretch::TypeEntries;
 use adr_value::Refusal;
 use std::alloc::Global;
 
-/// What is to be made of the group in a slot: its writes after the change, the windows of each type in which its timeline
-/// is to be repaired, and the group onto which that is put, which is the old one, maybe with an event laid over it.
+/// What is to be made of the group in a slot: its writes after the change, and the windows of each type in which its
+/// timeline is to be repaired.
 #[derive(Drop)]
 pub(crate) struct Draft {
     pub(crate) slot: u64,
@@ -76,7 +76,7 @@ fn entries(side: &Option<Side>) -> &[TypeEntries]
 }
 
 /// The windows of both lists, shared.
-pub(crate) fn shared_list(
+fn shared_list(
     alloc: Global,
     windows: &[TypeEntries],
     more: &[TypeEntries],

@@ -6,7 +6,6 @@ ghost use Rattle.adr_shared.specs.Map.{put};
 ghost use Rattle.adr_lines.specs.declared.indexes.Indexes.{Indexes as AllIndexes};
 ghost use Rattle.adr_group.specs.Jobs.{most_done, AreDone, IsCrew, IsDone};
 ghost use Rattle.adr_group.specs.Repair.{most_repaired};
-ghost use Rattle.adr_schedule.specs.declared.change.Change.{Change as AnyChange};
 ghost use Rattle.adr_schedule.specs.declared.draft.Draft.{Draft as AnyDraft};
 ghost use Rattle.adr_schedule.specs.Draft.{jobs_of as the_jobs_of, most_drafted, AreMadeOf, AreMadeSoFar, IsMadeOf};
 
@@ -102,7 +101,7 @@ fn made_of(alloc: Global, draft: &Draft, done: &[Done]) -> Result<Group, Refusal
 
 /// The groups of the drafts, each in its slot, of what was built for them, beside those that were made before.
 fn made_each(alloc: Global, before: Made, drafts: &[Draft], done: &[Done]) -> Result<Made, Refusal>
-    ensures made { IfOk result (λ made. (change : AnyChange) (indexes : AllIndexes) (all : List AnyDraft) → AllZip (IsDone indexes) (flat_map the_jobs_of drafts.now) done.now → AreMadeSoFar change indexes all drafts.now before.groups → AreMadeOf change indexes all made.groups) }
+    ensures made { IfOk result (λ made. (indexes : AllIndexes) (all : List AnyDraft) → AllZip (IsDone indexes) (flat_map the_jobs_of drafts.now) done.now → AreMadeSoFar indexes all drafts.now before.groups → AreMadeOf indexes all made.groups) }
     ensures refusal { OnlyNoMemory result }
 {
     let mut made = before;
@@ -171,7 +170,7 @@ pub(crate) fn made_by<C: Fn(&Indexes, &[Job]) -> Result<Vec<Done>, Refusal>>(
 ) -> Result<SharedMap<u64, Group>, Refusal>
     requires room { meter.old + most_drafted indexes.now left.now < 2 ^ 128 }
     requires crew { IsCrew (λ v. v.items) (C.pre crew.now) (C.post crew.now) }
-    ensures made { IfOk result (λ made. (change : AnyChange) (all : List AnyDraft) → AreMadeSoFar change indexes.now all left.now before.groups → AreMadeOf change indexes.now all made) }
+    ensures made { IfOk result (λ made. (all : List AnyDraft) → AreMadeSoFar indexes.now all left.now before.groups → AreMadeOf indexes.now all made) }
     ensures compared { meter.new ≤ meter.old + most_drafted indexes.now left.now }
     ensures refusal { OnlyNoMemory result }
 {

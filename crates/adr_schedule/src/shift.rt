@@ -138,8 +138,7 @@ fn move_all(
 
 impl Schedule {
     /// What becomes of the groups of the places that the change touches, each in its slot: the event that comes is laid
-    /// over those that gain it, and the crew does the jobs of those that another leaves, where that governed, and of those
-    /// over which the one that comes could not be laid.
+    /// over those to which it only comes, and the crew does the jobs of the others.
     fn made_for<C: Fn(&Indexes, &[Job]) -> Result<Vec<Done>, Refusal>, R: Ranks>(
         &self,
         alloc: Global,
@@ -171,14 +170,12 @@ impl Schedule {
     /// the writes of a place's group it is not any more, and where the other was not it is.
     ///
     /// Members of one group among the places stay together, and each group is made once. Where there are ranks, the event
-    /// that comes is laid over the timelines of the groups that gain it, which needs no look at the indexes. From the
-    /// groups that the other leaves the crew repairs it away, one job a payload type, inside those of its entries alone in
-    /// which it governed. Groups over which the event that comes is not laid, as there are no ranks or its entries do not
-    /// allow it, the crew repairs inside all entries of the events.
+    /// that comes is laid over the timelines of the groups that only gain it, which needs no look at the indexes.
+    /// The crew repairs the other groups, and those over which the entries cannot be laid, inside the entries of the
+    /// events, one job a payload type.
     ///
     /// Cost: for each place a few look-ups; for each group that is laid and each type of the event a search of the
-    /// timeline for each entry, a rank for each segment that is met, and one splice; for each group that an event leaves
-    /// two searches of the timeline for each entry, and a look at the segments that it meets; and that of the jobs.
+    /// timeline for each entry, a rank for each segment that is met, and one splice; and that of the jobs of the others.
     /// `NoMemory` where there is no room.
     pub fn shifted<C: Fn(&Indexes, &[Job]) -> Result<Vec<Done>, Refusal>, R: Ranks>(
         &self,

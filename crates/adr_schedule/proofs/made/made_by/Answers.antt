@@ -35,7 +35,7 @@ pub returns-clause-made : goal.returns-clause-made
 returns-clause-made g c =
     let indexes = c.args.indexes.now in
     rw c.in_ok-groups.ensures
-    (λ change all made. c.in_ok-made.ensures.made change indexes all
+    (λ all made. c.in_ok-made.ensures.made indexes all
     (subst (λ l. AllZip (IsDone indexes) l c.as_slice-3.result.now) (c.as_slice.ensures.value ∙ c.in_ok-jobs.ensures.jobs)
     (subst (λ l. AllZip (IsDone indexes) c.as_slice.result.now l) (sym c.as_slice-3.ensures.value) c.in_ok-done.ensures.done.each))
     made)

@@ -8,12 +8,12 @@ use Rattle.adr_schedule.proofs.Shifts.{none_left}
 use Rattle.adr_schedule.proofs.made.made_each.Goals as goal
 
 pub rest-init : goal.rest-init
-rest-init c change indexes all done made = (done, made)
+rest-init c indexes all done made = (done, made)
 
 pub returns-then-left-jobs-clause-made : goal.returns-then-left-jobs-clause-made
-returns-then-left-jobs-clause-made c change indexes all done made =
+returns-then-left-jobs-clause-made c indexes all done made =
     let draft = c.in-Some.draft.now in
-    let before = c.rest.invariant change indexes all done made in
+    let before = c.rest.invariant indexes all done made in
     let jobs_done = subst (λ l. AllZip (IsDone indexes) (flat_map jobs_of l) c.rest.left.now) c.in-Some.ensures.cases.0 before.0 in
     let long = long_done (IsDone indexes) (jobs_of draft) (flat_map jobs_of c.in-Some.more.now) c.rest.left.now jobs_done in
     let jobs : length c.as_slice-windows.result.now ≡ length draft.windows.items = ap length c.as_slice-windows.ensures.value ∙ ap (λ v. length v.items) c.get.ensures in
@@ -21,11 +21,11 @@ returns-then-left-jobs-clause-made c change indexes all done made =
     absurd (omega (arith, long, jobs, same, c.if-left-jobs.true))
 
 pub rest-preserved : goal.rest-preserved
-rest-preserved c change indexes all done made =
+rest-preserved c indexes all done made =
     let draft = c.in-Some.draft.now in
     let more = c.in-Some.more.now in
     let left = c.rest.left.now in
-    let before = c.rest.invariant change indexes all done made in
+    let before = c.rest.invariant indexes all done made in
     let jobs_done = subst (λ l. AllZip (IsDone indexes) (flat_map jobs_of l) left) c.in-Some.ensures.cases.0 before.0 in
     let parts = split_done (IsDone indexes) (jobs_of draft) (flat_map jobs_of more) left jobs_done in
     let jobs : length c.as_slice-windows.result.now ≡ length draft.windows.items = ap length c.as_slice-windows.ensures.value ∙ ap (λ v. length v.items) c.get.ensures in
@@ -33,10 +33,10 @@ rest-preserved c change indexes all done made =
     let own = c.split_at.ensures.front ∙ ap (λ n. take n left) (jobs ∙ sym same) in
     let others = c.split_at.ensures.back ∙ ap (λ n. drop n left) (jobs ∙ sym same) in (
       subst (λ l. AllZip (IsDone indexes) (flat_map jobs_of more) l) (sym others) parts.1,
-      one_made change indexes all c.rest.rest.now more draft c.rest.made.groups c.in_ok-made.made.groups c.in_ok-group.group c.in-Some.ensures.cases.0 c.in_ok-made.ensures.groups
+      one_made indexes all c.rest.rest.now more draft c.rest.made.groups c.in_ok-made.made.groups c.in_ok-group.group c.in-Some.ensures.cases.0 c.in_ok-made.ensures.groups
           (c.in_ok-group.ensures.made indexes (subst (λ l. AllZip (IsDone indexes) (jobs_of draft) l) (sym own) parts.0)) before.1,
     )
 
 pub returns-clause-made : goal.returns-clause-made
-returns-clause-made c change indexes all done made =
-    every_made change indexes all c.rest.rest.now c.rest.made.groups (none_left c.rest.rest.now c.in_default.ensures.cases) (c.rest.invariant change indexes all done made).1
+returns-clause-made c indexes all done made =
+    every_made indexes all c.rest.rest.now c.rest.made.groups (none_left c.rest.rest.now c.in_default.ensures.cases) (c.rest.invariant indexes all done made).1

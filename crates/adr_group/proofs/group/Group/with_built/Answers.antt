@@ -1,8 +1,7 @@
-use Rattle.std.proofs.Common.{if◌then◌else◌, refl, ap, sym, ◌∙◌}
+use Rattle.std.proofs.Common.{if◌then◌else◌, ap, sym, ◌∙◌}
 use Rattle.adr_stretch.specs.Grouped.{any_covers_at, entries_under}
 use Rattle.adr_stretch.specs.Right.{among, winner_under}
 use Rattle.adr_group.specs.Group.{shown_in, Lines}
-use Rattle.adr_group.proofs.Leaving.{exchanged_right, left_right}
 use Rattle.adr_group.proofs.Turns.{wins}
 use Rattle.adr_group.proofs.Rights.{repaired_right}
 use Rattle.adr_group.proofs.group.Group.with_built.Goals as goal
@@ -15,25 +14,4 @@ returns-clause-right c indexes done tie events indexed within before k t =
     (λ k t. c.in_ok-lines.ensures.shown indexes writes done k t
     ∙ ap (λ (g : Lines). if any_covers_at (entries_under windows k) t then wins indexes writes k t else shown_in g.lines k t) c.self.view_is)
     events indexed within before k t
-    ∙ ap (λ ns. winner_under tie (among events ns k) t) (sym c.in_ok-writes.ensures)
-
-pub returns-clause-left : goal.returns-clause-left
-returns-clause-left c indexes done gone changes hold tie events indexed right k t =
-    let windows = c.args.windows.now in
-    let writes = c.args.writes.now in
-    let lines = c.args.self.now.lines in
-    left_right c.args.self.now.writes writes gone (entries_under windows) indexes lines lines c.in_ok-lines.lines
-    (λ k t. c.in_ok-lines.ensures.shown indexes writes done k t
-    ∙ ap (λ (g : Lines). if any_covers_at (entries_under windows k) t then wins indexes writes k t else shown_in g.lines k t) c.self.view_is)
-    hold tie events indexed right changes refl k t
-    ∙ ap (λ ns. winner_under tie (among events ns k) t) (sym c.in_ok-writes.ensures)
-
-pub returns-clause-exchanged : goal.returns-clause-exchanged
-returns-clause-exchanged c indexes done old rank gone number entries coming lacks apart laid changes hold tie events indexed right k t =
-    let windows = c.args.windows.now in
-    let writes = c.args.writes.now in
-    exchanged_right old.writes writes gone (entries_under windows) indexes old.lines c.args.self.now.lines c.in_ok-lines.lines
-    (λ k t. c.in_ok-lines.ensures.shown indexes writes done k t
-    ∙ ap (λ (g : Lines). if any_covers_at (entries_under windows k) t then wins indexes writes k t else shown_in g.lines k t) c.self.view_is)
-    hold tie events indexed right rank number entries coming lacks apart laid changes k t
     ∙ ap (λ ns. winner_under tie (among events ns k) t) (sym c.in_ok-writes.ensures)

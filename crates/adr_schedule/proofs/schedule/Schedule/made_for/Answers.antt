@@ -53,4 +53,4 @@ returns-clause-made g c =
     rw (← c.self.view_is)
     (all_become c.args.change.now indexes c.requires.two c.args.places.now c.self.inside.seats c.self.inside.groups drafts made
     c.in_ok-drafts.ensures.drafts c.in_ok-drafts.ensures.seen
-    (c.in_ok-made.ensures.made c.args.change.now drafts (subst (λ ds. AreMadeSoFar c.args.change.now indexes drafts ds c.in_ok-laid.laid.made.groups) (sym c.as_slice.ensures.value) (c.in_ok-laid.ensures.made indexes c.requires.laid))))
+    (c.in_ok-made.ensures.made drafts (subst (λ ds. AreMadeSoFar indexes drafts ds c.in_ok-laid.laid.made.groups) (sym c.as_slice.ensures.value) (c.in_ok-laid.ensures.made indexes c.requires.laid))))
