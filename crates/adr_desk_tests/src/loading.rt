@@ -2,7 +2,7 @@
 use adr_desk::Desk;
 use adr_model::Tie;
 use adr_object::{Edit, Id};
-use adr_test_bodies::edit;
+use adr_test_values::bodies::edit;
 use adr_time::Moment;
 use adr_value::{PayloadType, Refusal};
 use std::alloc::Global;

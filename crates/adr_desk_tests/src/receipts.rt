@@ -1,7 +1,7 @@
 //! What the receipts of edits tell.
 use adr_desk::{Desk, NoGate, Receipt};
 use adr_model::Tie;
-use adr_test_bodies::{any_edit, are_touches};
+use adr_test_values::bodies::{any_edit, are_touches};
 use adr_value::Refusal;
 use std::alloc::Global;
 use std::test::Fail;

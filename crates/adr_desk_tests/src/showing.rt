@@ -3,7 +3,7 @@ use crate::entries::{Competing, entries, first_at};
 use adr_desk::Desk;
 use adr_model::Entry;
 use adr_object::{Kind, Resource};
-use adr_same::{same_book, same_timeline};
+use adr_test_values::same::{same_book, same_timeline};
 use adr_time::{End, Moment};
 use adr_timeline::Timeline;
 use adr_value::{PayloadType, Refusal};

@@ -1,7 +1,7 @@
 //! Whom an event is for by its targets and its program's.
 use crate::kept::Kept;
 use crate::scan::is_as_scanned;
-use adr_test_bodies::{APPLIES, LISTS, edit, setting, word};
+use adr_test_values::bodies::{APPLIES, LISTS, edit, setting, word};
 use adr_value::Refusal;
 use std::alloc::Global;
 use std::test::Fail;

@@ -2,7 +2,7 @@
 use adr_desk::{Desk, Gate, NoGate, Receipt};
 use adr_model::Tie;
 use adr_object::Id;
-use adr_test_bodies::edit;
+use adr_test_values::bodies::edit;
 use adr_time::Moment;
 use adr_timeline::Timeline;
 use adr_value::{PayloadType, Refusal};

@@ -1,8 +1,9 @@
 //! The calls of a book.
 use adr_book::{Book, judge};
 use adr_object::Edit;
-use adr_same::{edited_id, same_book, same_by_id, tell_ordinary, tell_refused, tell_same, told};
-use adr_test_edits::edit;
+use adr_test_values::lines::edit;
+use adr_test_values::same::{edited_id, same_book, same_by_id};
+use adr_test_values::telling::{tell_ordinary, tell_refused, tell_same, told};
 use adr_value::Refusal;
 use std::alloc::Global;
 use std::io;

@@ -8,8 +8,8 @@ use crate::desk::applying::try_edit;
 use crate::desk::desks::Desks;
 use crate::desk::loading::try_load;
 use crate::desk::sealing::{try_condense, try_copy, try_seal};
-use adr_same::told;
-use adr_test_edits::word;
+use adr_test_values::lines::word;
+use adr_test_values::telling::told;
 use std::io;
 use std::thread::Threads;
 

@@ -1,7 +1,7 @@
 //! Bodies that end too early, and long ones.
 use crate::rows::{Asked, check};
 use adr_object::Id;
-use adr_test_bodies::{read_object, word};
+use adr_test_values::bodies::{read_object, word};
 use adr_value::Refusal;
 use std::alloc::Global;
 use std::test::Fail;

@@ -3,7 +3,7 @@ ghost use Rattle.std.specs.Prelude.{◌≡◌};
 
 use adr_book::{Book, judge};
 use adr_object::Edit;
-use adr_test_bodies::{edit, word};
+use adr_test_values::bodies::{edit, word};
 use adr_value::Refusal;
 use std::alloc::Global;
 

@@ -1,8 +1,8 @@
 //! Objects and edits, and copies of them.
 use crate::rows::{Asked, check};
 use adr_object::{Edit, Kind, Object};
-use adr_same::Same;
-use adr_test_bodies::{edit, kind_of, object, shared, word};
+use adr_test_values::bodies::{edit, kind_of, object, shared, word};
+use adr_test_values::same::Same;
 use adr_value::Refusal;
 use std::alloc::Global;
 use std::test::Fail;

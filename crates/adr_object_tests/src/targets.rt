@@ -3,7 +3,7 @@ use crate::edits::apply;
 use crate::rows::{Asked, check};
 use adr_book::Book;
 use adr_rule::{Scene, applies, matches};
-use adr_test_bodies::{APPLIES, LISTS, edit, setting, word};
+use adr_test_values::bodies::{APPLIES, LISTS, edit, setting, word};
 use adr_value::Refusal;
 use std::alloc::Global;
 use std::test::Fail;

@@ -1,7 +1,7 @@
 //! The touches between the books before and after an edit.
 use crate::edits::apply;
 use adr_book::Book;
-use adr_test_bodies::{any_edit, are_touches};
+use adr_test_values::bodies::{any_edit, are_touches};
 use adr_touches::touches;
 use adr_value::Refusal;
 use std::alloc::Global;

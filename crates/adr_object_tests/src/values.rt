@@ -2,7 +2,7 @@
 use crate::rows::{Asked, check};
 use adr_object::{Id, Program};
 use adr_read::read_program;
-use adr_test_bodies::word;
+use adr_test_values::bodies::word;
 use adr_time::Moment;
 use adr_value::{Datum, PayloadType, Refusal, Shape, TryClone};
 use std::alloc::Global;

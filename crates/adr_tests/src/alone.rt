@@ -5,7 +5,7 @@ use crate::replayed::is_replayed;
 use adr_board::{Board, Editor, Naming, NewBoard, Reader};
 use adr_model::Tie;
 use adr_snapshot::Snapshot;
-use adr_test_edits::edit;
+use adr_test_values::lines::edit;
 use adr_value::Refusal;
 use std::alloc::Global;
 use std::marker::Brand;

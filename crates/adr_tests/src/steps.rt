@@ -7,7 +7,7 @@ use adr_calendar::at;
 use adr_model::Tie;
 use adr_object::Id;
 use adr_snapshot::Snapshot;
-use adr_test_edits::edit;
+use adr_test_values::lines::edit;
 use adr_time::read_moment;
 use adr_value::{PayloadType, Refusal};
 use std::alloc::Global;
@@ -17,7 +17,7 @@ use std::test::Fail;
 /// How many readers each run has.
 const READERS: usize = 2;
 
-/// Steps, each with what it shows behind `=>`: an edit is a line of `adr_test_edits`, and of what a look sees stand the number
+/// Steps, each with what it shows behind `=>`: an edit is a short line, and of what a look sees stand the number
 /// and what it answers of the price of a resource at a moment.
 const RUNS: &str = "looks before and after a reader is told
 create program p1 => ok 1

@@ -2,9 +2,9 @@
 use crate::same::are_same;
 use adr_calendar::{at, list, roll, types};
 use adr_object::Id;
-use adr_same::{tell_refused, told};
 use adr_snapshot::Snapshot;
-use adr_test_edits::word;
+use adr_test_values::lines::word;
+use adr_test_values::telling::{tell_refused, told};
 use adr_time::{Moment, read_moment};
 use adr_value::{PayloadType, Refusal};
 use std::alloc::Global;

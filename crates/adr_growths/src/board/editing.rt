@@ -2,8 +2,8 @@
 use crate::board::before::Before;
 use adr_board::{Desk, Editor, Naming, NoGate, Receipt};
 use adr_object::Edit;
-use adr_same::{tell_ordinary, tell_refused, tell_same, told};
-use adr_test_edits::edit;
+use adr_test_values::lines::edit;
+use adr_test_values::telling::{tell_ordinary, tell_refused, tell_same, told};
 use adr_value::Refusal;
 use std::alloc::Global;
 use std::io;

@@ -2,8 +2,9 @@
 use crate::board::before::Before;
 use crate::same::{are_same, show_same};
 use adr_board::{Desk, Editor, Naming, Reader};
-use adr_same::{same_store, tell_ordinary, tell_refused, tell_same, told};
 use adr_snapshot::Snapshot;
+use adr_test_values::same::same_store;
+use adr_test_values::telling::{tell_ordinary, tell_refused, tell_same, told};
 use adr_value::Refusal;
 use std::io;
 use std::sync::{Arc, Wait};

@@ -2,8 +2,8 @@
 use crate::desk::desks::Desks;
 use adr_desk::{Desk, NoGate, Receipt};
 use adr_object::Edit;
-use adr_same::{tell_ordinary, tell_refused, tell_same, told};
-use adr_test_edits::edit;
+use adr_test_values::lines::edit;
+use adr_test_values::telling::{tell_ordinary, tell_refused, tell_same, told};
 use adr_value::Refusal;
 use std::alloc::Global;
 use std::io;

@@ -3,7 +3,7 @@ use crate::same::{are_same, same_of_id};
 use adr_desk::Desk;
 use adr_model::Tie;
 use adr_object::Edit;
-use adr_same::{edited_id, same_by_id};
+use adr_test_values::same::{edited_id, same_by_id};
 use adr_value::Refusal;
 use std::alloc::Global;
 

@@ -3,7 +3,7 @@ use crate::desk::desks::{Desks, same_desk};
 use adr_desk::Desk;
 use adr_model::Tie;
 use adr_object::Edit;
-use adr_same::{tell_ordinary, tell_refused, tell_same, told};
+use adr_test_values::telling::{tell_ordinary, tell_refused, tell_same, told};
 use adr_value::Refusal;
 use std::alloc::Global;
 use std::io;

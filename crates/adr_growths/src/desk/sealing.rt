@@ -5,7 +5,7 @@ ghost use Rattle.adr_book.specs.Ledger.{sealed_of};
 use crate::desk::desks::{Desks, same_desk};
 use adr_book::Book;
 use adr_desk::Desk;
-use adr_same::{tell_ordinary, tell_refused, tell_same, told};
+use adr_test_values::telling::{tell_ordinary, tell_refused, tell_same, told};
 use adr_value::Refusal;
 use std::io;
 

@@ -1,0 +1,114 @@
+//! How long an edit takes that several workers make, and how long a desk takes to be loaded.
+use crate::desk_rows::NEARLY_ALL;
+use crate::desk_times::ROUNDS;
+use crate::desks::{desk_of, edits_of, made_of};
+use crate::told::{since, told};
+use crate::works::Work;
+use adr_desk::{Desk, NoGate};
+use adr_model::Tie;
+use adr_object::Edit;
+use std::alloc::Global;
+use std::io;
+use std::rt::Clock;
+use std::thread::Threads;
+use std::time::Instant;
+
+/// The resources of the rows.
+const COUNTS: [usize; 3] = [1024, 4096, NEARLY_ALL];
+
+/// The nanoseconds of an edit by so many workers.
+fn edit_by<R: Clock + Threads + Sync>(
+    rt: &R,
+    workers: usize,
+    desk: &mut Desk,
+    edit: Edit,
+) -> io::Result<u128> {
+    let start = Instant::now(rt);
+    let receipt = desk.apply_with(rt, workers, &NoGate, edit);
+    let nanoseconds = since(rt, start);
+    drop(told(receipt)?);
+    nanoseconds
+}
+
+/// The nanoseconds in which an event of all comes, before it goes again: the least of some times.
+fn least_by<R: Clock + Threads + Sync>(
+    rt: &R,
+    alloc: Global,
+    workers: usize,
+    desk: &mut Desk,
+    count: usize,
+) -> io::Result<u128> {
+    let mut least = u128::MAX;
+    for _ in 0..ROUNDS {
+        let there = told(Work::EventOfAll.there(alloc, count))?;
+        least = least.min(edit_by(rt, workers, desk, there)?);
+        let back = told(Work::EventOfAll.back(alloc, count))?;
+        let _back = edit_by(rt, workers, desk, back)?;
+    }
+    Ok(least)
+}
+
+/// A row: the resources, and the microseconds by one, two and four workers.
+fn print_workers<R: AllocGlobal + Print + Clock + Threads + Sync>(
+    rt: &R,
+    desk: &mut Desk,
+    count: usize,
+) -> io::Result<()> {
+    print!(rt; "| {count} |")?;
+    for workers in [1, 2, 4] {
+        let least = least_by(rt, rt.alloc(), workers, desk, count)?;
+        print!(rt; " {} |", least / 1000)?;
+    }
+    println!(rt)
+}
+
+/// The table of workers.
+fn print_all_workers<R: AllocGlobal + Print + Clock + Threads + Sync>(rt: &R) -> io::Result<()> {
+    println!(rt; "| Resources | µs by 1 worker | by 2 | by 4 |\n|---|---|---|---|")?;
+    for count in COUNTS {
+        let mut desk = told(desk_of(rt.alloc(), count))?;
+        let printed = print_workers(rt, &mut desk, count);
+        drop(desk);
+        printed?;
+    }
+    println!(rt)
+}
+
+/// The nanoseconds in which a desk is loaded with the edits.
+fn load_taken<R: Clock + Threads + Sync>(rt: &R, alloc: Global, count: usize) -> io::Result<u128> {
+    let edits = told(edits_of(alloc, count))?;
+    let start = Instant::now(rt);
+    let loaded = Desk::load(rt, alloc, edits, Tie::Newest);
+    let nanoseconds = since(rt, start);
+    drop(told(loaded)?);
+    nanoseconds
+}
+
+/// The nanoseconds in which the edits are applied one after the other.
+fn apply_taken<C: Clock>(clock: &C, alloc: Global, count: usize) -> io::Result<u128> {
+    let edits = told(edits_of(alloc, count))?;
+    let start = Instant::now(clock);
+    let desk = made_of(alloc, edits);
+    let nanoseconds = since(clock, start);
+    drop(told(desk)?);
+    nanoseconds
+}
+
+/// The table of loads: the resources, and the milliseconds of the edits one by one and at once.
+fn print_loads<R: AllocGlobal + Print + Clock + Threads + Sync>(rt: &R) -> io::Result<()> {
+    println!(rt; "| Resources | ms one by one | at once |\n|---|---|---|")?;
+    for count in COUNTS {
+        let one_by_one = apply_taken(rt, rt.alloc(), count)? / 1_000_000;
+        let at_once = load_taken(rt, rt.alloc(), count)? / 1_000_000;
+        println!(rt; "| {count} | {one_by_one} | {at_once} |")?;
+    }
+    Ok(())
+}
+
+/// The tables of workers and of loads.
+pub(crate) fn print_crews<R: AllocGlobal + Print + Clock + Threads + Sync>(
+    rt: &R,
+) -> io::Result<()> {
+    print_all_workers(rt)?;
+    print_loads(rt)
+}

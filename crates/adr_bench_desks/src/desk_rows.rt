@@ -1,0 +1,64 @@
+//! Rows of how much the repairs of edits of desks compare, and of how long edits take.
+use crate::desk_times::{Round, least_round};
+use crate::desks::desk_of;
+use crate::told::told;
+use crate::works::Work;
+use adr_desk::Desk;
+use std::io;
+use std::rt::Clock;
+
+/// As many resources as there may be but 64, with as many events: so that one more of each is not refused.
+pub(crate) const NEARLY_ALL: usize = 16_320;
+
+/// A row for each work: its name, the resources, the comparisons there and back and, where it is timed, the microseconds.
+fn print_rows_of<R: AllocGlobal + Print + Clock>(
+    rt: &R,
+    desk: &mut Desk,
+    count: usize,
+    is_timed: bool,
+) -> io::Result<()> {
+    for work in Work::ALL {
+        let Round { there, back } = least_round(rt, rt.alloc(), desk, work, count)?;
+        let (name, compares, compares_back) = (work.name(), there.compares, back.compares);
+        print!(rt; "| {name} | {count} | {compares} | {compares_back} |")?;
+        if is_timed {
+            let (time, time_back) = (there.nanoseconds / 1000, back.nanoseconds / 1000);
+            print!(rt; " {time} | {time_back} |")?;
+        }
+        println!(rt)?;
+    }
+    Ok(())
+}
+
+/// The rows of a desk of so many resources.
+fn print_rows<R: AllocGlobal + Print + Clock>(
+    rt: &R,
+    count: usize,
+    is_timed: bool,
+) -> io::Result<()> {
+    let mut desk = told(desk_of(rt.alloc(), count))?;
+    let printed = print_rows_of(rt, &mut desk, count, is_timed);
+    drop(desk);
+    printed
+}
+
+/// The table of edits of desks.
+pub(crate) fn print_desks<R: AllocGlobal + Print + Clock>(
+    rt: &R,
+    is_timed: bool,
+) -> io::Result<()> {
+    println!(rt;
+        "{}",
+        if is_timed {
+            "| Edit | Resources | Comparisons | back | µs | back |\n|---|---|---|---|---|---|"
+        } else {
+            "| Edit | Resources | Comparisons | back |\n|---|---|---|---|"
+        }
+    )?;
+    print_rows(rt, 1024, is_timed)?;
+    if is_timed {
+        print_rows(rt, 4096, is_timed)?;
+        print_rows(rt, NEARLY_ALL, is_timed)?;
+    }
+    Ok(())
+}

@@ -1,0 +1,45 @@
+//! How much the repairs of edits of desks compare, edit by edit and in the kinds of work that servers do.
+//!
+//! With no word, all by count. With `desks` or `workloads`: that part alone, and how long it takes. With `crews`: how long
+//! an edit takes by several workers, and a desk to be loaded.
+#![tactic(auto)]
+
+mod bodies;
+mod crews;
+mod desk_rows;
+mod desk_times;
+mod desks;
+mod told;
+mod workloads;
+mod works;
+
+use crate::crews::print_crews;
+use crate::desk_rows::print_desks;
+use crate::workloads::print_workloads;
+use std::rt::{Clock, Env};
+use std::thread::Threads;
+use std::{env, io};
+
+/// What stands behind a word.
+fn print_part<R: AllocGlobal + Print + Clock + Threads + Sync>(
+    rt: &R,
+    part: &str,
+) -> io::Result<()> {
+    match part {
+        "desks" => print_desks(rt, true),
+        "workloads" => print_workloads(rt, true),
+        _ => print_crews(rt),
+    }
+}
+
+fn main(rt: HostRuntime) -> io::Result<()> {
+    let mut words = env::args(&rt)?;
+    let _name = words.next();
+    let part = words.next();
+    if let Some(part) = &part {
+        return print_part(&rt, part.as_str());
+    }
+    print_desks(&rt, false)?;
+    println!(&rt)?;
+    print_workloads(&rt, false)
+}

@@ -1,0 +1,157 @@
+//! The kinds of work that servers do, on small desks: how many windows edits touch, how many ranks their repairs compare,
+//! and how long they take.
+use crate::bodies::{MEMBERS, Shape, event};
+use crate::desk_times::{Taken, take};
+use crate::desks::{PRIORITY, edits_of, edits_with, made_of};
+use crate::told::told;
+use adr_desk::Desk;
+use adr_object::Edit;
+use adr_value::Refusal;
+use std::alloc::Global;
+use std::io;
+use std::rt::Clock;
+
+/// The resources of a desk, and its events where they are many.
+const MANY: usize = 256;
+
+/// The resources of a desk, and its events where they are few.
+const FEW: usize = 64;
+
+/// Edits of one kind, made again and again.
+#[derive(Clone, Copy)]
+enum Workload {
+    Bulk,
+    Live,
+    Fleet,
+    Wide,
+    Dense,
+    Ingest,
+}
+
+impl Workload {
+    const ALL: [Workload; 6] = [
+        Workload::Bulk,
+        Workload::Live,
+        Workload::Fleet,
+        Workload::Wide,
+        Workload::Dense,
+        Workload::Ingest,
+    ];
+
+    /// What the table calls it.
+    fn name(self) -> &'static str {
+        match self {
+            Workload::Bulk => "256 events come, 64 to each of four groups",
+            Workload::Live => "256 events of four groups get another priority",
+            Workload::Fleet => "64 events of 256 resources get another priority",
+            Workload::Wide => "an endless event is written 16 times over 1,024 intervals",
+            Workload::Dense => "64 events come over one of 1,024 intervals",
+            Workload::Ingest => "four events of 1,024 intervals are written four times",
+        }
+    }
+
+    /// The edits of the desk that it is done on.
+    fn base(self, alloc: Global) -> Result<Vec<Edit>, Refusal> {
+        match self {
+            Workload::Bulk => edits_with(alloc, MANY, 0..0, Shape::All),
+            Workload::Live => edits_of(alloc, MANY),
+            Workload::Fleet => edits_with(alloc, MANY, 0..FEW, Shape::All),
+            Workload::Wide => edits_of(alloc, FEW),
+            Workload::Dense => edits_with(alloc, FEW, FEW..FEW + 1, Shape::Long),
+            Workload::Ingest => edits_with(alloc, FEW, 0..4, Shape::Long),
+        }
+    }
+
+    fn turns(self) -> u32 {
+        match self {
+            Workload::Bulk | Workload::Live => 256,
+            Workload::Fleet | Workload::Dense => 64,
+            Workload::Wide | Workload::Ingest => 16,
+        }
+    }
+
+    /// The edit of that turn.
+    fn edit(self, alloc: Global, turn: u32) -> Result<Edit, Refusal> {
+        let number = turn as usize;
+        let groups = Shape::Groups(MANY / MEMBERS);
+        let priority = turn % 10;
+        Ok(match self {
+            Workload::Bulk => Edit::Create(event(alloc, number, groups, PRIORITY)?),
+            Workload::Live => Edit::Change(event(alloc, number, groups, priority)?),
+            Workload::Fleet => Edit::Change(event(alloc, number, Shape::All, priority)?),
+            Workload::Wide if turn == 0 => {
+                Edit::Create(event(alloc, FEW, Shape::Endless, priority)?)
+            }
+            Workload::Wide => Edit::Change(event(alloc, FEW, Shape::Endless, priority)?),
+            Workload::Dense => Edit::Create(event(alloc, number, Shape::All, priority)?),
+            Workload::Ingest => Edit::Change(event(alloc, number % 4, Shape::Long, priority)?),
+        })
+    }
+}
+
+/// How many windows the edit of the first turn touches.
+fn first_windows(alloc: Global, desk: &mut Desk, workload: Workload) -> Result<usize, Refusal> {
+    let receipt = desk.apply(workload.edit(alloc, 0)?)?;
+    let touched = receipt.touched.to_vec(alloc);
+    drop(receipt);
+    let touched = touched?;
+    let windows = touched.len();
+    drop(touched);
+    Ok(windows)
+}
+
+/// What the edits of the turns after the first take.
+fn take_others<C: Clock>(
+    clock: &C,
+    alloc: Global,
+    desk: &mut Desk,
+    workload: Workload,
+) -> io::Result<Taken> {
+    let mut taken = Taken::NOTHING;
+    for turn in 1..workload.turns() {
+        let edit = told(workload.edit(alloc, turn))?;
+        taken = taken.and(take(clock, desk, edit)?);
+    }
+    Ok(taken)
+}
+
+/// A row: the workload, the windows of its first edit, the comparisons of the others and, where it is timed, their
+/// microseconds.
+fn print_workload<R: AllocGlobal + Print + Clock>(
+    rt: &R,
+    workload: Workload,
+    is_timed: bool,
+) -> io::Result<()> {
+    let alloc = rt.alloc();
+    let edits = told(workload.base(alloc))?;
+    let mut desk = told(made_of(alloc, edits))?;
+    let windows = first_windows(alloc, &mut desk, workload);
+    let taken = take_others(rt, alloc, &mut desk, workload);
+    drop(desk);
+    let (windows, taken) = (told(windows)?, taken?);
+    let (name, compares) = (workload.name(), taken.compares);
+    print!(rt; "| {name} | {windows} | {compares} |")?;
+    if is_timed {
+        print!(rt; " {} |", taken.nanoseconds / 1000)?;
+    }
+    println!(rt)
+}
+
+/// The table of the kinds of work.
+pub(crate) fn print_workloads<R: AllocGlobal + Print + Clock>(
+    rt: &R,
+    is_timed: bool,
+) -> io::Result<()> {
+    println!(rt;
+        "{}",
+        if is_timed {
+            "| Edits | Windows of the first | Comparisons of the others | their µs |\n|---|---|---|---|"
+        } else {
+            "| Edits | Windows of the first | Comparisons of the others |\n|---|---|---|"
+        }
+    )?;
+    for workload in Workload::ALL {
+        print_workload(rt, workload, is_timed)?;
+    }
+    Ok(())
+}
