@@ -98,12 +98,6 @@ const PRINTED: &str = "0.17 = 0.170
 0.000000000000000000000000000000000001 = 1e-36
 -0.999999999999999999999999999999999999 = -999999999999999999999999999999999999e-36";
 
-/// Whether what is printed of the number that a text spells is what is wanted.
-pub(crate) fn prints(alloc: Global, text: &str, wanted: &str) -> Result<bool, Refusal> {
-    let shown = Decimal::read(text)?.to_string(alloc)?;
-    Ok(shown.as_str() == wanted)
-}
-
 #[test]
 fn decimals_are_printed(rt: HostRuntime) -> Result<(), Fail> {
     decimal_laws();

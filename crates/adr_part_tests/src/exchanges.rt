@@ -3,6 +3,7 @@ ghost use Rattle.std.specs.Prelude.{◌≡◌, ◌+◌, ◌∷◌, [], IfOk, OnO
 ghost use Rattle.adr_part_tests.specs.Numbers.{AreBelow, IsEvent};
 
 use crate::moments::at;
+use crate::plain::put;
 use crate::random::below;
 use adr_index::{Entry, Index};
 use adr_model::Rank;
@@ -10,7 +11,6 @@ use adr_rule::Meter;
 use adr_time::{End, Moment, Span, covers, meets};
 use adr_value::Refusal;
 use std::alloc::Global;
-use std::test::Fail;
 
 /// How many entries there are mostly, below how many a new event has, and after one of how many exchanges all is asked.
 #[derive(Clone, Copy)]
@@ -98,21 +98,6 @@ fn event(alloc: Global, seed: &mut u64, written: u64, count: u32) -> Result<Vec<
     Ok(entries)
 }
 
-/// Whether the first entry comes before the second in an index: by start, written number and place.
-fn comes_before(first: &Entry, second: &Entry) -> bool {
-    let (start, other) = (first.span.start, second.span.start);
-    let (one, two) = (first.rank, second.rank);
-    start < other
-        || start == other
-            && (one.written < two.written || one.written == two.written && one.place < two.place)
-}
-
-/// Puts an entry into its place in the plain list.
-fn put(plain: &mut Vec<Entry>, entry: &Entry) -> Result<(), Refusal> {
-    let place = plain.partition_point(|other| comes_before(other, entry));
-    Ok(plain.insert(place, *entry)?)
-}
-
 /// The number of an event of the plain list, more often the more entries there are, or one that no event has.
 fn random_event(plain: &[Entry], seed: &mut u64, entries: u32) -> u64 {
     match plain.get(below(seed, entries) as usize) {
@@ -137,15 +122,6 @@ fn entries_of(
         entries.reverse();
     }
     Ok(entries)
-}
-
-/// Writes what is exchanged into the plain list, one by one.
-fn exchange_plainly(plain: &mut Vec<Entry>, old: u64, new: &[Entry]) -> Result<(), Refusal> {
-    plain.retain(|entry| entry.rank.written != old);
-    for entry in new {
-        put(plain, entry)?;
-    }
-    Ok(())
 }
 
 /// Puts an event's new entries in the place of its old ones, all at once.
@@ -176,7 +152,11 @@ fn write_event(
     let count = below(seed, course.event);
     let new = event(alloc, seed, written, count)?;
     exchange(index, &old, &new, written)?;
-    exchange_plainly(plain, number, &new)
+    plain.retain(|entry| entry.rank.written != number);
+    for entry in &new {
+        put(plain, entry)?;
+    }
+    Ok(())
 }
 
 /// Adds one entry to the index and to the plain list.
@@ -240,22 +220,16 @@ fn edit(
     Ok(true)
 }
 
-fn is_same(one: &Entry, other: &Entry) -> bool {
-    let (first, second) = (one.rank, other.rank);
-    first.priority == second.priority
-        && first.late == second.late
-        && first.written == second.written
-        && first.place == second.place
-        && one.span.start == other.span.start
-        && one.span.end == other.span.end
-}
-
 fn are_same(found: &[Entry], wanted: &[Entry]) -> bool {
+    for (one, other) in found.iter().zip(wanted) {
+        let (first, second) = (one.rank, other.rank);
+        let is_rank = first.priority == second.priority && first.late == second.late;
+        let is_named = first.written == second.written && first.place == second.place;
+        if !is_rank || !is_named || one.span != other.span {
+            return false;
+        }
+    }
     found.len() == wanted.len()
-        && found
-            .iter()
-            .zip(wanted)
-            .all(|(one, other)| is_same(one, other))
 }
 
 /// Whether those that cover the moment are found, counted or not.
@@ -350,14 +324,6 @@ fn answers_alike_at_all(alloc: Global, index: &Index, plain: &[Entry]) -> Result
     Ok(true)
 }
 
-/// The same of a copy.
-fn copy_answers_alike(alloc: Global, index: &Index, plain: &[Entry]) -> Result<bool, Refusal> {
-    let copy = index.copy()?;
-    let is_alike = answers_alike_at_all(alloc, &copy, plain);
-    drop(copy);
-    Ok(is_alike? && index.len() == plain.len())
-}
-
 /// How large the index and the plain list are while they are edited.
 #[derive(Clone, Copy)]
 enum Size {
@@ -380,7 +346,8 @@ fn course_at(size: Size, written: u64) -> Course {
     }
 }
 
-/// Whether the index answers alike after each exchange, and now and then wherever an entry starts or ends.
+/// Whether the index answers alike after each exchange, and now and then wherever an entry starts or ends, as in the end a copy
+/// does.
 fn are_exchanged(
     alloc: Global,
     index: &mut Index,
@@ -403,26 +370,20 @@ fn are_exchanged(
             return Ok(false);
         }
     }
-    copy_answers_alike(alloc, index, plain)
-}
-
-fn is_exchanged_alike(alloc: Global, size: Size, exchanges: u64) -> Result<bool, Refusal> {
-    let mut index = Index::new(alloc);
-    let mut plain = Vec::new(alloc);
-    let are_alike = are_exchanged(alloc, &mut index, &mut plain, size, exchanges);
-    drop(plain);
-    drop(index);
-    are_alike
+    let copy = index.copy()?;
+    let is_alike = answers_alike_at_all(alloc, &copy, plain);
+    drop(copy);
+    Ok(is_alike? && index.len() == plain.len())
 }
 
 #[test]
-fn exchanges_in_one_chunk_are_answered_as_by_a_plain_list(rt: HostRuntime) -> Result<(), Fail> {
-    assert!(rt; is_exchanged_alike(rt.alloc(), Size::Small, 3000)?);
-    Ok(())
-}
-
-#[test]
-fn exchanges_in_many_chunks_are_answered_as_by_a_plain_list(rt: HostRuntime) -> Result<(), Fail> {
-    assert!(rt; is_exchanged_alike(rt.alloc(), Size::Large, 300)?);
-    Ok(())
+fn exchanges_in_one_chunk_and_in_many_are_answered_as_by_a_plain_list(rt: HostRuntime) {
+    for (size, exchanges) in [(Size::Small, 3000), (Size::Large, 300)] {
+        let mut index = Index::new(rt.alloc());
+        let mut plain = Vec::new(rt.alloc());
+        let are_alike = are_exchanged(rt.alloc(), &mut index, &mut plain, size, exchanges);
+        drop(plain);
+        drop(index);
+        assert!(rt; are_alike == Ok(true), "{exchanges}");
+    }
 }

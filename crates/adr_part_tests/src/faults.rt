@@ -1,6 +1,6 @@
 //! Refusals, and which of several is answered.
 use adr_value::{Faults, Refusal, both, fault_laws, refusal_laws};
-use std::alloc::{AllocError, Global};
+use std::alloc::AllocError;
 use std::test::Fail;
 
 const TABLE: &str = "1 LongLine
@@ -70,45 +70,33 @@ const REFUSALS: [Refusal; 31] = [
     Refusal::NoMemory,
 ];
 
-/// Whether the lines of all refusals are those of the table.
-fn are_listed(alloc: Global) -> Result<bool, Refusal> {
-    let mut text = String::new(alloc);
+#[test]
+fn refusals_have_their_numbers_and_names(rt: HostRuntime) -> Result<(), Fail> {
+    let mut text = String::new(rt.alloc());
     for refusal in REFUSALS {
         write!(text, "{refusal}\n")?;
     }
-    Ok(text.as_str() == TABLE)
-}
-
-fn is_want_of_memory(refusal: Refusal) -> bool {
-    refusal == Refusal::NoMemory && refusal.number() == 99 && refusal.name() == "NoMemory"
-}
-
-#[test]
-fn refusals_have_their_numbers_and_names(rt: HostRuntime) -> Result<(), Fail> {
-    assert!(rt; are_listed(rt.alloc())?);
+    assert!(rt; text.as_str() == TABLE);
     refusal_laws();
     Ok(())
 }
 
 #[test]
 fn want_of_memory_is_one_refusal(rt: HostRuntime) {
-    assert!(rt; is_want_of_memory(Refusal::from(AllocError)));
-}
-
-/// Whether three faults leave the least, and want of memory is told at once.
-fn leave_the_least() -> Result<bool, Refusal> {
-    let mut faults = Faults::new();
-    faults.note(Refusal::TooMany)?;
-    faults.note(Refusal::BadText)?;
-    faults.note(Refusal::BadShape)?;
-    let is_told = faults.note(Refusal::NoMemory) == Err(Refusal::NoMemory);
-    Ok(is_told && faults.answer(7u8) == Err(Refusal::BadText))
+    let refusal = Refusal::from(AllocError);
+    assert!(rt; refusal == Refusal::NoMemory);
+    assert!(rt; refusal.number() == 99 && refusal.name() == "NoMemory");
 }
 
 #[test]
 fn the_least_fault_is_answered(rt: HostRuntime) -> Result<(), Fail> {
     assert!(rt; Faults::new().answer(7u8) == Ok(7u8));
-    assert!(rt; leave_the_least()?);
+    let mut faults = Faults::new();
+    faults.note(Refusal::TooMany)?;
+    faults.note(Refusal::BadText)?;
+    faults.note(Refusal::BadShape)?;
+    let is_told = faults.note(Refusal::NoMemory) == Err(Refusal::NoMemory);
+    assert!(rt; is_told && faults.answer(7u8) == Err(Refusal::BadText));
     fault_laws();
     Ok(())
 }
@@ -121,20 +109,18 @@ const MISSING: Result<u8, Refusal> = Err(Refusal::Missing);
 
 const NO_MEMORY: Result<u8, Refusal> = Err(Refusal::NoMemory);
 
-fn leaves(a: Result<u8, Refusal>, b: Result<u8, Refusal>, wanted: Refusal) -> bool {
-    both(a, b) == Err(wanted)
-}
-
-/// Whether of two refusals the lesser is left.
-fn leave_the_lesser() -> bool {
-    leaves(BAD_TEXT, FINE, Refusal::BadText)
-        && leaves(BAD_TEXT, MISSING, Refusal::Missing)
-        && leaves(MISSING, BAD_TEXT, Refusal::Missing)
-        && leaves(MISSING, NO_MEMORY, Refusal::NoMemory)
-}
+/// Two results of which one at least is a refusal, and what is answered to both.
+const REFUSED: [(Result<u8, Refusal>, Result<u8, Refusal>, Refusal); 4] = [
+    (BAD_TEXT, FINE, Refusal::BadText),
+    (BAD_TEXT, MISSING, Refusal::Missing),
+    (MISSING, BAD_TEXT, Refusal::Missing),
+    (MISSING, NO_MEMORY, Refusal::NoMemory),
+];
 
 #[test]
 fn of_two_refusals_the_lesser_is_answered(rt: HostRuntime) {
     assert!(rt; both(FINE, Ok(2u8)) == Ok((1u8, 2u8)));
-    assert!(rt; leave_the_lesser());
+    for (first, second, wanted) in REFUSED {
+        assert!(rt; both(first, second) == Err(wanted), "{wanted}");
+    }
 }

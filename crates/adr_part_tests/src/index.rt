@@ -1,13 +1,14 @@
 //! An index over few entries, and over many.
-ghost use Rattle.std.specs.Prelude.{◌≡◌, length, IfOk};
+ghost use Rattle.std.specs.Prelude.{IfOk};
 ghost use Rattle.adr_part_tests.specs.Numbers.{AreRising};
 
 use crate::moments::at;
+use crate::plain;
 use crate::random::next;
 use crate::spans::{endless, entry, span, tell_span};
 use adr_index::{Entry, Index};
 use adr_rule::Meter;
-use adr_time::{End, Moment, Span, covers as covers_moment, meets};
+use adr_time::{End, Moment, Span, covers, meets};
 use adr_value::Refusal;
 use std::alloc::Global;
 use std::test::Fail;
@@ -35,26 +36,13 @@ fn tell(text: &mut String, entry: &Entry) -> Result<(), Refusal> {
     Ok(text.push(']')?)
 }
 
-/// The entries, each as [`tell`] writes it.
-fn told(alloc: Global, entries: &[Entry]) -> Result<String, Refusal> {
+/// Whether these entries were found, as [`tell`] writes them, in this order, and no others.
+fn are(alloc: Global, found: &[Entry], wanted: &str) -> Result<bool, Refusal> {
     let mut text = String::new(alloc);
-    for entry in entries {
+    for entry in found {
         tell(&mut text, entry)?;
     }
-    Ok(text)
-}
-
-/// Whether these entries were found, in this order, and no others.
-fn are(alloc: Global, found: &[Entry], wanted: &str) -> Result<bool, Refusal> {
-    Ok(told(alloc, found)?.as_str() == wanted)
-}
-
-fn covers(alloc: Global, index: &Index, moment: Moment, wanted: &str) -> Result<bool, Refusal> {
-    are(alloc, &index.covering(moment)?, wanted)
-}
-
-fn overlaps(alloc: Global, index: &Index, window: Span, wanted: &str) -> Result<bool, Refusal> {
-    are(alloc, &index.overlapping(window)?, wanted)
+    Ok(text.as_str() == wanted)
 }
 
 const FIRST: &str = "[5 4 0 0 10]";
@@ -67,170 +55,114 @@ const LAST: &str = "[9 6 0 10 -]";
 
 const ALL: &str = "[5 4 0 0 10][1 5 0 5 15][9 6 0 10 -]";
 
-/// Whether what covers a moment of the three is found.
-fn finds_what_covers(alloc: Global, index: &Index) -> Result<bool, Refusal> {
-    for (moment, wanted) in [(-1, ""), (0, FIRST), (5, BOTH), (10, LATER), (15, LAST)] {
-        if !covers(alloc, index, at(moment), wanted)? {
+/// Whether what meets a window of the three is found.
+fn finds_what_overlaps(alloc: Global, index: &Index) -> Result<bool, Refusal> {
+    let windows = [
+        (span(9, 10), BOTH),
+        (span(0, 20), ALL),
+        (span(-5, 0), ""),
+        (span(7, 7), ""),
+        (endless(15), LAST),
+    ];
+    for (window, wanted) in windows {
+        if !are(alloc, &index.overlapping(window)?, wanted)? {
             return Ok(false);
         }
     }
     Ok(true)
 }
 
-/// Whether what meets a window of the three is found.
-fn finds_what_overlaps(alloc: Global, index: &Index) -> Result<bool, Refusal> {
-    let windows = [(9, 10, BOTH), (0, 20, ALL), (-5, 0, ""), (7, 7, "")];
-    for (start, end, wanted) in windows {
-        if !overlaps(alloc, index, span(start, end), wanted)? {
+/// Whether what covers a moment of the three is found, and what meets a window.
+fn finds_all(alloc: Global, index: &Index) -> Result<bool, Refusal> {
+    for (moment, wanted) in [(-1, ""), (0, FIRST), (5, BOTH), (10, LATER), (15, LAST)] {
+        if !are(alloc, &index.covering(at(moment))?, wanted)? {
             return Ok(false);
         }
     }
-    overlaps(alloc, index, endless(15), LAST)
-}
-
-fn finds_all(alloc: Global, index: &Index) -> Result<bool, Refusal> {
-    Ok(finds_what_covers(alloc, index)? && finds_what_overlaps(alloc, index)?)
-}
-
-fn finds_all_in_copy(alloc: Global, index: &Index) -> Result<bool, Refusal> {
-    let copy = index.copy()?;
-    let finds_all = finds_all(alloc, &copy);
-    drop(copy);
-    finds_all
-}
-
-fn finds_three(alloc: Global) -> Result<bool, Refusal> {
-    let index = three(alloc)?;
-    let finds = finds_all(alloc, &index);
-    let finds_in_copy = finds_all_in_copy(alloc, &index);
-    drop(index);
-    Ok(finds? && finds_in_copy?)
+    finds_what_overlaps(alloc, index)
 }
 
 #[test]
 fn entries_are_found(rt: HostRuntime) -> Result<(), Fail> {
-    assert!(rt; finds_three(rt.alloc())?);
+    let index = three(rt.alloc())?;
+    let are_found = finds_all(rt.alloc(), &index);
+    let copy = index.copy()?;
+    let are_found_in_copy = finds_all(rt.alloc(), &copy);
+    drop(copy);
+    drop(index);
+    assert!(rt; are_found == Ok(true) && are_found_in_copy == Ok(true));
     Ok(())
 }
 
-/// Whether the second of the three is taken out once, and found no more.
-fn loses_the_second(alloc: Global, index: &mut Index) -> Result<bool, Refusal> {
-    let is_found = index.remove(5, 0);
-    let is_left_out = covers(alloc, index, at(5), FIRST)?;
-    let is_found_again = index.remove(5, 0);
-    Ok(is_found && is_left_out && !is_found_again)
-}
-
-/// Whether a copy keeps what is taken out.
-fn is_lost_but_in_the_copy(alloc: Global, index: &mut Index) -> Result<bool, Refusal> {
-    let copy = index.copy()?;
-    let is_lost = loses_the_second(alloc, index);
-    let finds_all = finds_all(alloc, &copy);
-    drop(copy);
-    Ok(is_lost? && finds_all?)
-}
-
-fn loses_one_of_three(alloc: Global) -> Result<bool, Refusal> {
-    let mut index = three(alloc)?;
-    let loses = is_lost_but_in_the_copy(alloc, &mut index);
-    drop(index);
-    loses
-}
-
+/// A copy keeps what is taken out.
 #[test]
 fn entries_are_removed_once(rt: HostRuntime) -> Result<(), Fail> {
-    assert!(rt; loses_one_of_three(rt.alloc())?);
-    Ok(())
-}
-
-/// Whether entries that cover no moment are kept, never found, and taken out.
-fn keeps_empty_ones(alloc: Global, index: &mut Index) -> Result<bool, Refusal> {
-    put(index, entry(0, 7, span(7, 7)))?;
-    put(index, entry(0, 8, span(9, 3)))?;
-    let are_kept = index.len() == 5;
-    Ok(are_kept && finds_all(alloc, index)? && index.remove(8, 0))
-}
-
-fn keeps_empty_ones_beside_three(alloc: Global) -> Result<bool, Refusal> {
-    let mut index = three(alloc)?;
-    let keeps = keeps_empty_ones(alloc, &mut index);
+    let mut index = three(rt.alloc())?;
+    let copy = index.copy()?;
+    let is_found = index.remove(5, 0);
+    let is_left_out = are(rt.alloc(), &index.covering(at(5))?, FIRST);
+    let is_found_again = index.remove(5, 0);
+    let are_kept = finds_all(rt.alloc(), &copy);
+    drop(copy);
     drop(index);
-    keeps
+    assert!(rt; is_found && is_left_out == Ok(true) && !is_found_again);
+    assert!(rt; are_kept == Ok(true));
+    Ok(())
 }
 
 #[test]
 fn entries_without_instants_are_kept_and_never_found(rt: HostRuntime) -> Result<(), Fail> {
-    assert!(rt; keeps_empty_ones_beside_three(rt.alloc())?);
+    let mut index = three(rt.alloc())?;
+    put(&mut index, entry(0, 7, span(7, 7)))?;
+    put(&mut index, entry(0, 8, span(9, 3)))?;
+    let count = index.len();
+    let are_found = finds_all(rt.alloc(), &index);
+    let is_taken_out = index.remove(8, 0);
+    drop(index);
+    assert!(rt; count == 5 && are_found == Ok(true) && is_taken_out);
     Ok(())
 }
 
-/// Whether room that was reserved is there, and goes down as entries are added.
-fn has_reserved_room(index: &mut Index) -> Result<bool, Refusal> {
-    index.reserve(2)?;
-    let spare = index.spare();
-    put(index, entry(5, 4, span(0, 10)))?;
-    let left = index.spare();
-    put(index, entry(1, 5, span(5, 15)))?;
-    Ok(spare >= 2 && left >= 1 && index.len() == 2)
-}
-
+/// Less of it is left as entries are added.
 #[test]
 fn reserved_room_is_there(rt: HostRuntime) -> Result<(), Fail> {
     let mut index = Index::new(rt.alloc());
-    let has_room = has_reserved_room(&mut index);
+    index.reserve(2)?;
+    let spare = index.spare();
+    put(&mut index, entry(5, 4, span(0, 10)))?;
+    let left = index.spare();
+    put(&mut index, entry(1, 5, span(5, 15)))?;
+    let count = index.len();
     drop(index);
-    assert!(rt; has_room?);
+    assert!(rt; spare >= 2 && left >= 1 && count == 2);
     Ok(())
 }
 
-/// Adds an entry for each instant from 0 on, which covers that instant alone.
-fn put_instants(index: &mut Index, count: u32) -> Result<(), Refusal> {
-    for number in 0..count {
+/// Whether one of 4,096 entries, each of which covers an instant of its own, is found by a moment and by a window, with few
+/// looks at each.
+fn finds_one_of_many(alloc: Global, index: &mut Index) -> Result<bool, Refusal> {
+    for number in 0..4096u32 {
         let start = i128::from(number);
         put(index, entry(0, u64::from(number), span(start, start + 1)))?;
     }
-    Ok(())
-}
-
-/// Whether one of 4,096 entries is found by its moment, with few looks.
-fn looks_for_a_moment(alloc: Global, index: &Index) -> Result<bool, Refusal>
-    requires { length index.now.entries ≡ 4096 }
-{
-    let mut meter = Meter::new();
-    let found = index.covering_counted(at(100), &mut meter)?;
-    Ok(meter.count() <= 112 && are(alloc, &found, "[0 100 0 100 101]")?)
-}
-
-/// The same for a window.
-fn looks_for_a_window(alloc: Global, index: &Index) -> Result<bool, Refusal>
-    requires { length index.now.entries ≡ 4096 }
-{
-    let mut meter = Meter::new();
-    let found = index.overlapping_counted(span(100, 101), &mut meter)?;
-    Ok(meter.count() <= 112 && are(alloc, &found, "[0 100 0 100 101]")?)
-}
-
-/// Whether an index has so many entries once they are put, and few of them are looked at.
-fn looks_among_many(alloc: Global, index: &mut Index) -> Result<bool, Refusal> {
-    put_instants(index, 4096)?;
     if index.len() != 4096 {
         return Ok(false);
     }
-    Ok(looks_for_a_moment(alloc, index)? && looks_for_a_window(alloc, index)?)
+    let mut meter = Meter::new();
+    let covering = index.covering_counted(at(100), &mut meter)?;
+    let mut other = Meter::new();
+    let meeting = index.overlapping_counted(span(100, 101), &mut other)?;
+    let are_few = meter.count() <= 112 && other.count() <= 112;
+    let wanted = "[0 100 0 100 101]";
+    Ok(are_few && are(alloc, &covering, wanted)? && are(alloc, &meeting, wanted)?)
 }
 
 #[test]
-fn few_of_many_entries_are_looked_at(rt: HostRuntime) -> Result<(), Fail> {
+fn few_of_many_entries_are_looked_at(rt: HostRuntime) {
     let mut index = Index::new(rt.alloc());
-    let looks = looks_among_many(rt.alloc(), &mut index);
+    let is_found = finds_one_of_many(rt.alloc(), &mut index);
     drop(index);
-    assert!(rt; looks?);
-    Ok(())
-}
-
-fn comes_before(first: &Entry, second: &Entry) -> bool {
-    first.span.start < second.span.start
-        || first.span.start == second.span.start && first.rank.written < second.rank.written
+    assert!(rt; is_found == Ok(true));
 }
 
 /// Takes an entry out of the index and the plain list, or puts one into both.
@@ -244,51 +176,8 @@ fn edit(index: &mut Index, plain: &mut Vec<Entry>, seed: &mut u64) -> Result<(),
     let start = i128::from(next(seed) % 500);
     let length = i128::from(next(seed) % 30);
     let new = entry(0, number, span(start, start + length));
-    let place = plain.partition_point(|other| comes_before(other, &new));
-    plain.insert(place, new)?;
+    plain::put(plain, &new)?;
     put(index, new)
-}
-
-/// The entries of a plain list that cover the moment.
-fn told_covering(alloc: Global, plain: &[Entry], moment: Moment) -> Result<String, Refusal> {
-    let mut text = String::new(alloc);
-    for entry in plain {
-        if covers_moment(&entry.span, moment) {
-            tell(&mut text, entry)?;
-        }
-    }
-    Ok(text)
-}
-
-/// The entries of a plain list that meet the window.
-fn told_meeting(alloc: Global, plain: &[Entry], window: &Span) -> Result<String, Refusal> {
-    let mut text = String::new(alloc);
-    for entry in plain {
-        if meets(&entry.span, window) {
-            tell(&mut text, entry)?;
-        }
-    }
-    Ok(text)
-}
-
-fn covers_alike(
-    alloc: Global,
-    index: &Index,
-    plain: &[Entry],
-    moment: Moment,
-) -> Result<bool, Refusal> {
-    let wanted = told_covering(alloc, plain, moment)?;
-    covers(alloc, index, moment, wanted.as_str())
-}
-
-fn overlaps_alike(
-    alloc: Global,
-    index: &Index,
-    plain: &[Entry],
-    window: Span,
-) -> Result<bool, Refusal> {
-    let wanted = told_meeting(alloc, plain, &window)?;
-    overlaps(alloc, index, window, wanted.as_str())
 }
 
 /// Whether the index answers a moment and a window as the plain list does.
@@ -300,9 +189,19 @@ fn answers_alike(
 ) -> Result<bool, Refusal> {
     let start = i128::from(next(seed) % 500);
     let window = span(start, start + i128::from(next(seed) % 9));
+    let mut covering = String::new(alloc);
+    let mut meeting = String::new(alloc);
+    for entry in plain {
+        if covers(&entry.span, at(start)) {
+            tell(&mut covering, entry)?;
+        }
+        if meets(&entry.span, &window) {
+            tell(&mut meeting, entry)?;
+        }
+    }
     Ok(
-        covers_alike(alloc, index, plain, at(start))?
-            && overlaps_alike(alloc, index, plain, window)?,
+        are(alloc, &index.covering(at(start))?, covering.as_str())?
+            && are(alloc, &index.overlapping(window)?, meeting.as_str())?,
     )
 }
 
@@ -318,22 +217,18 @@ fn edits_alike(alloc: Global, index: &mut Index, plain: &mut Vec<Entry>) -> Resu
     Ok(true)
 }
 
-/// Whether each entry of the plain list is taken out as one that is known whole, until none is left.
-fn empties(index: &mut Index, plain: &[Entry]) -> bool {
-    index.replace(plain, &[]);
-    index.len() == 0
-}
-
+/// In the end each entry of the plain list is taken out as one that is known whole, until none is left.
 #[test]
-fn many_edits_are_answered_as_by_a_plain_list(rt: HostRuntime) -> Result<(), Fail> {
+fn many_edits_are_answered_as_by_a_plain_list(rt: HostRuntime) {
     let mut index = Index::new(rt.alloc());
     let mut plain = Vec::new(rt.alloc());
     let are_alike = edits_alike(rt.alloc(), &mut index, &mut plain);
-    let is_empty = empties(&mut index, &plain);
+    index.replace(&plain, &[]);
+    let count = index.len();
     drop(plain);
     drop(index);
-    assert!(rt; are_alike? && is_empty);
-    Ok(())
+    assert!(rt; are_alike == Ok(true));
+    assert_eq!(rt; count, 0);
 }
 
 /// So many entries in no order, each with a written number of its own, over so many moments.
@@ -359,8 +254,7 @@ fn random_entries(alloc: Global, count: u32, among: u64) -> Result<Vec<Entry>, R
 fn listed(alloc: Global, entries: &[Entry]) -> Result<Vec<Entry>, Refusal> {
     let mut plain = Vec::new(alloc);
     for entry in entries {
-        let place = plain.partition_point(|other| comes_before(other, entry));
-        plain.insert(place, *entry)?;
+        plain::put(&mut plain, entry)?;
     }
     Ok(plain)
 }
@@ -389,7 +283,7 @@ fn fills_alike(alloc: Global, count: u32, among: u64) -> Result<bool, Refusal> {
 
 /// Of fewer entries than a chunk takes, of as many and more, and of entries that start together.
 #[test]
-fn entries_that_fill_an_index_are_answered_as_by_a_plain_list(rt: HostRuntime) -> Result<(), Fail> {
+fn entries_that_fill_an_index_are_answered_as_by_a_plain_list(rt: HostRuntime) {
     let sizes = [
         (0, 1),
         (1, 1),
@@ -401,7 +295,7 @@ fn entries_that_fill_an_index_are_answered_as_by_a_plain_list(rt: HostRuntime) -
         (1000, 5),
     ];
     for (count, among) in sizes {
-        assert!(rt; fills_alike(rt.alloc(), count, among)?);
+        let is_alike = fills_alike(rt.alloc(), count, among);
+        assert!(rt; is_alike == Ok(true), "{count} {among}");
     }
-    Ok(())
 }

@@ -16,6 +16,8 @@ mod moments;
 #[cfg(test)]
 mod payloads;
 #[cfg(test)]
+mod plain;
+#[cfg(test)]
 mod random;
 #[cfg(test)]
 mod ranks;
@@ -25,6 +27,8 @@ mod repairs;
 mod rows;
 #[cfg(test)]
 mod seats;
+#[cfg(test)]
+mod segments;
 #[cfg(test)]
 mod shields;
 #[cfg(test)]

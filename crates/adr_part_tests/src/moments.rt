@@ -16,13 +16,11 @@ pub(crate) fn at(nanoseconds: i128) -> Moment {
     }
 }
 
-fn is_kept(nanoseconds: i128) -> bool {
-    at(nanoseconds).nanoseconds() == nanoseconds
-}
-
 #[test]
 fn moments_are_numbers_in_range(rt: HostRuntime) {
-    assert!(rt; is_kept(-1) && is_kept(LAST) && is_kept(FIRST));
+    for nanoseconds in [-1, LAST, FIRST] {
+        assert_eq!(rt; at(nanoseconds).nanoseconds(), nanoseconds);
+    }
     assert!(rt; Moment::of(LAST + 1).is_none() && Moment::of(FIRST - 1).is_none());
     assert_eq!(rt; Moment::first().nanoseconds(), FIRST);
 }
@@ -92,28 +90,17 @@ pub(crate) fn prints(alloc: Global, moment: Moment, wanted: &str) -> Result<bool
     Ok(out.as_slice() == wanted.as_bytes())
 }
 
-/// Whether what is printed of a moment of so many nanoseconds is what is wanted.
-pub(crate) fn is_printed(alloc: Global, text: &str, wanted: &str) -> Result<bool, Refusal> {
-    let nanoseconds = text.parse::<i128>().ok().ok_or(Refusal::BadLine)?;
-    prints(alloc, at(nanoseconds), wanted)
-}
-
 #[test]
 fn moments_are_printed(rt: HostRuntime) -> Result<(), Fail> {
     check(rt.alloc(), Asked::PrintedMoment, PRINTED)
 }
 
-/// Whether a second moment is printed after the first.
-fn appends(alloc: Global) -> Result<bool, Refusal> {
-    let mut out = Vec::new(alloc);
+#[test]
+fn printing_appends(rt: HostRuntime) -> Result<(), Fail> {
+    let mut out = Vec::new(rt.alloc());
     print_moment(at(0), &mut out)?;
     print_moment(at(1), &mut out)?;
     let wanted = "1970-01-01T00:00:00Z1970-01-01T00:00:00.000000001Z";
-    Ok(out.as_slice() == wanted.as_bytes())
-}
-
-#[test]
-fn printing_appends(rt: HostRuntime) -> Result<(), Fail> {
-    assert!(rt; appends(rt.alloc())?);
+    assert!(rt; out.as_slice() == wanted.as_bytes());
     Ok(())
 }

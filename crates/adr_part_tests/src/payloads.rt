@@ -52,18 +52,14 @@ fn is_row(alloc: Global, kind: &PayloadType, line: &str) -> Result<bool, Refusal
 pub(crate) fn is_coded(alloc: Global, line: &str) -> Result<bool, Refusal> {
     let (code, _) = line.split_once(' ').ok_or(Refusal::BadLine)?;
     let code = code.parse::<u8>().ok().ok_or(Refusal::BadLine)?;
-    let kind = PayloadType::of_code(code).ok_or(Refusal::NotThere)?;
-    let is_row = is_row(alloc, &kind, line);
-    let is_named = is_named(alloc, kind.name(), line);
-    drop(kind);
-    Ok(is_row? && is_named?)
-}
-
-fn is_named(alloc: Global, name: &str, line: &str) -> Result<bool, Refusal> {
-    let kind = PayloadType::type_of(alloc, name)?;
-    let is_row = is_row(alloc, &kind, line);
-    drop(kind);
-    is_row
+    let coded = PayloadType::of_code(code).ok_or(Refusal::NotThere)?;
+    let is_coded = is_row(alloc, &coded, line);
+    let named = PayloadType::type_of(alloc, coded.name());
+    drop(coded);
+    let named = named?;
+    let is_named = is_row(alloc, &named, line);
+    drop(named);
+    Ok(is_coded? && is_named?)
 }
 
 #[test]
@@ -80,15 +76,11 @@ fn is_private(alloc: Global, name: &str) -> Result<bool, Refusal> {
     Ok(is_private)
 }
 
-fn is_private_in_lower_case(alloc: Global, word: &str) -> Result<bool, Refusal> {
-    let small = word.to_ascii_lowercase(alloc)?;
-    is_private(alloc, small.as_str())
-}
-
 /// Whether each word of a row is a private type's name in lower case.
 pub(crate) fn are_private_in_lower_case(alloc: Global, line: &str) -> Result<bool, Refusal> {
     for word in line.split(' ') {
-        if !is_private_in_lower_case(alloc, word)? {
+        let small = word.to_ascii_lowercase(alloc)?;
+        if !is_private(alloc, small.as_str())? {
             return Ok(false);
         }
     }
@@ -110,23 +102,19 @@ fn from_34_on_a_code_has_no_type(rt: HostRuntime) {
 /// Letters of one byte and of more.
 const LETTERS: &str = "x\né\n🌀";
 
-/// Whether as many letters are a type's name, and no text without the form of one.
-fn names(alloc: Global, letter: &str, length: usize) -> Result<bool, Refusal> {
-    let name = letter.repeat(alloc, length)?;
-    match is_private(alloc, name.as_str()) {
-        Err(Refusal::BadText) => Ok(false),
-        answer => answer,
-    }
-}
-
-/// Whether as many of the letter are a name as may be, and no more.
+/// Whether 1 and 128 of the letter are a type's name, and none and 129 don't have the form of one.
 pub(crate) fn are_from_1_to_128(alloc: Global, letter: &str) -> Result<bool, Refusal> {
-    Ok(
-        !names(alloc, letter, 0)?
-            && names(alloc, letter, 1)?
-            && names(alloc, letter, 128)?
-            && !names(alloc, letter, 129)?,
-    )
+    for (length, wanted) in [(0, false), (1, true), (128, true), (129, false)] {
+        let name = letter.repeat(alloc, length)?;
+        let is_name = match is_private(alloc, name.as_str()) {
+            Err(Refusal::BadText) => false,
+            answer => answer?,
+        };
+        if is_name != wanted {
+            return Ok(false);
+        }
+    }
+    Ok(true)
 }
 
 #[test]
@@ -134,24 +122,20 @@ fn a_type_name_has_1_to_128_characters(rt: HostRuntime) -> Result<(), Fail> {
     check(rt.alloc(), Asked::LetterOfTypes, LETTERS)
 }
 
-fn is_copied(kind: &PayloadType, name: &str) -> Result<bool, Refusal> {
-    let copy = kind.copy()?;
-    let has_name = copy.name() == name;
-    drop(copy);
-    match kind {
-        PayloadType::Private(private) => Ok(has_name && private.copy()?.as_str() == name),
-        _ => Ok(has_name),
-    }
-}
-
 /// Names of types.
 const COPIED: &str = "GHG\nCTA2045_REBOOT\nprice";
 
 pub(crate) fn is_copied_by_name(alloc: Global, name: &str) -> Result<bool, Refusal> {
     let kind = PayloadType::type_of(alloc, name)?;
-    let is_copied = is_copied(&kind, name);
+    let copy = kind.copy()?;
+    let has_name = copy.name() == name;
+    drop(copy);
+    let is_private_copied = match &kind {
+        PayloadType::Private(private) => private.copy()?.as_str() == name,
+        _ => true,
+    };
     drop(kind);
-    is_copied
+    Ok(has_name && is_private_copied)
 }
 
 #[test]

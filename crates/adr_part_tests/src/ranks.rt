@@ -1,7 +1,6 @@
 //! The order of ranks.
 use adr_model::Rank;
 use adr_rule::{Meter, before};
-use std::test::Fail;
 
 const ABSENT: u64 = 4294967296;
 
@@ -15,7 +14,7 @@ fn rank(priority: u64, written: u64, place: u32) -> Rank {
 }
 
 #[test]
-fn the_lower_priority_then_the_later_write_goes_first(rt: HostRuntime) -> Result<(), Fail> {
+fn the_lower_priority_then_the_later_write_goes_first(rt: HostRuntime) {
     let ordered = [
         rank(0, 4, 7),
         rank(3, 6, 2),
@@ -36,5 +35,4 @@ fn the_lower_priority_then_the_later_write_goes_first(rt: HostRuntime) -> Result
         }
     }
     assert_eq!(rt; meter.count(), 36);
-    Ok(())
 }

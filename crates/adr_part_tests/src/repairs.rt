@@ -2,32 +2,20 @@
 //! for all later instants too.
 ghost use Rattle.std.specs.Prelude.{◌≡◌, ◌<◌, ◌≤◌, true, length, IfOk};
 ghost use Rattle.adr_timeline.specs.Chunks.{listed};
-ghost use Rattle.adr_part_tests.specs.Numbers.{rank_named};
 
 use crate::moments::at;
 use crate::random::below;
+use crate::segments::segments_in;
 use adr_model::{Entry, Rank, Segment, Winner};
 use adr_rule::Meter;
 use adr_time::{End, Moment, Span, covers};
-use adr_timeline::{Chunk, PackedSegment, Ranks, Source, Timeline, are_apart, first_run, is_run};
+use adr_timeline::{Chunk, Ranks, Source, Timeline, are_apart, first_run, is_run};
 use adr_value::Refusal;
 use std::alloc::Global;
 use std::test::Fail;
 
 /// Room for the comparisons of so many entries.
 const MOST: usize = 1000;
-
-/// The rank of the interval that is named.
-fn rank_of(winner: Winner) -> Rank
-    ensures { result ≡ rank_named winner }
-{
-    Rank {
-        priority: winner.written % 4,
-        late: 0,
-        written: winner.written,
-        place: winner.place,
-    }
-}
 
 /// Ranks that winners' names tell.
 #[derive(Clone, Copy)]
@@ -40,7 +28,12 @@ impl Ranks for Named {
     ghost rank = { λ ranks winner. rank_named winner };
 
     fn rank(&self, winner: Winner) -> Rank {
-        rank_of(winner)
+        Rank {
+            priority: winner.written % 4,
+            late: 0,
+            written: winner.written,
+            place: winner.place,
+        }
     }
 
     ghost names = { λ ranks winner. refl };
@@ -76,22 +69,18 @@ fn is_same(one: &Option<Winner>, other: &Option<Winner>) -> bool {
     }
 }
 
-/// Whether the first rank goes before the second: the lower priority, then the later write, then the earlier place.
-fn goes_before(first: &Winner, second: &Winner) -> bool {
-    let (one, other) = (rank_of(*first), rank_of(*second));
-    if one.priority != other.priority {
-        return one.priority < other.priority;
-    }
-    one.written > other.written || one.written == other.written && one.place < other.place
-}
-
-/// The one that goes before the other, where there are two.
+/// The one that goes before the other, where there are two: the lower priority, then the later write, then the earlier place.
 fn lesser(first: Option<Winner>, second: Option<Winner>) -> Option<Winner> {
-    match (&first, &second) {
-        (Some(one), Some(other)) if goes_before(other, one) => second,
-        (None, _) => second,
-        _ => first,
-    }
+    let (Some(one), Some(other)) = (first, second) else {
+        return first.or(second);
+    };
+    let (one, other) = (Named.rank(one), Named.rank(other));
+    let is_other = if one.priority != other.priority {
+        other.priority < one.priority
+    } else {
+        other.written > one.written || other.written == one.written && other.place < one.place
+    };
+    if is_other { second } else { first }
 }
 
 /// Who governs at the moment, of the entries.
@@ -161,7 +150,7 @@ fn entries_in(alloc: Global, seed: &mut u64, windows: &[Span]) -> Result<Vec<Ent
     for window in windows {
         let winner = random_winner(seed);
         let entry = Entry {
-            rank: rank_of(winner),
+            rank: Named.rank(winner),
             span: *window,
         };
         entries.push(entry)?;
@@ -169,20 +158,14 @@ fn entries_in(alloc: Global, seed: &mut u64, windows: &[Span]) -> Result<Vec<Ent
     Ok(entries)
 }
 
-/// So many entries.
-fn random_entries(
-    alloc: Global,
-    seed: &mut u64,
-    count: u32,
-    instants: u32,
-    longest: u32,
-) -> Result<Vec<Entry>, Refusal> {
+/// So many entries at most, and so long.
+fn random_entries(alloc: Global, seed: &mut u64, scale: Scale) -> Result<Vec<Entry>, Refusal> {
     let mut entries = Vec::new(alloc);
-    for _ in 0..count {
+    for _ in 0..below(seed, scale.entries) {
         let winner = random_winner(seed);
         let entry = Entry {
-            rank: rank_of(winner),
-            span: random_span(seed, instants, longest),
+            rank: Named.rank(winner),
+            span: random_span(seed, scale.instants, scale.longest),
         };
         entries.push(entry)?;
     }
@@ -287,18 +270,6 @@ fn laid(timeline: &Timeline, entries: &[Entry]) -> Result<Timeline, Refusal> {
     timeline.lay_over(entries, &Named, &mut meter)
 }
 
-/// The timeline with the inner one in the windows, or a copy where these aren't apart.
-fn spliced_all(
-    timeline: &Timeline,
-    windows: &[Span],
-    inner: &Timeline,
-) -> Result<Timeline, Refusal> {
-    if !are_apart(windows) {
-        return timeline.copy();
-    }
-    timeline.splice_all(windows, inner)
-}
-
 /// The timeline with what the entries show in the window.
 fn repair_one(
     alloc: Global,
@@ -314,7 +285,7 @@ fn repair_one(
     repaired
 }
 
-/// The timeline with what the entries show in the windows.
+/// The timeline with what the entries show in the windows, or a copy where these aren't apart.
 fn repair_all(
     alloc: Global,
     timeline: &Timeline,
@@ -324,7 +295,11 @@ fn repair_all(
 ) -> Result<Timeline, Refusal> {
     write_shown(shown, windows, entries);
     let inner = built_all(alloc, entries, windows)?;
-    let repaired = spliced_all(timeline, windows, &inner);
+    let repaired = if are_apart(windows) {
+        timeline.splice_all(windows, &inner)
+    } else {
+        timeline.copy()
+    };
     drop(inner);
     repaired
 }
@@ -345,8 +320,7 @@ fn repaired(
     scale: Scale,
     seed: &mut u64,
 ) -> Result<Timeline, Refusal> {
-    let count = below(seed, scale.entries);
-    let entries = random_entries(alloc, seed, count, scale.instants, scale.longest)?;
+    let entries = random_entries(alloc, seed, scale)?;
     match below(seed, 4) {
         0 => {
             let windows = [random_span(seed, scale.instants, scale.instants)];
@@ -391,8 +365,10 @@ fn segments_of(alloc: Global, shown: &[Option<Winner>]) -> Result<Vec<Segment>, 
     for governor in shown {
         let here = at(i128::from(moment));
         if !is_same(&before, governor) {
-            if before.is_some() {
-                end_last(&mut segments, here);
+            if before.is_some()
+                && let Some(last) = segments.last_mut()
+            {
+                last.end = End::At(here);
             }
             if let Some(winner) = governor {
                 segments.push(Segment {
@@ -408,57 +384,14 @@ fn segments_of(alloc: Global, shown: &[Option<Winner>]) -> Result<Vec<Segment>, 
     Ok(segments)
 }
 
-fn end_last(segments: &mut Vec<Segment>, end: Moment) {
-    if let Some(last) = segments.last_mut() {
-        last.end = End::At(end);
-    }
-}
-
-/// Puts the segments of a chunk at the end of others.
-fn add_segments(segments: &mut Vec<Segment>, more: &[PackedSegment]) -> Result<(), Refusal> {
-    for segment in more {
-        let end: End = segment.end();
-        segments.push(Segment {
-            start: segment.start(),
-            end,
-            winner: segment.winner(),
-        })?;
-    }
-    Ok(())
-}
-
-/// The segments of the timeline.
-fn segments_in(alloc: Global, timeline: &Timeline) -> Result<Vec<Segment>, Refusal> {
-    let mut segments = Vec::new(alloc);
-    for chunk in timeline.segments() {
-        add_segments(&mut segments, chunk.segments())?;
-    }
-    Ok(segments)
-}
-
-fn is_same_segment(one: &Segment, other: &Segment) -> bool {
-    one.start == other.start
-        && one.end == other.end
-        && is_same(&Some(one.winner), &Some(other.winner))
-}
-
 fn are_same(found: &[Segment], wanted: &[Segment]) -> bool {
+    for (one, other) in found.iter().zip(wanted) {
+        let is_alike = one.start == other.start && one.end == other.end;
+        if !is_alike || !is_same(&Some(one.winner), &Some(other.winner)) {
+            return false;
+        }
+    }
     found.len() == wanted.len()
-        && found
-            .iter()
-            .zip(wanted)
-            .all(|(one, other)| is_same_segment(one, other))
-}
-
-/// Whether the timeline has the segments of the plain list.
-fn has_segments(
-    alloc: Global,
-    timeline: &Timeline,
-    shown: &[Option<Winner>],
-) -> Result<bool, Refusal> {
-    let found = segments_in(alloc, timeline)?;
-    let wanted = segments_of(alloc, shown)?;
-    Ok(are_same(&found, &wanted))
 }
 
 /// The next change after each segment's start, and after its end, as the segments have it.
@@ -485,39 +418,30 @@ fn answers_alike(
     timeline: &Timeline,
     shown: &[Option<Winner>],
 ) -> Result<bool, Refusal> {
-    let segments = segments_of(alloc, shown)?;
+    let found = segments_in(alloc, timeline)?;
+    let wanted = segments_of(alloc, shown)?;
     Ok(
         governs_alike(timeline, shown)
-            && changes_alike(timeline, &segments)
-            && has_segments(alloc, timeline, shown)?,
+            && changes_alike(timeline, &wanted)
+            && are_same(&found, &wanted),
     )
 }
 
-/// The plain list inside the window, and nothing outside.
-fn clipped(
-    alloc: Global,
-    shown: &[Option<Winner>],
-    window: &Span,
-) -> Result<Vec<Option<Winner>>, Refusal> {
-    let mut clipped = Vec::new(alloc);
-    let mut moment = 0;
-    for governor in shown {
-        let is_inside = covers(window, at(i128::from(moment)));
-        clipped.push(if is_inside { *governor } else { None })?;
-        moment = u32::wrapping_add(moment, 1);
-    }
-    Ok(clipped)
-}
-
-/// Whether the timeline's part in a window answers alike.
+/// Whether the timeline's part in a window answers as the plain list does inside, and has nothing outside.
 fn clips_alike(
     alloc: Global,
     timeline: &Timeline,
     shown: &[Option<Winner>],
     window: Span,
 ) -> Result<bool, Refusal> {
+    let mut wanted = Vec::new(alloc);
+    let mut moment = 0;
+    for governor in shown {
+        let is_inside = covers(&window, at(i128::from(moment)));
+        wanted.push(if is_inside { *governor } else { None })?;
+        moment = u32::wrapping_add(moment, 1);
+    }
     let part = timeline.clip(window)?;
-    let wanted = clipped(alloc, shown, &window)?;
     let is_alike = answers_alike(alloc, &part, &wanted);
     drop(part);
     is_alike
@@ -548,7 +472,7 @@ fn are_repaired(
 
 /// Few segments, in one chunk, and in chunks of one, two and five.
 #[test]
-fn repairs_of_few_segments_are_those_of_a_plain_list(rt: HostRuntime) -> Result<(), Fail> {
+fn repairs_of_few_segments_are_those_of_a_plain_list(rt: HostRuntime) {
     let scale = Scale {
         instants: 40,
         entries: 6,
@@ -556,36 +480,32 @@ fn repairs_of_few_segments_are_those_of_a_plain_list(rt: HostRuntime) -> Result<
     };
     for most in [128, 1, 2, 5] {
         let mut shown = [None; 40];
-        assert!(rt; are_repaired(rt.alloc(), &mut shown, scale, most, 800)?);
+        let are_alike = are_repaired(rt.alloc(), &mut shown, scale, most, 800);
+        assert!(rt; are_alike == Ok(true), "{most}");
     }
-    Ok(())
 }
 
 /// Several hundred segments, in chunks as timelines have them.
 #[test]
-fn repairs_of_many_segments_are_those_of_a_plain_list(rt: HostRuntime) -> Result<(), Fail> {
+fn repairs_of_many_segments_are_those_of_a_plain_list(rt: HostRuntime) {
     let scale = Scale {
         instants: 1500,
         entries: 400,
         longest: 9,
     };
     let mut shown = [None; 1500];
-    assert!(rt; are_repaired(rt.alloc(), &mut shown, scale, 128, 40)?);
-    Ok(())
-}
-
-/// Whether windows are told to be apart, and how many from the first on, as it is told plainly.
-fn runs_alike(alloc: Global, seed: &mut u64) -> Result<bool, Refusal> {
-    let windows = random_windows(alloc, seed, 40)?;
-    let run = plain_run(&windows);
-    Ok(first_run(&windows) == run && are_apart(&windows) == (run == windows.len()))
+    let are_alike = are_repaired(rt.alloc(), &mut shown, scale, 128, 40);
+    assert!(rt; are_alike == Ok(true));
 }
 
 #[test]
 fn runs_of_windows_are_found(rt: HostRuntime) -> Result<(), Fail> {
     let mut seed = 5;
     for _ in 0..3000 {
-        assert!(rt; runs_alike(rt.alloc(), &mut seed)?);
+        let windows = random_windows(rt.alloc(), &mut seed, 40)?;
+        let run = plain_run(&windows);
+        assert_eq!(rt; first_run(&windows), run);
+        assert_eq!(rt; are_apart(&windows), run == windows.len());
     }
     Ok(())
 }

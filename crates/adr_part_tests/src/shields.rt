@@ -1,7 +1,6 @@
 //! Bodies behind the shield.
 use crate::rows::{Asked, check};
 use adr_value::{Refusal, shield, shield_laws};
-use std::alloc::Global;
 use std::test::Fail;
 
 /// What bodies are behind the shield, and the bodies.
@@ -20,23 +19,14 @@ const BODIES: &str = r#"["\u00000.17"] = [0.17]
 ["\u00001","\u00002e1"] = [1,2e1]
 {"a":"\u00001" , "b":true} = {"a":1 , "b":true}"#;
 
-pub(crate) fn is_shielded(alloc: Global, body: &str, wanted: &str) -> Result<bool, Refusal> {
-    let shielded = shield(alloc, body.as_bytes())?;
-    Ok(shielded.as_slice() == wanted.as_bytes())
-}
-
 #[test]
 fn bodies_are_shielded(rt: HostRuntime) -> Result<(), Fail> {
     check(rt.alloc(), Asked::ShieldedBody, BODIES)
 }
 
-fn shielded_length(alloc: Global, body: &str) -> Result<usize, Refusal> {
-    Ok(shield(alloc, body.as_bytes())?.len())
-}
-
 #[test]
 fn a_shielded_number_takes_eight_bytes_more(rt: HostRuntime) -> Result<(), Fail> {
-    assert_eq!(rt; shielded_length(rt.alloc(), "[0.17]")?, 14);
+    assert_eq!(rt; shield(rt.alloc(), "[0.17]".as_bytes())?.len(), 14);
     shield_laws();
     Ok(())
 }
@@ -48,19 +38,14 @@ const REFUSED: &str = "{1 :2}|[\"\\u0000\"]|{\"a\":1,1.5:2}|{\"a\":1,1.5\t\r\n :
 #[test]
 fn bad_bodies_are_refused(rt: HostRuntime) {
     for body in REFUSED.split('|') {
-        let refused = shielded_length(rt.alloc(), body);
-        assert!(rt; refused == Err(Refusal::BadNumber), "{body}");
+        let refused = shield(rt.alloc(), body.as_bytes());
+        assert!(rt; matches!(&refused, Err(Refusal::BadNumber)), "{body}");
     }
-}
-
-/// How long the shielded text of a body of four megabytes is.
-fn length_of_four_megabytes(alloc: Global) -> Result<usize, Refusal> {
-    let body = "[1,\"\\\"2\"] ".repeat(alloc, 400_000)?;
-    shielded_length(alloc, body.as_str())
 }
 
 #[test]
 fn a_body_of_four_megabytes_is_shielded(rt: HostRuntime) -> Result<(), Fail> {
-    assert_eq!(rt; length_of_four_megabytes(rt.alloc())?, 7_200_000);
+    let body = "[1,\"\\\"2\"] ".repeat(rt.alloc(), 400_000)?;
+    assert_eq!(rt; shield(rt.alloc(), body.as_bytes())?.len(), 7_200_000);
     Ok(())
 }

@@ -46,41 +46,38 @@ pub(crate) fn tell_span(text: &mut String, start: Moment, end: End) -> Result<()
     }
 }
 
-fn covers_5_to_9() -> bool {
-    let span = span(5, 10);
-    !covers(&span, at(4)) && covers(&span, at(5)) && covers(&span, at(9)) && !covers(&span, at(10))
-}
-
-fn covers_5_and_later() -> bool {
-    let span = endless(5);
-    !covers(&span, at(4)) && covers(&span, at(LAST))
-}
-
 #[test]
 fn spans_cover(rt: HostRuntime) {
-    assert!(rt; covers_5_to_9() && covers_5_and_later());
-    assert!(rt; !covers(&span(5, 5), at(5)));
+    let rows = [
+        (span(5, 10), 4, false),
+        (span(5, 10), 5, true),
+        (span(5, 10), 9, true),
+        (span(5, 10), 10, false),
+        (endless(5), 4, false),
+        (endless(5), LAST, true),
+        (span(5, 5), 5, false),
+    ];
+    for (span, moment, wanted) in rows {
+        assert_eq!(rt; covers(&span, at(moment)), wanted, "{span:?} {moment}");
+    }
     let end = End::At(at(5));
     assert!(rt; at(4).is_before(end) && !at(5).is_before(end));
 }
 
-fn all_meet() -> bool {
-    meets(&span(5, 10), &span(9, 20))
-        && meets(&span(0, 20), &span(5, 10))
-        && meets(&span(5, 10), &endless(9))
-        && meets(&endless(5), &endless(LAST))
-}
-
-fn some_meet() -> bool {
-    meets(&span(5, 10), &span(10, 20))
-        || meets(&span(10, 20), &span(5, 10))
-        || meets(&span(5, 5), &span(0, 10))
-        || meets(&span(0, 10), &span(7, 3))
-        || meets(&span(5, 10), &endless(10))
-}
-
 #[test]
 fn spans_meet(rt: HostRuntime) {
-    assert!(rt; all_meet());
-    assert!(rt; !some_meet());
+    let rows = [
+        (span(5, 10), span(9, 20), true),
+        (span(0, 20), span(5, 10), true),
+        (span(5, 10), endless(9), true),
+        (endless(5), endless(LAST), true),
+        (span(5, 10), span(10, 20), false),
+        (span(10, 20), span(5, 10), false),
+        (span(5, 5), span(0, 10), false),
+        (span(0, 10), span(7, 3), false),
+        (span(5, 10), endless(10), false),
+    ];
+    for (one, other, wanted) in rows {
+        assert_eq!(rt; meets(&one, &other), wanted, "{one:?} {other:?}");
+    }
 }
