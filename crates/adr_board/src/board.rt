@@ -484,16 +484,8 @@ impl<J: Naming> Editor<J> {
                 return Err(refusal);
             }
         };
-        let Prepared {
-            sealed,
-            shown,
-            last,
-        } = prepared;
-        let shown = Shown {
-            snapshot: shown,
-            attempt: place,
-            page: attempt.page.again(),
-        };
+        let Prepared { sealed, shown, last } = prepared;
+        let shown = Shown::of(shown, place, &attempt.page);
         match show_next(&mut self.writer, rt, shown) {
             Ok(()) => {
                 self.diary.end(attempt, self.desk.book(), true);
@@ -607,16 +599,8 @@ fn start<J: Naming>(
     let Ok(other) = Arc::try_clone(&last) else {
         return Err(Refusal::NoMemory);
     };
-    let first = Shown {
-        snapshot: shown,
-        attempt: place,
-        page: page.again(),
-    };
-    let second = Shown {
-        snapshot: other,
-        attempt: place,
-        page: page.again(),
-    };
+    let first = Shown::of(shown, place, &page);
+    let second = Shown::of(other, place, &page);
     match RuledWriter::<J>::new(alloc, first, second, readers) {
         Ok(writer) => {
             diary.end(attempt, last.book(), true);

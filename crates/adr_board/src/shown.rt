@@ -15,6 +15,21 @@ pub struct Shown {
     pub page: Page,
 }
 
+impl Shown {
+    /// A share of the snapshot, of the attempt at that place, with its own handle on the page.
+    pub(crate) fn of(snapshot: Arc<Snapshot>, attempt: u64, page: &Page) -> Shown
+        ensures snapshot { result.snapshot ≡ snapshot }
+        ensures attempt { result.attempt ≡ attempt }
+        ensures page { result.page ≡ page.now }
+    {
+        Shown {
+            snapshot,
+            attempt,
+            page: page.again(),
+        }
+    }
+}
+
 /// What a copy shows, whoever shares it. No value of it is made.
 pub struct Showing {
     pub snapshot: Snapshot,

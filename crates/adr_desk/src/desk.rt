@@ -82,7 +82,7 @@ impl Desk {
         ensures pending { IfOk result (λ desk. desk.book.pending ≡ []) }
         ensures refusal { OnlyNoMemory result }
     {
-        let schedule = Shared::new(alloc, Schedule::new(alloc))?;
+        let schedule = Shared::new(alloc, Schedule::new(alloc)?)?;
         Ok(Desk {
             resolution: Resolution::of(tie, Book::new(alloc), schedule),
             keys: Audiences::new(alloc),

@@ -1,5 +1,5 @@
 -- What is made of groups before places move.
-use Rattle.std.proofs.Common.{◌≡◌, ◌⊎◌, inl, inr, ℕ, ℤ, suc, ◌+◌, ◌*◌, ◌≤◌, ◌==◌, ◌||◌, Bool, true, false, List, [], ◌∷◌, ◌++◌, length, flat_map, sum_by, slice_get, take, drop, Option, Some, None, refl, ap, ap₂, sym, subst, ◌∙◌, append-nil, eqb-true, arith}
+use Rattle.std.proofs.Common.{◌≡◌, ◌⊎◌, inl, inr, ℕ, ℤ, suc, ◌+◌, ◌*◌, ◌≤◌, ◌==◌, ◌||◌, Bool, true, false, List, [], ◌∷◌, ◌++◌, length, flat_map, sum_by, slice_get, take, drop, Option, Some, None, refl, ap, sym, subst, ◌∙◌, eqb-true, arith}
 use Rattle.std.specs.Prelude.{MatchOption}
 use Rattle.std.specs.List.{AllZip}
 use Rattle.std.specs.Option.{option_map_or}
@@ -22,8 +22,7 @@ use Rattle.adr_shared.specs.Map.{put}
 use Rattle.adr_schedule.specs.declared.change.Change.{Change}
 use Rattle.adr_schedule.specs.declared.change.Side.{Side}
 use Rattle.adr_schedule.specs.declared.draft.Draft.{Draft}
-use Rattle.adr_schedule.specs.declared.draft.Windows.{Windows}
-use Rattle.adr_schedule.specs.Draft.{jobs_of, most_drafted, AreDraftsIn, AreDraftsOf, AreMadeOf, AreMadeSoFar, AreSeen, AreWindowsFor, IsDraftOf, IsMadeOf, IsSame, IsSeen}
+use Rattle.adr_schedule.specs.Draft.{jobs_of, most_drafted, AreDraftsIn, AreDraftsOf, AreMadeOf, AreMadeSoFar, AreSeen, IsDraftOf, IsMadeOf, IsSame, IsSeen}
 use Rattle.adr_schedule.specs.Moves.{asked_at, is_among, AreMadeFor}
 use Rattle.adr_schedule.specs.Shift.{entries_in, kept_side, most_shifted, sides_for, sides_of, AreTwo, Becomes}
 use Rattle.adr_schedule.specs.Slots.{in_slot, value_at}
@@ -57,24 +56,15 @@ in_either x y (z ∷ xs) (inr m) = by (in_either x y xs m)
 -- ---- the windows of a change
 
 module _ (change : Change) (writes : List ℕ) where
-  for_gone : (s : Side) → kept_side true writes change.gone ≡ Some s → kept_side false writes change.come ≡ None → entries_in change.gone ≡ sides_for change writes
-  for_gone s gone come = ap entries_in (kept_is true writes change.gone s gone) ∙ sym (append-nil (entries_in (Some s))) ∙ sym (rw (gone, come) refl)
-
   pub for_come : (s : Side) → kept_side true writes change.gone ≡ None → kept_side false writes change.come ≡ Some s → entries_in change.come ≡ sides_for change writes
   for_come s gone come = ap entries_in (kept_is false writes change.come s come) ∙ sym (rw (gone, come) refl)
 
-  for_both : (s r : Side) → kept_side true writes change.gone ≡ Some s → kept_side false writes change.come ≡ Some r → entries_in change.gone ++ entries_in change.come ≡ sides_for change writes
-  for_both s r gone come = ap₂ (λ a b. entries_in a ++ entries_in b) (kept_is true writes change.gone s gone ∙ sym gone) (kept_is false writes change.come r come ∙ sym come)
+  -- the entries of the sides that make a difference, and of the change that has them
+  pub gone_entries : (s : Side) → kept_side true writes change.gone ≡ Some s → entries_in change.gone ≡ s.entries.items
+  gone_entries s gone = ap entries_in (kept_is true writes change.gone s gone)
 
-  module _ (windows : Windows) (are : AreWindowsFor change windows) where
-    pub gone_windows : (s : Side) → kept_side true writes change.gone ≡ Some s → kept_side false writes change.come ≡ None → AreAlike windows.gone.items (sides_for change writes)
-    gone_windows s gone come = subst (λ l. AreAlike windows.gone.items l) (for_gone s gone come) are.gone
-
-    pub come_windows : (s : Side) → kept_side true writes change.gone ≡ None → kept_side false writes change.come ≡ Some s → AreAlike windows.come.items (sides_for change writes)
-    come_windows s gone come = subst (λ l. AreAlike windows.come.items l) (for_come s gone come) are.come
-
-    pub both_windows : (s r : Side) → kept_side true writes change.gone ≡ Some s → kept_side false writes change.come ≡ Some r → AreAlike windows.both.items (sides_for change writes)
-    both_windows s r gone come = subst (λ l. AreAlike windows.both.items l) (for_both s r gone come) are.both
+  pub come_entries : (s : Side) → kept_side false writes change.come ≡ Some s → entries_in change.come ≡ s.entries.items
+  come_entries s come = ap entries_in (kept_is false writes change.come s come)
 
 -- ---- what drafts compare
 

@@ -1,12 +1,12 @@
 -- Places that are added one by one, with the slots that they have.
-use Rattle.std.proofs.Common.{◌≡◌, ℕ, zero, suc, ◌<◌, ◌⊎◌, inl, inr, true, false, List, [], ◌∷◌, ◌++◌, length, slice_get, Option, Some, None, refl, ap, sym, subst, ◌∙◌, arith, append-nil}
+use Rattle.std.proofs.Common.{◌≡◌, ℕ, suc, ◌<◌, ◌⊎◌, inl, inr, true, false, List, [], ◌∷◌, ◌++◌, length, slice_get, Option, Some, None, refl, ap, sym, ◌∙◌, arith}
 use Rattle.std.specs.Borrow.{Bor}
 use Rattle.std.specs.Option.{option_and_then}
 use Rattle.std.specs.Slice.{IsItemAt}
 use Rattle.std.proofs.lemmas.Option.{slice_get-get_or}
 use Rattle.adr_shared.specs.Map.{put}
 use Rattle.adr_group.specs.Group.{Lines}
-use Rattle.adr_schedule.specs.Seating.{group_at, Seating}
+use Rattle.adr_schedule.specs.Seating.{group_at}
 use Rattle.adr_schedule.specs.Slots.{in_slot, is_taken, value_at, AreSeated}
 use Rattle.adr_schedule.proofs.Numbered.{one_or_other, put_here, put_elsewhere, has_place, place_of_taken}
 use Rattle.adr_schedule.proofs.Places.{last_or_before, added_seated, before_last}

@@ -1,4 +1,6 @@
+pub mod Counted
 pub mod Drafts
+pub mod Exchanged
 pub mod Filled
 pub mod Laid
 pub mod Least

@@ -1,5 +1,5 @@
 -- What is to be made of the groups of some slots, where an event goes or comes.
-use Rattle.std.specs.Prelude.{◌≡◌, ◌⊎◌, ◌++◌, ℕ, true, false, List, sum_by, Some, None}
+use Rattle.std.specs.Prelude.{◌≡◌, ◌⊎◌, ◌++◌, ℕ, true, false, List, [], sum_by, Some, None, IfSome}
 use Rattle.adr_model.specs.declared.entry.Tie.{Tie}
 use Rattle.adr_model.specs.declared.written.Written.{Written}
 use Rattle.adr_model.specs.Lists.{In}
@@ -18,11 +18,11 @@ use Rattle.adr_schedule.specs.declared.draft.Windows.{Windows}
 use Rattle.adr_schedule.specs.Shift.{entries_in, kept_side, number_in, sides_for}
 use Rattle.adr_schedule.specs.Slots.{in_slot}
 
--- the windows are those of the event that goes, of the one that comes, and of both
+-- the windows that are there are those of the event that goes, of the one that comes, and of both
 pub record AreWindowsFor (change : Change) (windows : Windows) : Type 0 where
-  pub gone : AreAlike windows.gone.items (entries_in change.gone)
-  pub come : AreAlike windows.come.items (entries_in change.come)
-  pub both : AreAlike windows.both.items (entries_in change.gone ++ entries_in change.come)
+  pub gone : IfSome windows.gone (λ w. AreAlike w.items (entries_in change.gone ++ []))
+  pub come : IfSome windows.come (λ w. AreAlike w.items (entries_in change.come))
+  pub both : IfSome windows.both (λ w. AreAlike w.items (entries_in change.gone ++ entries_in change.come))
 
 -- the change makes no difference to the group
 abbrev pub IsSame : Change → Lines → Type 0

@@ -4,3 +4,4 @@ pub mod Place
 pub mod Seating
 pub mod Shift
 pub mod Slots
+pub mod Tally

@@ -1,5 +1,5 @@
 //! What is to be made of the groups of some places, before any place moves.
-ghost use Rattle.std.specs.Prelude.{◌≡◌, ◌≤◌, ◌+◌, ◌++◌, ℕ, true, false, Some, None, slice_get, sum_by, IfOk, OnOk, MatchOption};
+ghost use Rattle.std.specs.Prelude.{◌≡◌, ◌≤◌, ◌+◌, ◌++◌, ◌∷◌, ℕ, List, true, false, Some, None, slice_get, sum_by, IfOk, IfSome, OnOk, MatchOption};
 ghost use Rattle.std.specs.Option.{option_copied, option_map_or};
 ghost use Rattle.adr_value.specs.Answer.{OnlyNoMemory};
 ghost use Rattle.adr_model.specs.Lists.{In};
@@ -8,16 +8,21 @@ ghost use Rattle.adr_group.specs.Jobs.{AreAlike};
 ghost use Rattle.adr_schedule.specs.declared.draft.Draft.{Draft as AnyDraft};
 ghost use Rattle.adr_schedule.specs.Draft.{most_drafted, AreDraftsIn, AreDraftsOf, AreSeen, AreWindowsFor, IsDraftOf, IsSame, IsSeen};
 ghost use Rattle.adr_schedule.specs.Moves.{asked_at, is_among};
-ghost use Rattle.adr_schedule.specs.Shift.{entries_in, kept_side, most_shifted, number_in, sides_for, AreTwo};
+ghost use Rattle.adr_schedule.specs.Shift.{kept_side, most_shifted, number_in, sides_for, AreTwo};
 ghost use Rattle.adr_schedule.specs.Slots.{in_slot};
+ghost use Rattle.adr_schedule.specs.Tally.{AreAllOf, HasSeen, IsTallied};
 
 use crate::change::{Change, Side};
+use crate::tally::Tally;
 use adr_group::{Group, Writes, shared_windows};
 use adr_seats::Seats;
 use adr_shared::{Shared, SharedMap};
 use adr_stretch::TypeEntries;
 use adr_value::Refusal;
 use std::alloc::Global;
+
+/// Windows of each type, which drafts and jobs share.
+type SharedWindows = Shared<Vec<Shared<TypeEntries>>>;
 
 /// What is to be made of the group in a slot: its writes after the change, and the windows of each type in which its
 /// timeline is to be repaired.
@@ -26,15 +31,15 @@ pub(crate) struct Draft {
     pub(crate) slot: u64,
     pub(crate) group: Group,
     pub(crate) writes: Shared<Writes>,
-    pub(crate) windows: Shared<Vec<Shared<TypeEntries>>>,
+    pub(crate) windows: SharedWindows,
 }
 
-/// The windows of the event that goes, of the one that comes, and of both.
+/// The windows of the event that goes, of the one that comes, and of both: each as soon as a group asks for them.
 #[derive(Drop)]
-pub(crate) struct Windows {
-    pub(crate) gone: Shared<Vec<Shared<TypeEntries>>>,
-    pub(crate) come: Shared<Vec<Shared<TypeEntries>>>,
-    pub(crate) both: Shared<Vec<Shared<TypeEntries>>>,
+struct Windows {
+    gone: Option<SharedWindows>,
+    come: Option<SharedWindows>,
+    both: Option<SharedWindows>,
 }
 
 /// The event that goes, where it is one of the writes.
@@ -66,21 +71,12 @@ fn number(side: Option<&Side>) -> Option<u64>
     }
 }
 
-fn entries(side: &Option<Side>) -> &[TypeEntries]
-    ensures { result.now ≡ entries_in side.now }
-{
-    match side {
-        Some(side) => side.entries.as_slice(),
-        None => &[],
-    }
-}
-
 /// The windows of both lists, shared.
 fn shared_list(
     alloc: Global,
     windows: &[TypeEntries],
     more: &[TypeEntries],
-) -> Result<Shared<Vec<Shared<TypeEntries>>>, Refusal>
+) -> Result<SharedWindows, Refusal>
     ensures alike { IfOk result (λ shared. AreAlike shared.items (windows.now ++ more.now)) }
     ensures refusal { OnlyNoMemory result }
 {
@@ -89,49 +85,86 @@ fn shared_list(
     Ok(shared)
 }
 
-/// The windows of the change. `NoMemory` where there is no room for them. Cost: three copies of the entries at most.
-pub(crate) fn windows_of(alloc: Global, change: &Change) -> Result<Windows, Refusal>
-    ensures windows { IfOk result (AreWindowsFor change.now) }
+/// The windows of both lists, made where they are not known yet.
+fn known_list(
+    alloc: Global,
+    known: &mut Option<SharedWindows>,
+    windows: &[TypeEntries],
+    more: &[TypeEntries],
+) -> Result<SharedWindows, Refusal>
+    requires known { IfSome known.old (λ w. AreAlike w.items (windows.now ++ more.now)) }
+    ensures known { IfSome known.new (λ w. AreAlike w.items (windows.now ++ more.now)) }
+    ensures alike { IfOk result (λ w. AreAlike w.items (windows.now ++ more.now)) }
     ensures refusal { OnlyNoMemory result }
 {
-    let gone = shared_list(alloc, entries(&change.gone), &[])?;
-    let come = shared_list(alloc, &[], entries(&change.come))?;
-    let both = shared_list(alloc, entries(&change.gone), entries(&change.come))?;
-    Ok(Windows { gone, come, both })
+    if let Some(known) = known {
+        return known.copy();
+    }
+    let made = shared_list(alloc, windows, more)?;
+    *known = Some(made.copy()?);
+    Ok(made)
 }
 
-/// The windows of the sides that make a difference to a group of those writes, if one does.
-fn windows_for<'a>(
-    windows: &'a Windows,
-    writes: &Writes,
-    change: &Change,
-) -> Option<&'a Shared<Vec<Shared<TypeEntries>>>>
-    requires { AreWindowsFor change.now windows.now }
-    ensures { MatchOption result ((kept_side true writes.now change.now.gone ≡ None) × (kept_side false writes.now change.now.come ≡ None)) (λ w. AreAlike w.now.items (sides_for change.now writes.now)) }
-{
-    let gone = leaving(writes, &change.gone);
-    let come = joining(writes, &change.come);
-    match (gone, come) {
-        (Some(_), Some(_)) => Some(&windows.both),
-        (Some(_), None) => Some(&windows.gone),
-        (None, Some(_)) => Some(&windows.come),
-        (None, None) => None,
+impl Windows {
+    /// Nothing was asked for yet.
+    fn none() -> Windows
+        ensures gone { result.gone ≡ None }
+        ensures come { result.come ≡ None }
+        ensures both { result.both ≡ None }
+    {
+        Windows {
+            gone: None,
+            come: None,
+            both: None,
+        }
+    }
+
+    /// The windows of the sides that make a difference to a group of those writes, if one does. `NoMemory` where there is
+    /// no room for them. Cost: a copy of the entries, where no group before asked for the same.
+    fn of(
+        &mut self,
+        alloc: Global,
+        change: &Change,
+        writes: &Writes,
+    ) -> Result<Option<SharedWindows>, Refusal>
+        requires { AreWindowsFor change.now self.old }
+        ensures kept { OnOk result (AreWindowsFor change.now self.new) }
+        ensures windows { IfOk result (λ found. MatchOption found ((kept_side true writes.now change.now.gone ≡ None) × (kept_side false writes.now change.now.come ≡ None)) (λ w. AreAlike w.items (sides_for change.now writes.now))) }
+        ensures refusal { OnlyNoMemory result }
+    {
+        let gone = leaving(writes, &change.gone);
+        let come = joining(writes, &change.come);
+        let windows = match (gone, come) {
+            (Some(gone), Some(come)) => {
+                let (gone, come) = (gone.entries.as_slice(), come.entries.as_slice());
+                known_list(alloc, &mut self.both, gone, come)?
+            }
+            (Some(gone), None) => {
+                known_list(alloc, &mut self.gone, gone.entries.as_slice(), &[])?
+            }
+            (None, Some(come)) => {
+                known_list(alloc, &mut self.come, &[], come.entries.as_slice())?
+            }
+            (None, None) => return Ok(None),
+        };
+        Ok(Some(windows))
     }
 }
 
 /// The draft of the group in the slot; None where the change makes no difference to it.
-fn drafted(
+fn draft_of(
     alloc: Global,
     slot: u64,
     group: &Group,
     change: &Change,
-    windows: &Windows,
+    windows: &mut Windows,
 ) -> Result<Option<Draft>, Refusal>
-    requires { AreWindowsFor change.now windows.now }
+    requires { AreWindowsFor change.now windows.old }
+    ensures kept { OnOk result (AreWindowsFor change.now windows.new) }
     ensures draft { IfOk result (λ made. MatchOption made (IsSame change.now group.now) (λ d. (d.slot ≡ slot) × IsDraftOf change.now group.now d)) }
     ensures refusal { OnlyNoMemory result }
 {
-    let Some(windows) = windows_for(windows, group.writes(), change) else {
+    let Some(windows) = windows.of(alloc, change, group.writes())? else {
         return Ok(None);
     };
     let gone = number(leaving(group.writes(), &change.gone));
@@ -141,7 +174,7 @@ fn drafted(
         slot,
         group: group.copy()?,
         writes: Shared::new(alloc, writes)?,
-        windows: windows.copy()?,
+        windows,
     }))
 }
 
@@ -169,11 +202,21 @@ pub(crate) fn draft_with(
     })
 }
 
-/// The drafts of some slots, and those slots: each stands under its own number.
+/// The drafts of the groups of some places, each group's once, and the slots of those places, where they are all that have
+/// one of them.
+#[derive(Drop)]
+pub(crate) struct Drafted {
+    pub(crate) list: Vec<Draft>,
+    pub(crate) slots: Option<Vec<u64>>,
+}
+
+/// The drafts of some slots, those slots, each under its own number, and counted, and the windows that were asked for.
 #[derive(Drop)]
 struct Drafts {
     list: Vec<Draft>,
     seen: SharedMap<u64, u64>,
+    tally: Tally,
+    windows: Windows,
 }
 
 /// Adds the draft of the slot, if its group is to change.
@@ -182,12 +225,13 @@ fn add(
     groups: &SharedMap<u64, Group>,
     slot: u64,
     change: &Change,
-    windows: &Windows,
+    windows: &mut Windows,
     list: &mut Vec<Draft>,
 ) -> Result<(), Refusal>
-    requires windows { AreWindowsFor change.now windows.now }
+    requires windows { AreWindowsFor change.now windows.old }
     requires two { AreTwo change.now }
     requires drafts { AreDraftsIn change.now groups.now list.old.items }
+    ensures windows { OnOk result (AreWindowsFor change.now windows.new) }
     ensures drafts { OnOk result (AreDraftsIn change.now groups.now list.new.items) }
     ensures own { OnOk result (AreDraftsOf change.now list.old.items → AreDraftsOf change.now list.new.items) }
     ensures grows { OnOk result ((d : AnyDraft) → In d list.old.items → In d list.new.items) }
@@ -198,7 +242,7 @@ fn add(
     let Some(group) = groups.get(&slot) else {
         return Ok(());
     };
-    if let Some(draft) = drafted(alloc, slot, group, change, windows)? {
+    if let Some(draft) = draft_of(alloc, slot, group, change, windows)? {
         list.push(draft)?;
     }
     Ok(())
@@ -211,29 +255,34 @@ fn add_place(
     groups: &SharedMap<u64, Group>,
     place: usize,
     change: &Change,
-    windows: &Windows,
     drafts: &mut Drafts,
 ) -> Result<(), Refusal>
-    requires windows { AreWindowsFor change.now windows.now }
+    requires windows { AreWindowsFor change.now drafts.old.windows }
     requires two { AreTwo change.now }
     requires drafts { AreDraftsIn change.now groups.now drafts.old.list.items }
     requires known { AreSeen change.now groups.now drafts.old.list.items drafts.old.seen }
+    ensures windows { OnOk result (AreWindowsFor change.now drafts.new.windows) }
     ensures drafts { OnOk result (AreDraftsIn change.now groups.now drafts.new.list.items) }
     ensures own { OnOk result (AreDraftsOf change.now drafts.old.list.items → AreDraftsOf change.now drafts.new.list.items) }
     ensures known { OnOk result (AreSeen change.now groups.now drafts.new.list.items drafts.new.seen) }
     ensures grows { OnOk result ((d : AnyDraft) → In d drafts.old.list.items → In d drafts.new.list.items) }
     ensures seen { OnOk result ((slot : ℕ) → slice_get seats.now place ≡ Some slot → IsSeen change.now groups.now drafts.new.list.items slot) }
     ensures least { OnOk result ((indexes : AllIndexes) → most_drafted indexes drafts.new.list.items ≤ most_drafted indexes drafts.old.list.items + asked_at (most_shifted change.now indexes) seats.now groups.now place) }
+    ensures tally { OnOk result ((places more : List ℕ) → HasSeen drafts.old.seen drafts.old.tally → IsTallied places (place ∷ more) seats.now drafts.old.tally → IsTallied places more seats.now drafts.new.tally) }
+    ensures slots { OnOk result (HasSeen drafts.old.seen drafts.old.tally → HasSeen drafts.new.seen drafts.new.tally) }
     ensures refusal { OnlyNoMemory result }
 {
     let Some(slot) = seats.slot(place) else {
+        drafts.tally.left = None;
         return Ok(());
     };
     if let Some(_known) = drafts.seen.get(&slot) {
         return Ok(());
     }
-    add(alloc, groups, slot, change, windows, &mut drafts.list)?;
+    let Drafts { list, windows, .. } = drafts;
+    add(alloc, groups, slot, change, windows, list)?;
     drafts.seen = drafts.seen.put(alloc, slot, slot)?;
+    drafts.tally.add(seats, slot)?;
     Ok(())
 }
 
@@ -245,24 +294,27 @@ pub(crate) fn drafts_of(
     groups: &SharedMap<u64, Group>,
     places: &[usize],
     change: &Change,
-    windows: &Windows,
-) -> Result<Vec<Draft>, Refusal>
-    requires windows { AreWindowsFor change.now windows.now }
+) -> Result<Drafted, Refusal>
     requires two { AreTwo change.now }
-    ensures drafts { IfOk result (λ list. AreDraftsIn change.now groups.now list.items) }
-    ensures own { IfOk result (λ list. AreDraftsOf change.now list.items) }
-    ensures seen { IfOk result (λ list. (place slot : ℕ) → is_among places.now place ≡ true → slice_get seats.now place ≡ Some slot → IsSeen change.now groups.now list.items slot) }
-    ensures least { IfOk result (λ list. (indexes : AllIndexes) → most_drafted indexes list.items ≤ sum_by (asked_at (most_shifted change.now indexes) seats.now groups.now) places.now) }
+    ensures drafts { IfOk result (λ drafted. AreDraftsIn change.now groups.now drafted.list.items) }
+    ensures own { IfOk result (λ drafted. AreDraftsOf change.now drafted.list.items) }
+    ensures seen { IfOk result (λ drafted. (place slot : ℕ) → is_among places.now place ≡ true → slice_get seats.now place ≡ Some slot → IsSeen change.now groups.now drafted.list.items slot) }
+    ensures least { IfOk result (λ drafted. (indexes : AllIndexes) → most_drafted indexes drafted.list.items ≤ sum_by (asked_at (most_shifted change.now indexes) seats.now groups.now) places.now) }
+    ensures all { IfOk result (λ drafted. IfSome drafted.slots (λ slots. AreAllOf seats.now places.now slots.items)) }
     ensures refusal { OnlyNoMemory result }
 {
     let mut drafts = Drafts {
         list: Vec::new(alloc),
         seen: SharedMap::new(),
+        tally: Tally::new(alloc, places.len()),
+        windows: Windows::none(),
     };
     let mut rest = places;
     'rest: while let Some((place, more)) = rest.split_first() {
-        add_place(alloc, seats, groups, *place, change, windows, &mut drafts)?;
+        add_place(alloc, seats, groups, *place, change, &mut drafts)?;
         rest = more;
     }
-    Ok(drafts.list)
+    let Drafts { list, tally, .. } = drafts;
+    let slots = tally.all(seats, places);
+    Ok(Drafted { list, slots })
 }

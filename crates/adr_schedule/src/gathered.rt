@@ -9,7 +9,7 @@ ghost use Rattle.adr_schedule.specs.Slots.{in_slot, AreSeated};
 use crate::schedule::Schedule;
 use adr_group::Group;
 use adr_seats::Seats;
-use adr_shared::SharedMap;
+use adr_shared::{Shared, SharedMap};
 use adr_value::Refusal;
 use std::alloc::Global;
 
@@ -59,7 +59,7 @@ impl Schedule {
             rest = more;
         }
         Ok(Schedule {
-            seats,
+            seats: Shared::new(alloc, seats)?,
             groups: kept,
         })
     }

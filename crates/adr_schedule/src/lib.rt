@@ -3,6 +3,7 @@
 
 mod change;
 mod draft;
+mod exchange;
 mod gathered;
 mod laying;
 mod made;
@@ -10,6 +11,7 @@ mod moves;
 mod place;
 mod schedule;
 mod shift;
+mod tally;
 
 pub use change::{Change, Side};
 pub use schedule::Schedule;

@@ -21,7 +21,7 @@ use adr_group::{Done, Group, Job, Writes, repairs_compare_little};
 use adr_lines::Indexes;
 use adr_rule::Meter;
 use adr_seats::Seats;
-use adr_shared::SharedMap;
+use adr_shared::{Shared, SharedMap};
 use adr_stretch::TypeEntries;
 use adr_value::Refusal;
 use std::alloc::Global;
@@ -83,9 +83,10 @@ impl Schedule {
         ensures right { IfOk result (λ after. StaysRight self.now after) }
         ensures refusal { OnlyNoMemory result }
     {
-        let slot = self.seats.free_slot()?;
-        let mut seats = self.seats.copy()?;
+        let slot = self.seats.get().free_slot()?;
+        let mut seats = self.seats.get().copy()?;
         seats.push(slot)?;
+        let seats = Shared::new(alloc, seats)?;
         let groups = self.groups.put(alloc, slot, Group::new(alloc)?)?;
         Ok(Schedule { seats, groups })
     }
@@ -98,12 +99,13 @@ impl Schedule {
         ensures right { IfOk result (λ after. StaysRight self.now after) }
         ensures refusal { OnlyNoMemory result }
     {
-        let Some(slot) = self.seats.slot(place) else {
+        let Some(slot) = self.seats.get().slot(place) else {
             unreachable!();
         };
-        let mut seats = self.seats.copy()?;
+        let mut seats = self.seats.get().copy()?;
         seats.remove(place);
         let groups = without_unused(alloc, &self.groups, &seats, slot)?;
+        let seats = Shared::new(alloc, seats)?;
         Ok(Schedule { seats, groups })
     }
 
@@ -121,8 +123,9 @@ impl Schedule {
         ensures placed { IfOk result (λ after. (g : Lines) → in_slot groups next ≡ Some g → IsPlaced place g self.now after) }
         ensures refusal { OnlyNoMemory result }
     {
-        let mut seats = self.seats.copy()?;
+        let mut seats = self.seats.get().copy()?;
         let moves = sit(alloc, &mut seats, Moves::new(groups), place, slot, next)?;
+        let seats = Shared::new(alloc, seats)?;
         let groups = moves.values.copy()?;
         Ok(Schedule { seats, groups })
     }
@@ -150,7 +153,7 @@ impl Schedule {
         ensures placed { IfOk result (λ after. IsPlaced place group self.now after) }
         ensures refusal { OnlyNoMemory result }
     {
-        let next = self.seats.free_slot()?;
+        let next = self.seats.get().free_slot()?;
         let groups = self.groups.put(alloc, next, group)?;
         self.seated(alloc, groups, place, slot, next)
     }
@@ -159,7 +162,7 @@ impl Schedule {
     fn slot_with(&self, place: Option<usize>, writes: &Writes) -> Option<u64>
         ensures { IfSome result (IsSlotWith self.now writes.now) }
     {
-        let slot = self.seats.slot(place?)?;
+        let slot = self.seats.get().slot(place?)?;
         match self.groups.get(&slot) {
             Some(group) if group.writes().same(writes) => Some(slot),
             _ => None,
@@ -182,7 +185,7 @@ impl Schedule {
         ensures right { IfOk result (λ after. IfSome after (StaysRight self.now)) }
         ensures refusal { OnlyNoMemory result }
     {
-        let Some(slot) = self.seats.slot(place) else {
+        let Some(slot) = self.seats.get().slot(place) else {
             unreachable!();
         };
         let Some(group) = self.groups.get(&slot) else {
@@ -223,7 +226,7 @@ impl Schedule {
         ensures least { meter.new ≤ meter.old + most_repaired windows.now writes.now indexes.now }
         ensures refusal { OnlyNoMemory result }
     {
-        let Some(slot) = self.seats.slot(place) else {
+        let Some(slot) = self.seats.get().slot(place) else {
             unreachable!();
         };
         let Some(group) = self.groups.get(&slot) else {

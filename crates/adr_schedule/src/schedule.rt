@@ -8,7 +8,7 @@ ghost use Rattle.adr_schedule.specs.Seating.{group_at};
 
 use adr_group::Group;
 use adr_seats::Seats;
-use adr_shared::SharedMap;
+use adr_shared::{Shared, SharedMap};
 use adr_value::Refusal;
 use std::alloc::Global;
 use std::marker::Model;
@@ -18,7 +18,7 @@ use std::marker::Model;
 ///
 /// Nothing changes a schedule: an edit answers a new one, which shares with the old one the groups that it doesn't touch.
 pub struct Schedule {
-    pub(crate) seats: Seats,
+    pub(crate) seats: Shared<Seats>,
     pub(crate) groups: SharedMap<u64, Group>,
 }
 
@@ -43,22 +43,21 @@ impl Model for Schedule {
 }
 
 impl Schedule {
-    /// The schedule of no resources.
-    pub fn new(alloc: Global) -> Schedule
-        ensures seats { result.seats ≡ [] }
-        ensures groups { result.groups ≡ [] }
+    /// The schedule of no resources. `NoMemory` where there is no room for it.
+    pub fn new(alloc: Global) -> Result<Schedule, Refusal>
+        ensures { IsCopyOf result (record { seats = []; groups = [] }) }
     {
-        Schedule {
-            seats: Seats::new(alloc),
+        Ok(Schedule {
+            seats: Shared::new(alloc, Seats::new(alloc))?,
             groups: SharedMap::new(),
-        }
+        })
     }
 
     /// How many resources there are.
     pub fn len(&self) -> usize
         ensures { result ≡ length self.now.seats }
     {
-        self.seats.len()
+        self.seats.get().len()
     }
 
     /// The group of the resource at the place. Cost: a look-up in a table and one in a tree of the groups.
@@ -66,11 +65,11 @@ impl Schedule {
         ensures value { option_copied result ≡ group_at self.now place }
         ensures there { place < length self.now.seats → (g : Lines) × (group_at self.now place ≡ Some g) }
     {
-        let slot = self.seats.slot(place)?;
+        let slot = self.seats.get().slot(place)?;
         self.groups.get(&slot)
     }
 
-    /// The same schedule, which shares its groups. Cost: the table of seats, four bytes a resource and 16 a group.
+    /// The same schedule, which shares its seats and its groups, whatever their number.
     pub fn copy(&self) -> Result<Schedule, Refusal>
         ensures { IsCopyOf result self.now }
     {

@@ -1,5 +1,5 @@
 //! An event goes and another comes, for some places: first what becomes of their groups is made, then the places move.
-ghost use Rattle.std.specs.Prelude.{◌≡◌, ◌<◌, ◌≤◌, ◌+◌, ◌*◌, ◌^◌, ◌∷◌, [], ℕ, List, false, Some, None, length, slice_get, sum_by, IfOk, OnOk};
+ghost use Rattle.std.specs.Prelude.{◌≡◌, ◌<◌, ◌≤◌, ◌+◌, ◌*◌, ◌^◌, ◌∷◌, [], ℕ, List, false, Some, None, length, slice_get, sum_by, true, IfOk, IfSome, OnOk};
 ghost use Rattle.std.specs.Option.{option_copied, option_map};
 ghost use Rattle.adr_value.specs.Answer.{OnlyNoMemory};
 ghost use Rattle.adr_group.specs.Group.{Lines};
@@ -10,13 +10,15 @@ ghost use Rattle.adr_schedule.specs.Shift.{most_at, most_possible, number_in, si
 ghost use Rattle.adr_shared.specs.Map.{put};
 ghost use Rattle.adr_schedule.specs.Slots.{in_slot, is_taken, AreSeated};
 ghost use Rattle.adr_schedule.specs.Seating.{AreRight, IsShifted};
+ghost use Rattle.adr_schedule.specs.Tally.{AreAllOf};
 ghost use Rattle.adr_model.specs.declared.entry.Tie.{Tie};
 ghost use Rattle.adr_model.specs.declared.written.Written.{Written};
 ghost use Rattle.adr_lines.specs.declared.indexes.Indexes.{Indexes as AllIndexes};
 ghost use Rattle.adr_lines.specs.Exchange.{IsIndexOf};
 
 use crate::change::Change;
-use crate::draft::{drafts_of, windows_of};
+use crate::draft::{Drafted, drafts_of};
+use crate::exchange::exchanged;
 use crate::laying::{Laid, laid_over};
 use crate::made::made_by;
 use crate::moves::{Moves, sit};
@@ -25,7 +27,7 @@ use adr_group::{Done, Group, Job};
 use adr_lines::Indexes;
 use adr_rule::Meter;
 use adr_seats::Seats;
-use adr_shared::SharedMap;
+use adr_shared::{Shared, SharedMap};
 use adr_timeline::Ranks;
 use adr_value::Refusal;
 use std::alloc::Global;
@@ -136,6 +138,13 @@ fn move_all(
     Ok(moves)
 }
 
+/// What becomes of groups, each in its slot, and the slots of the places, where these are all that have one of them.
+#[derive(Drop)]
+struct Remade {
+    groups: SharedMap<u64, Group>,
+    slots: Option<Vec<u64>>,
+}
+
 impl Schedule {
     /// What becomes of the groups of the places that the change touches, each in its slot: the event that comes is laid
     /// over those to which it only comes, and the crew does the jobs of the others.
@@ -148,35 +157,54 @@ impl Schedule {
         change: &Change,
         ranks: Option<&R>,
         meter: &mut Meter,
-    ) -> Result<SharedMap<u64, Group>, Refusal>
+    ) -> Result<Remade, Refusal>
         requires two { AreTwo change.now }
         requires laid { IsLaidBy (option_map R.rank (option_copied ranks)) indexes.now change.now }
         requires crew { IsCrew (λ v. v.items) (C.pre crew.now) (C.post crew.now) }
         requires room { meter.old + length places.now * most_possible (sides_of change.now) indexes.now < 2 ^ 128 }
-        ensures made { IfOk result (AreMadeFor (Becomes change.now indexes.now) places.now self.now.seats self.now.groups) }
+        ensures made { IfOk result (λ made. AreMadeFor (Becomes change.now indexes.now) places.now self.now.seats self.now.groups made.groups) }
+        ensures all { IfOk result (λ made. IfSome made.slots (λ slots. AreAllOf self.now.seats places.now slots.items)) }
         ensures compared { meter.new ≤ meter.old + length places.now * most_possible (sides_of change.now) indexes.now }
         ensures least { OnOk result (meter.new ≤ meter.old + sum_by (most_at change.now indexes.now self.now) places.now) }
         ensures refusal { OnlyNoMemory result }
     {
-        let windows = windows_of(alloc, change)?;
-        let drafts = drafts_of(alloc, &self.seats, &self.groups, places, change, &windows)?;
-        let laid = laid_over(alloc, change, ranks, drafts, meter)?;
+        let drafted = drafts_of(alloc, self.seats.get(), &self.groups, places, change)?;
+        let Drafted { list, slots } = drafted;
+        let laid = laid_over(alloc, change, ranks, list, meter)?;
         let Laid { made, left } = laid;
-        let made = made_by(alloc, indexes, crew, made, left.as_slice(), meter)?;
-        Ok(made)
+        let groups = made_by(alloc, indexes, crew, made, left.as_slice(), meter)?;
+        Ok(Remade { groups, slots })
+    }
+
+    /// The same seats with what was made for these slots in them.
+    fn exchanged(
+        &self,
+        alloc: Global,
+        slots: &[u64],
+        made: &SharedMap<u64, Group>,
+    ) -> Result<Schedule, Refusal>
+        requires taken { (slot : ℕ) → is_among slots.now slot ≡ true → is_taken self.now.seats slot ≡ true }
+        ensures shifted { IfOk result (λ after. (change : AnyChange) (indexes : AllIndexes) (places : List ℕ) → AreAllOf self.now.seats places slots.now → AreMadeFor (Becomes change indexes) places self.now.seats self.now.groups made.now → IsShifted (number_in change.gone) (number_in change.come) places self.now after) }
+        ensures right { IfOk result (λ after. (change : AnyChange) (indexes : AllIndexes) (places : List ℕ) → AreAllOf self.now.seats places slots.now → AreMadeFor (Becomes change indexes) places self.now.seats self.now.groups made.now → (tie : Tie) (events : List Written) → IsIndexOf tie events indexes → AreSidesOf tie events change → AreRight tie events self.now → AreRight tie events after) }
+        ensures refusal { OnlyNoMemory result }
+    {
+        let groups = exchanged(alloc, &self.groups, slots, made)?;
+        let seats = self.seats.copy()?;
+        Ok(Schedule { seats, groups })
     }
 
     /// The schedule after an event goes and another comes for the resources at these places: where the one was among
     /// the writes of a place's group it is not any more, and where the other was not it is.
     ///
-    /// Members of one group among the places stay together, and each group is made once. Where there are ranks, the event
-    /// that comes is laid over the timelines of the groups that only gain it, which needs no look at the indexes.
-    /// The crew repairs the other groups, and those over which the entries cannot be laid, inside the entries of the
-    /// events, one job a payload type.
+    /// Members of one group among the places stay together, and each group is made once: in its slot where all its members
+    /// are among the places, and so those of all others; else in a slot of its own, to which they move. Where there are
+    /// ranks, the event that comes is laid over the timelines of the groups that only gain it, which needs no look at the
+    /// index. The crew repairs the other groups, and those over which the entries cannot be laid, inside the entries of
+    /// the events, one job a payload type.
     ///
-    /// Cost: for each place a few look-ups; for each group that is laid and each type of the event a search of the
-    /// timeline for each entry, a rank for each segment that is met, and one splice; and that of the jobs of the others.
-    /// `NoMemory` where there is no room.
+    /// Cost: for each place a look-up; where places move, some more, and a copy of the table of seats; for each group that
+    /// is laid and each type of the event a search of the timeline for each entry, a rank for each segment that is met,
+    /// and one splice; and that of the jobs of the others. `NoMemory` where there is no room.
     pub fn shifted<C: Fn(&Indexes, &[Job]) -> Result<Vec<Done>, Refusal>, R: Ranks>(
         &self,
         alloc: Global,
@@ -197,10 +225,19 @@ impl Schedule {
         ensures least { OnOk result (meter.new ≤ meter.old + sum_by (most_at change.now indexes.now self.now) places.now) }
         ensures refusal { OnlyNoMemory result }
     {
-        let made = self.made_for(alloc, indexes, crew, places, change, ranks, meter)?;
-        let mut seats = self.seats.copy()?;
+        let remade = self.made_for(alloc, indexes, crew, places, change, ranks, meter)?;
+        let Remade {
+            groups: made,
+            slots,
+        } = remade;
+        if let Some(slots) = slots {
+            let after = self.exchanged(alloc, slots.as_slice(), &made)?;
+            return Ok(after);
+        }
+        let mut seats = self.seats.get().copy()?;
         let groups = self.groups.copy()?;
         let moves = move_all(alloc, &mut seats, groups, places, &made)?;
+        let seats = Shared::new(alloc, seats)?;
         let groups = moves.values.copy()?;
         Ok(Schedule { seats, groups })
     }

@@ -69,7 +69,7 @@ impl Snapshot {
         ensures closed { IfOk result (λ snapshot. snapshot.book.closed ≡ []) }
         ensures refusal { OnlyNoMemory result }
     {
-        let schedule = Shared::new(alloc, Schedule::new(alloc))?;
+        let schedule = Shared::new(alloc, Schedule::new(alloc)?)?;
         Ok(Snapshot {
             number: 0,
             resolution: Resolution::of(tie, Book::new(alloc), schedule),

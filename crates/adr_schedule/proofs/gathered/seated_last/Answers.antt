@@ -1,4 +1,4 @@
-use Rattle.std.proofs.Common.{◌∷◌, ◌++◌, [], ap, sym, ◌∙◌}
+use Rattle.std.proofs.Common.{sym, ◌∙◌}
 use Rattle.adr_schedule.proofs.Filled.{more_seated, more_groups, same_seated}
 use Rattle.adr_schedule.proofs.gathered.seated_last.Goals as goal
 

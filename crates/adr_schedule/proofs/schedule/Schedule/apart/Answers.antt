@@ -1,7 +1,8 @@
-use Rattle.std.proofs.Common.{subst}
+use Rattle.std.proofs.Common.{◌≡◌, false, subst}
 use Rattle.std.proofs.lemmas.Result.{IfOk-weaker}
 use Rattle.adr_schedule.specs.Place.{HasValue}
 use Rattle.adr_schedule.specs.Seating.{Seating}
+use Rattle.adr_schedule.specs.Slots.{is_taken}
 use Rattle.adr_schedule.proofs.Places.{put_value, put_there}
 use Rattle.adr_schedule.proofs.schedule.Schedule.apart.Goals as goal
 
@@ -9,7 +10,7 @@ pub seated-requires-clause-value : goal.seated-requires-clause-value
 seated-requires-clause-value c =
     let s = c.self.inside in
     subst (λ (x : Seating). HasValue x.seats c.in_ok-next.next x.groups c.in_ok-groups.groups) c.self.view_is
-    (put_value s.seats s.groups c.in_ok-groups.groups c.in_ok-next.next c.args.group c.self.invariant c.in_ok-next.ensures.free c.in_ok-groups.ensures)
+    (put_value s.seats s.groups c.in_ok-groups.groups c.in_ok-next.next c.args.group c.self.invariant (subst (λ xs. is_taken xs c.in_ok-next.next ≡ false) c.get.ensures c.in_ok-next.ensures.free) c.in_ok-groups.ensures)
 
 pub returns-clause-placed : goal.returns-clause-placed
 returns-clause-placed c =

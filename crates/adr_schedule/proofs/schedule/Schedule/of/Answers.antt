@@ -1,5 +1,5 @@
-use Rattle.std.proofs.Common.{◌≡◌, ◌<◌, ◌++◌, ℕ, length, ap, sym, ◌∙◌, append-nil, arith, ltb-false}
-use Rattle.adr_schedule.proofs.Filled.{fewer_left, first_within, gathered_groups, item_there, item_within, none_in, none_seated, turn_groups, turn_seats, turn_within}
+use Rattle.std.proofs.Common.{length}
+use Rattle.adr_schedule.proofs.Filled.{fewer_left, first_within, item_there, item_within, turn_groups, turn_seats, turn_within}
 use Rattle.adr_schedule.proofs.schedule.Schedule.of.Goals as goal
 
 pub unreachable-requires : goal.unreachable-requires
