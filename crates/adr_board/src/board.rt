@@ -12,6 +12,7 @@ ghost use Rattle.adr_model.specs.Edits.{full_at, made as made_book, step_to};
 ghost use Rattle.adr_model.specs.Machine.{Publication, opening};
 ghost use Rattle.adr_model.specs.Touches.{touches};
 ghost use Rattle.adr_book.specs.Ledger.{sealed_of};
+ghost use Rattle.adr_regroup.specs.Compared.{most_compared_in};
 ghost use Rattle.adr_snapshot.specs.Published.{PublishedBook};
 ghost use Rattle.adr_snapshot.specs.Types.{ArePrivate, edit_names, HasPrivateNames};
 ghost use Rattle.adr_diary.specs.History.{HasLast, begun, published_by, seen_by};
@@ -56,7 +57,6 @@ pub struct Told<J: Naming> {
 impl<J: Naming> Model for Told<J> {
     ghost use Rattle.std.specs.Prelude.{◌≡◌, List};
     ghost use Rattle.adr_model.specs.Machine.{Publication};
-    ghost use Rattle.adr_book.specs.Ledger.{sealed_of};
     ghost use Rattle.adr_diary.specs.History.{HasLast, published_by};
 
     ghost Value = { List Publication };
@@ -372,7 +372,6 @@ impl<J: Naming> Model for Editor<J> {
     ghost use Rattle.std.specs.Arc.{arc_value};
     ghost use Rattle.left_right.specs.Sides.{view as known};
     ghost use Rattle.adr_book.specs.Ledger.{sealed_of};
-    ghost use Rattle.adr_book.specs.Ledger.{sealed_of};
     ghost use Rattle.adr_diary.specs.History.{HasLast, published_by};
     ghost use Rattle.adr_snapshot.specs.Types.{HasPrivateNames};
     ghost use Rattle.adr_board.specs.Rules.{IsLast, showing};
@@ -393,6 +392,7 @@ impl<J: Naming> Editor<J> {
         ensures closed { self.new.book.closed ≡ self.old.book.closed }
         ensures version { IfOk result (λ receipt. receipt.version ≡ self.new.book.objects.version) }
         ensures touched { IfOk result (λ receipt. receipt.touched ≡ touches self.old.book.objects self.new.book.objects) }
+        ensures compares { IfOk result (λ receipt. receipt.compares ≤ most_compared_in self.new.book.objects receipt.touched) }
         ensures published { self.new.published ≡ self.old.published }
         ensures unchanged { OnErr result (self.new ≡ self.old) }
     {
@@ -418,6 +418,7 @@ impl<J: Naming> Editor<J> {
         ensures closed { self.new.book.closed ≡ self.old.book.closed }
         ensures version { IfOk result (λ receipt. receipt.version ≡ self.new.book.objects.version) }
         ensures touched { IfOk result (λ receipt. receipt.touched ≡ touches self.old.book.objects self.new.book.objects) }
+        ensures compares { IfOk result (λ receipt. receipt.compares ≤ most_compared_in self.new.book.objects receipt.touched) }
         ensures published { self.new.published ≡ self.old.published }
         ensures unchanged { OnErr result (self.new ≡ self.old) }
     {
@@ -484,7 +485,11 @@ impl<J: Naming> Editor<J> {
                 return Err(refusal);
             }
         };
-        let Prepared { sealed, shown, last } = prepared;
+        let Prepared {
+            sealed,
+            shown,
+            last,
+        } = prepared;
         let shown = Shown::of(shown, place, &attempt.page);
         match show_next(&mut self.writer, rt, shown) {
             Ok(()) => {

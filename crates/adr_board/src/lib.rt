@@ -9,6 +9,7 @@ mod shown;
 
 pub use adr_desk::{Desk, Receipt};
 pub use adr_gate::{Gate, NoGate};
+pub use adr_snapshot::Snapshot;
 pub use board::{Board, Editor, NewBoard, Published, Reader, Told};
 pub use rule::Naming;
 pub use run::replay;
