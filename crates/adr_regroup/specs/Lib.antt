@@ -1,3 +1,4 @@
 pub mod Compared
+pub mod Edited
 pub mod Party
 pub mod Program

@@ -2,6 +2,8 @@
 //! What an edit of a program, of a ven or of a resource does to the groups of timelines: events come to apply to other
 //! resources, and groups are repaired there alone.
 
+mod basis;
+mod edited;
 mod parties;
 mod party;
 mod places;
@@ -9,6 +11,7 @@ mod program;
 mod reseat;
 mod writes;
 
+pub use edited::Edited;
 pub use parties::{after_resource, after_ven};
 pub use program::after_program;
 pub use writes::writes_of;

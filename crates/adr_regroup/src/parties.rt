@@ -1,65 +1,59 @@
 //! What an edit of a ven or of a resource does to the schedule.
-ghost use Rattle.std.specs.Prelude.{◌≡◌, ◌≤◌, ◌<◌, ◌∷◌, [], ℕ, true, Ok, length, is_some, slice_get, IfOk, OnOk};
+ghost use Rattle.std.specs.Prelude.{◌≡◌, ◌≤◌, ◌<◌, ◌∷◌, [], ℕ, true, length, is_some, slice_get, IfOk, OnOk};
 ghost use Rattle.adr_value.specs.Answer.{OnlyNoMemory};
 ghost use Rattle.adr_model.specs.Book.{resource_by};
-ghost use Rattle.adr_model.specs.Edits.{step};
 ghost use Rattle.adr_model.specs.Touches.{touches};
-ghost use Rattle.adr_audience.specs.Keys.{AreKeysOf};
 ghost use Rattle.adr_group.specs.Jobs.{IsCrew};
-ghost use Rattle.adr_lines.specs.Exchange.{IsIndexOf};
 ghost use Rattle.adr_schedule.specs.Place.{LacksPlace, StaysRight};
 ghost use Rattle.adr_schedule.specs.Seating.{AreSeatedFor};
 ghost use Rattle.adr_regroup.specs.Compared.{most_compared_in, most_reseated_at};
+ghost use Rattle.adr_regroup.specs.Edited.{IsEdited};
 ghost use Rattle.adr_regroup.specs.Party.{is_of_resource, is_of_ven, AreSeatedBut};
 
+use crate::basis::Basis;
+use crate::edited::Edited;
 use crate::places::places_for;
 use crate::reseat::reseated_all;
-use adr_audience::Audiences;
 use adr_book::Book;
 use adr_group::{Done, Job};
 use adr_lines::Indexes;
-use adr_model::Tie;
 use adr_object::{Edit, Id};
 use adr_rule::Meter;
 use adr_schedule::Schedule;
 use adr_value::Refusal;
 use std::alloc::Global;
 
-/// The schedule after an edit of a ven, from the old book to the new one. One that comes or goes has no resources. One
-/// that changes may have other events apply to each of its resources: see `Schedule::rewritten`.
+/// The schedule after an edit of a ven. One that comes or goes has no resources. One that changes may have other events
+/// apply to each of its resources: see `Schedule::rewritten`.
 ///
-/// `keys` and `indexes` are those of the old book. Cost: where a ven changes a look at each resource, and for those of
-/// the ven a query of the keys and `Schedule::rewritten`. `NoMemory` where there is no room.
+/// Cost: where a ven changes a look at each resource, and for those of the ven a query of the keys and
+/// `Schedule::rewritten`. `NoMemory` where there is no room.
 pub fn after_ven<C: Fn(&Indexes, &[Job]) -> Result<Vec<Done>, Refusal>>(
     alloc: Global,
     crew: &C,
-    tie: Tie,
-    old: &Book,
-    new: &Book,
-    keys: &Audiences,
-    indexes: &Indexes,
-    schedule: &Schedule,
-    edit: &Edit,
+    edited: &Edited<'_>,
     meter: &mut Meter,
 ) -> Result<Schedule, Refusal>
     requires crew { IsCrew (λ v. v.items) (C.pre crew.now) (C.post crew.now) }
-    requires ven { is_of_ven edit.now ≡ true }
-    requires accepted { step old.now.objects edit.now ≡ Ok new.now.objects }
-    requires keys { AreKeysOf old.now.objects keys.now }
-    requires indexed { IsIndexOf tie old.now.objects.events indexes.now }
-    requires seated { AreSeatedFor tie old.now.objects schedule.now }
+    requires ven { is_of_ven edited.now.edit.now ≡ true }
+    requires edited { IsEdited edited.now }
     requires begun { meter.old ≡ 0 }
-    ensures seated { IfOk result (AreSeatedFor tie new.now.objects) }
-    ensures least { OnOk result (meter.new ≤ most_compared_in new.now.objects (touches old.now.objects new.now.objects)) }
+    ensures seated { IfOk result (AreSeatedFor edited.now.tie edited.now.new.now.objects) }
+    ensures least { OnOk result (meter.new ≤ most_compared_in edited.now.new.now.objects (touches edited.now.old.now.objects edited.now.new.now.objects)) }
     ensures refusal { OnlyNoMemory result }
 {
-    old.book_laws();
-    new.book_laws();
-    let places = places_for(alloc, old, edit)?;
-    let same = schedule.copy()?;
-    let after = reseated_all(
-        alloc, crew, tie, old, new, keys, indexes, same, &places, meter,
-    )?;
+    edited.old.book_laws();
+    edited.new.book_laws();
+    let places = places_for(alloc, edited.old, edited.edit)?;
+    let same = edited.schedule.copy()?;
+    let basis = Basis {
+        tie: edited.tie,
+        old: edited.old,
+        new: edited.new,
+        keys: edited.keys,
+        indexes: edited.indexes,
+    };
+    let after = reseated_all(alloc, crew, &basis, same, &places, meter)?;
     Ok(after)
 }
 
@@ -67,33 +61,31 @@ pub fn after_ven<C: Fn(&Indexes, &[Job]) -> Result<Vec<Done>, Refusal>>(
 fn reseated_at<C: Fn(&Indexes, &[Job]) -> Result<Vec<Done>, Refusal>>(
     alloc: Global,
     crew: &C,
-    tie: Tie,
-    old: &Book,
-    new: &Book,
-    keys: &Audiences,
-    indexes: &Indexes,
+    edited: &Edited<'_>,
     schedule: Schedule,
-    edit: &Edit,
     place: usize,
     meter: &mut Meter,
 ) -> Result<Schedule, Refusal>
     requires crew { IsCrew (λ v. v.items) (C.pre crew.now) (C.post crew.now) }
-    requires resource { is_of_resource edit.now ≡ true }
-    requires accepted { step old.now.objects edit.now ≡ Ok new.now.objects }
-    requires keys { AreKeysOf old.now.objects keys.now }
-    requires indexed { IsIndexOf tie old.now.objects.events indexes.now }
-    requires place { place < length new.now.objects.resources }
-    requires seated { AreSeatedBut tie new.now.objects (place ∷ []) schedule }
+    requires resource { is_of_resource edited.now.edit.now ≡ true }
+    requires edited { IsEdited edited.now }
+    requires place { place < length edited.now.new.now.objects.resources }
+    requires seated { AreSeatedBut edited.now.tie edited.now.new.now.objects (place ∷ []) schedule }
     requires begun { meter.old ≡ 0 }
-    ensures seated { IfOk result (AreSeatedFor tie new.now.objects) }
-    ensures least { OnOk result (meter.new ≤ most_reseated_at new.now.objects schedule place) }
+    ensures seated { IfOk result (AreSeatedFor edited.now.tie edited.now.new.now.objects) }
+    ensures least { OnOk result (meter.new ≤ most_reseated_at edited.now.new.now.objects schedule place) }
     ensures refusal { OnlyNoMemory result }
 {
     let mut places = Vec::new(alloc);
     places.push(place)?;
-    let after = reseated_all(
-        alloc, crew, tie, old, new, keys, indexes, schedule, &places, meter,
-    )?;
+    let basis = Basis {
+        tie: edited.tie,
+        old: edited.old,
+        new: edited.new,
+        keys: edited.keys,
+        indexes: edited.indexes,
+    };
+    let after = reseated_all(alloc, crew, &basis, schedule, &places, meter)?;
     Ok(after)
 }
 
@@ -111,58 +103,43 @@ fn without(alloc: Global, old: &Book, schedule: &Schedule, id: &Id) -> Result<Sc
     Ok(after)
 }
 
-/// The schedule after an edit of a resource, from the old book to the new one: its place comes, goes, or gets the writes
-/// of the events that apply to it now.
+/// The schedule after an edit of a resource: its place comes, goes, or gets the writes of the events that apply to it now.
 ///
-/// `keys` and `indexes` are those of the old book. Cost: a query of the keys and `Schedule::rewritten`. `NoMemory`
-/// where there is no room.
+/// Cost: a query of the keys and `Schedule::rewritten`. `NoMemory` where there is no room.
 pub fn after_resource<C: Fn(&Indexes, &[Job]) -> Result<Vec<Done>, Refusal>>(
     alloc: Global,
     crew: &C,
-    tie: Tie,
-    old: &Book,
-    new: &Book,
-    keys: &Audiences,
-    indexes: &Indexes,
-    schedule: &Schedule,
-    edit: &Edit,
+    edited: &Edited<'_>,
     meter: &mut Meter,
 ) -> Result<Schedule, Refusal>
     requires crew { IsCrew (λ v. v.items) (C.pre crew.now) (C.post crew.now) }
-    requires resource { is_of_resource edit.now ≡ true }
-    requires accepted { step old.now.objects edit.now ≡ Ok new.now.objects }
-    requires keys { AreKeysOf old.now.objects keys.now }
-    requires indexed { IsIndexOf tie old.now.objects.events indexes.now }
-    requires seated { AreSeatedFor tie old.now.objects schedule.now }
+    requires resource { is_of_resource edited.now.edit.now ≡ true }
+    requires edited { IsEdited edited.now }
     requires begun { meter.old ≡ 0 }
-    ensures seated { IfOk result (AreSeatedFor tie new.now.objects) }
-    ensures least { OnOk result (meter.new ≤ most_compared_in new.now.objects (touches old.now.objects new.now.objects)) }
+    ensures seated { IfOk result (AreSeatedFor edited.now.tie edited.now.new.now.objects) }
+    ensures least { OnOk result (meter.new ≤ most_compared_in edited.now.new.now.objects (touches edited.now.old.now.objects edited.now.new.now.objects)) }
     ensures refusal { OnlyNoMemory result }
 {
-    old.book_laws();
-    new.book_laws();
-    schedule.schedule_laws();
-    match edit {
+    edited.old.book_laws();
+    edited.new.book_laws();
+    edited.schedule.schedule_laws();
+    match edited.edit {
         Edit::Create(_) => {
-            let more = schedule.with_place(alloc)?;
-            let place = schedule.len();
-            let after = reseated_at(
-                alloc, crew, tie, old, new, keys, indexes, more, edit, place, meter,
-            )?;
+            let more = edited.schedule.with_place(alloc)?;
+            let place = edited.schedule.len();
+            let after = reseated_at(alloc, crew, edited, more, place, meter)?;
             Ok(after)
         }
         Edit::Change(object) => {
-            let Some(place) = old.resource_place(object.id()) else {
+            let Some(place) = edited.old.resource_place(object.id()) else {
                 unreachable!();
             };
-            let same = schedule.copy()?;
-            let after = reseated_at(
-                alloc, crew, tie, old, new, keys, indexes, same, edit, place, meter,
-            )?;
+            let same = edited.schedule.copy()?;
+            let after = reseated_at(alloc, crew, edited, same, place, meter)?;
             Ok(after)
         }
         Edit::Remove(_, id) => {
-            let after = without(alloc, old, schedule, id)?;
+            let after = without(alloc, edited.old, edited.schedule, id)?;
             Ok(after)
         }
     }

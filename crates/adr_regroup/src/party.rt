@@ -16,6 +16,7 @@ ghost use Rattle.adr_model.specs.declared.written.Written.{Written};
 ghost use Rattle.adr_regroup.specs.Compared.{cost_but, cost_unless, IsMostFor};
 ghost use Rattle.adr_regroup.specs.Party.{entries_but, entries_unless, numbers_at as the_numbers_at, AreWritesWith, IsMostOf};
 
+use crate::basis::Basis;
 use adr_audience::Audiences;
 use adr_book::Book;
 use adr_group::{Done, Job, Writes};
@@ -129,35 +130,40 @@ fn difference(
     Ok(windows)
 }
 
-/// The schedule with these writes at the place, which shares the group of the place `like` where that has them.
+/// A place, and one whose group it may share.
+#[derive(Clone, Copy)]
+pub(crate) struct Spot {
+    pub(crate) place: usize,
+    pub(crate) like: Option<usize>,
+}
+
+/// The schedule with these writes at the place, which shares the other's group where that has them.
 pub(crate) fn with_writes<C: Fn(&Indexes, &[Job]) -> Result<Vec<Done>, Refusal>>(
     alloc: Global,
     crew: &C,
-    tie: Tie,
-    book: &Book,
-    indexes: &Indexes,
+    basis: &Basis<'_>,
     schedule: &Schedule,
-    place: usize,
-    like: Option<usize>,
+    spot: Spot,
     writes: &Writes,
     meter: &mut Meter,
 ) -> Result<Schedule, Refusal>
     requires crew { IsCrew (λ v. v.items) (C.pre crew.now) (C.post crew.now) }
-    requires within { place < length schedule.now.seats }
-    requires room { (most : ℕ) × IsMostOf tie book.now.objects.events indexes.now most × ((g : Lines) → group_at schedule.now place ≡ Some g → meter.old + (length g.writes + length writes.now) * most < 2 ^ 128) }
-    ensures writes { IfOk result (λ after. IsRewritten place writes.now schedule.now after) }
-    ensures right { IfOk result (λ after. IsIndexOf tie book.now.objects.events indexes.now → AreRight tie book.now.objects.events schedule.now → AreRight tie book.now.objects.events after) }
-    ensures compared { (g : Lines) (most : ℕ) → group_at schedule.now place ≡ Some g → IsMostOf tie book.now.objects.events indexes.now most → meter.new ≤ meter.old + (length g.writes + length writes.now) * most }
-    ensures least { (g : Lines) (cost : Written → ℕ) → group_at schedule.now place ≡ Some g → IsMostFor tie book.now.objects.events indexes.now writes.now cost → meter.new ≤ meter.old + (cost_but cost book.now.objects.events g.writes writes.now + cost_but cost book.now.objects.events writes.now g.writes) }
+    requires within { spot.place < length schedule.now.seats }
+    requires room { (most : ℕ) × IsMostOf basis.now.tie basis.now.new.now.objects.events basis.now.indexes.now most × ((g : Lines) → group_at schedule.now spot.place ≡ Some g → meter.old + (length g.writes + length writes.now) * most < 2 ^ 128) }
+    ensures writes { IfOk result (λ after. IsRewritten spot.place writes.now schedule.now after) }
+    ensures right { IfOk result (λ after. IsIndexOf basis.now.tie basis.now.new.now.objects.events basis.now.indexes.now → AreRight basis.now.tie basis.now.new.now.objects.events schedule.now → AreRight basis.now.tie basis.now.new.now.objects.events after) }
+    ensures compared { (g : Lines) (most : ℕ) → group_at schedule.now spot.place ≡ Some g → IsMostOf basis.now.tie basis.now.new.now.objects.events basis.now.indexes.now most → meter.new ≤ meter.old + (length g.writes + length writes.now) * most }
+    ensures least { (g : Lines) (cost : Written → ℕ) → group_at schedule.now spot.place ≡ Some g → IsMostFor basis.now.tie basis.now.new.now.objects.events basis.now.indexes.now writes.now cost → meter.new ≤ meter.old + (cost_but cost basis.now.new.now.objects.events g.writes writes.now + cost_but cost basis.now.new.now.objects.events writes.now g.writes) }
     ensures refusal { OnlyNoMemory result }
 {
     schedule.schedule_laws();
-    if let Some(after) = schedule.shared(alloc, place, like, writes)? {
+    let place = spot.place;
+    if let Some(after) = schedule.shared(alloc, place, spot.like, writes)? {
         return Ok(after);
     }
     let Some(group) = schedule.group(place) else {
         unreachable!();
     };
-    let windows = difference(alloc, tie, book, group.writes(), writes)?;
-    schedule.rewritten(alloc, indexes, crew, place, writes, &windows, meter)
+    let windows = difference(alloc, basis.tie, basis.new, group.writes(), writes)?;
+    schedule.rewritten(alloc, basis.indexes, crew, place, writes, &windows, meter)
 }

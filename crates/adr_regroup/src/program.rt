@@ -1,9 +1,8 @@
 //! What an edit of a program does to the schedule.
-ghost use Rattle.std.specs.Prelude.{◌≡◌, ◌<◌, ◌≤◌, ◌+◌, [], ℕ, Some, Ok, not, true, filter, is_some, length, sum_by, IfOk, OnOk};
+ghost use Rattle.std.specs.Prelude.{◌≡◌, ◌<◌, ◌≤◌, ◌+◌, [], ℕ, Some, not, true, filter, is_some, length, sum_by, IfOk, OnOk};
 ghost use Rattle.std.specs.List.Sorted.{IsStrictlyIncreasing};
 ghost use Rattle.adr_value.specs.Answer.{OnlyNoMemory};
 ghost use Rattle.adr_model.specs.Book.{program_by};
-ghost use Rattle.adr_model.specs.Edits.{step};
 ghost use Rattle.adr_model.specs.Touches.{touches};
 ghost use Rattle.adr_object.specs.declared.object.Edit.TheVariants.{Change as change_to};
 ghost use Rattle.adr_audience.specs.Keys.{AreKeysOf};
@@ -13,15 +12,17 @@ ghost use Rattle.adr_lines.specs.Exchange.{IsIndexOf};
 ghost use Rattle.adr_schedule.specs.Moves.{is_among};
 ghost use Rattle.adr_schedule.specs.Seating.{AreSeatedFor};
 ghost use Rattle.adr_regroup.specs.Compared.{most_compared_in, most_reseated_at};
+ghost use Rattle.adr_regroup.specs.Edited.{IsEdited};
 ghost use Rattle.adr_regroup.specs.Party.{AreSeatedBut};
 ghost use Rattle.adr_regroup.specs.Program.{is_of_program, is_program, with_program, AreMarked, AreThoseMarked, IsMarking};
 
+use crate::basis::Basis;
+use crate::edited::Edited;
 use crate::reseat::reseated_all;
 use adr_audience::Audiences;
 use adr_book::Book;
 use adr_group::{Done, Job};
 use adr_lines::Indexes;
-use adr_model::Tie;
 use adr_object::{Edit, Event, Kind, Object, Program};
 use adr_rule::Meter;
 use adr_schedule::Schedule;
@@ -188,32 +189,34 @@ fn marked(alloc: Global, marks: &[bool]) -> Result<Vec<usize>, Refusal>
 fn reseated<C: Fn(&Indexes, &[Job]) -> Result<Vec<Done>, Refusal>>(
     alloc: Global,
     crew: &C,
-    tie: Tie,
-    new: &Book,
-    indexes: &Indexes,
-    schedule: &Schedule,
+    edited: &Edited<'_>,
     places: &[usize],
     meter: &mut Meter,
 ) -> Result<Schedule, Refusal>
     requires crew { IsCrew (λ v. v.items) (C.pre crew.now) (C.post crew.now) }
-    requires places { (p : ℕ) → is_among places.now p ≡ true → p < length new.now.objects.resources }
-    requires few { length places.now ≤ length new.now.objects.resources }
-    requires indexed { IsIndexOf tie new.now.objects.events indexes.now }
-    requires seated { AreSeatedBut tie new.now.objects places.now schedule.now }
+    requires places { (p : ℕ) → is_among places.now p ≡ true → p < length edited.now.new.now.objects.resources }
+    requires few { length places.now ≤ length edited.now.new.now.objects.resources }
+    requires indexed { IsIndexOf edited.now.tie edited.now.new.now.objects.events edited.now.indexes.now }
+    requires seated { AreSeatedBut edited.now.tie edited.now.new.now.objects places.now edited.now.schedule.now }
     requires begun { meter.old ≡ 0 }
-    ensures seated { IfOk result (AreSeatedFor tie new.now.objects) }
-    ensures least { OnOk result (meter.new ≤ sum_by (most_reseated_at new.now.objects schedule.now) places.now) }
+    ensures seated { IfOk result (AreSeatedFor edited.now.tie edited.now.new.now.objects) }
+    ensures least { OnOk result (meter.new ≤ sum_by (most_reseated_at edited.now.new.now.objects edited.now.schedule.now) places.now) }
     ensures refusal { OnlyNoMemory result }
 {
-    new.book_laws();
-    let same = schedule.copy()?;
+    edited.new.book_laws();
+    let same = edited.schedule.copy()?;
     if places.is_empty() {
         return Ok(same);
     }
-    let keys = Audiences::of(alloc, new.objects())?;
-    let after = reseated_all(
-        alloc, crew, tie, new, new, &keys, indexes, same, places, meter,
-    )?;
+    let keys = Audiences::of(alloc, edited.new.objects())?;
+    let basis = Basis {
+        tie: edited.tie,
+        old: edited.new,
+        new: edited.new,
+        keys: &keys,
+        indexes: edited.indexes,
+    };
+    let after = reseated_all(alloc, crew, &basis, same, places, meter)?;
     Ok(after)
 }
 
@@ -221,43 +224,27 @@ fn reseated<C: Fn(&Indexes, &[Job]) -> Result<Vec<Done>, Refusal>>(
 fn after_change<C: Fn(&Indexes, &[Job]) -> Result<Vec<Done>, Refusal>>(
     alloc: Global,
     crew: &C,
-    tie: Tie,
-    old: &Book,
-    new: &Book,
-    keys: &Audiences,
-    indexes: &Indexes,
-    schedule: &Schedule,
+    edited: &Edited<'_>,
     program: &Program,
     meter: &mut Meter,
 ) -> Result<Schedule, Refusal>
     requires crew { IsCrew (λ v. v.items) (C.pre crew.now) (C.post crew.now) }
-    requires there { is_some (program_by old.now.objects program.now.id) ≡ true }
-    requires made { new.now.objects ≡ with_program old.now.objects program.now }
-    requires keys { AreKeysOf old.now.objects keys.now }
-    requires indexed { IsIndexOf tie old.now.objects.events indexes.now }
-    requires seated { AreSeatedFor tie old.now.objects schedule.now }
+    requires there { is_some (program_by edited.now.old.now.objects program.now.id) ≡ true }
+    requires made { edited.now.new.now.objects ≡ with_program edited.now.old.now.objects program.now }
+    requires edited { IsEdited edited.now }
     requires begun { meter.old ≡ 0 }
-    ensures seated { IfOk result (AreSeatedFor tie new.now.objects) }
-    ensures least { OnOk result (meter.new ≤ most_compared_in new.now.objects (touches old.now.objects new.now.objects)) }
+    ensures seated { IfOk result (AreSeatedFor edited.now.tie edited.now.new.now.objects) }
+    ensures least { OnOk result (meter.new ≤ most_compared_in edited.now.new.now.objects (touches edited.now.old.now.objects edited.now.new.now.objects)) }
     ensures refusal { OnlyNoMemory result }
 {
-    old.book_laws();
-    new.book_laws();
-    let Some(was) = old.program(&program.id) else {
+    edited.old.book_laws();
+    edited.new.book_laws();
+    let Some(was) = edited.old.program(&program.id) else {
         unreachable!();
     };
-    let marks = marks_of(alloc, old, keys, was, program)?;
+    let marks = marks_of(alloc, edited.old, edited.keys, was, program)?;
     let places = marked(alloc, marks.as_slice())?;
-    let after = reseated(
-        alloc,
-        crew,
-        tie,
-        new,
-        indexes,
-        schedule,
-        places.as_slice(),
-        meter,
-    )?;
+    let after = reseated(alloc, crew, edited, places.as_slice(), meter)?;
     Ok(after)
 }
 
@@ -265,77 +252,57 @@ fn after_change<C: Fn(&Indexes, &[Job]) -> Result<Vec<Done>, Refusal>>(
 fn after_object<C: Fn(&Indexes, &[Job]) -> Result<Vec<Done>, Refusal>>(
     alloc: Global,
     crew: &C,
-    tie: Tie,
-    old: &Book,
-    new: &Book,
-    keys: &Audiences,
-    indexes: &Indexes,
-    schedule: &Schedule,
+    edited: &Edited<'_>,
     object: &Object,
     meter: &mut Meter,
 ) -> Result<Schedule, Refusal>
     requires crew { IsCrew (λ v. v.items) (C.pre crew.now) (C.post crew.now) }
     requires program { is_program object.now ≡ true }
-    requires accepted { step old.now.objects (change_to object.now) ≡ Ok new.now.objects }
-    requires keys { AreKeysOf old.now.objects keys.now }
-    requires indexed { IsIndexOf tie old.now.objects.events indexes.now }
-    requires seated { AreSeatedFor tie old.now.objects schedule.now }
+    requires change { edited.now.edit.now ≡ change_to object.now }
+    requires edited { IsEdited edited.now }
     requires begun { meter.old ≡ 0 }
-    ensures seated { IfOk result (AreSeatedFor tie new.now.objects) }
-    ensures least { OnOk result (meter.new ≤ most_compared_in new.now.objects (touches old.now.objects new.now.objects)) }
+    ensures seated { IfOk result (AreSeatedFor edited.now.tie edited.now.new.now.objects) }
+    ensures least { OnOk result (meter.new ≤ most_compared_in edited.now.new.now.objects (touches edited.now.old.now.objects edited.now.new.now.objects)) }
     ensures refusal { OnlyNoMemory result }
 {
     match object {
         Object::Program(program) => {
             let program = program.get();
-            let after = after_change(
-                alloc, crew, tie, old, new, keys, indexes, schedule, program, meter,
-            )?;
+            let after = after_change(alloc, crew, edited, program, meter)?;
             Ok(after)
         }
         _ => unreachable!(),
     }
 }
 
-/// The schedule after an edit of a program, from the old book to the new one. One that comes or goes is named by no
-/// event. One that changes may have its events apply to other resources: each resource to which one of them comes, or
-/// from which it goes, gets the writes of the events that apply to it now: see `Schedule::rewritten`.
+/// The schedule after an edit of a program. One that comes or goes is named by no event. One that changes may have its
+/// events apply to other resources: each resource to which one of them comes, or from which it goes, gets the writes of
+/// the events that apply to it now: see `Schedule::rewritten`.
 ///
-/// `keys` and `indexes` are those of the old book. Cost: a look at each event, and for those of a program that changes
-/// two queries of the keys; where places differ, the keys of the new book, and for each such place a query of them and
-/// `Schedule::rewritten`. `NoMemory` where there is no room.
+/// Cost: a look at each event, and for those of a program that changes two queries of the keys; where places differ, the
+/// keys of the new book, and for each such place a query of them and `Schedule::rewritten`. `NoMemory` where there is no
+/// room.
 pub fn after_program<C: Fn(&Indexes, &[Job]) -> Result<Vec<Done>, Refusal>>(
     alloc: Global,
     crew: &C,
-    tie: Tie,
-    old: &Book,
-    new: &Book,
-    keys: &Audiences,
-    indexes: &Indexes,
-    schedule: &Schedule,
-    edit: &Edit,
+    edited: &Edited<'_>,
     meter: &mut Meter,
 ) -> Result<Schedule, Refusal>
     requires crew { IsCrew (λ v. v.items) (C.pre crew.now) (C.post crew.now) }
-    requires program { is_of_program edit.now ≡ true }
-    requires accepted { step old.now.objects edit.now ≡ Ok new.now.objects }
-    requires keys { AreKeysOf old.now.objects keys.now }
-    requires indexed { IsIndexOf tie old.now.objects.events indexes.now }
-    requires seated { AreSeatedFor tie old.now.objects schedule.now }
+    requires program { is_of_program edited.now.edit.now ≡ true }
+    requires edited { IsEdited edited.now }
     requires begun { meter.old ≡ 0 }
-    ensures seated { IfOk result (AreSeatedFor tie new.now.objects) }
-    ensures least { OnOk result (meter.new ≤ most_compared_in new.now.objects (touches old.now.objects new.now.objects)) }
+    ensures seated { IfOk result (AreSeatedFor edited.now.tie edited.now.new.now.objects) }
+    ensures least { OnOk result (meter.new ≤ most_compared_in edited.now.new.now.objects (touches edited.now.old.now.objects edited.now.new.now.objects)) }
     ensures refusal { OnlyNoMemory result }
 {
-    old.book_laws();
-    match edit {
-        Edit::Create(_) => Ok(schedule.copy()?),
+    edited.old.book_laws();
+    match edited.edit {
+        Edit::Create(_) => Ok(edited.schedule.copy()?),
         Edit::Change(object) => {
-            let after = after_object(
-                alloc, crew, tie, old, new, keys, indexes, schedule, object, meter,
-            )?;
+            let after = after_object(alloc, crew, edited, object, meter)?;
             Ok(after)
         }
-        Edit::Remove(_, _) => Ok(schedule.copy()?),
+        Edit::Remove(_, _) => Ok(edited.schedule.copy()?),
     }
 }

@@ -5,18 +5,18 @@ ghost use Rattle.adr_value.specs.Answer.{OnlyNoMemory};
 ghost use Rattle.adr_audience.specs.Keys.{AreKeysOf};
 ghost use Rattle.adr_group.specs.Group.{Lines};
 ghost use Rattle.adr_group.specs.Jobs.{IsCrew};
-ghost use Rattle.adr_lines.specs.Exchange.{IsIndexOf};
 ghost use Rattle.adr_schedule.specs.Moves.{is_among};
 ghost use Rattle.adr_schedule.specs.Seating.{group_at, AreSeatedFor};
 ghost use Rattle.adr_regroup.specs.Compared.{most_reseated_at};
+ghost use Rattle.adr_regroup.specs.Edited.{IsBasis};
 ghost use Rattle.adr_regroup.specs.Party.{most_reseated, AreSeatedBut, AreWritesAt, KeepsEvents};
 
-use crate::party::{with_writes, writes_for};
+use crate::basis::Basis;
+use crate::party::{Spot, with_writes, writes_for};
 use adr_audience::Audiences;
 use adr_book::Book;
 use adr_group::{Done, Job, Writes};
 use adr_lines::{Indexes, index_laws};
-use adr_model::Tie;
 use adr_rule::Meter;
 use adr_schedule::Schedule;
 use adr_value::Refusal;
@@ -78,21 +78,16 @@ fn first_with(schedule: &Schedule, places: Range<usize>, writes: &Writes) -> Opt
     None
 }
 
-/// A place whose group has these writes, if that one does or one a little before the place or behind it. It may be any: a
-/// group is shared only where its writes are the same.
-fn place_like(
-    schedule: &Schedule,
-    like: Option<usize>,
-    place: usize,
-    writes: &Writes,
-) -> Option<usize> {
-    if let Some(near) = like {
+/// A place whose group has these writes, if the one that is like it does or one a little before the place or behind it. It
+/// may be any: a group is shared only where its writes are the same.
+fn place_like(schedule: &Schedule, spot: Spot, writes: &Writes) -> Option<usize> {
+    if let Some(near) = spot.like {
         if has_writes(schedule, near, writes) {
-            return like;
+            return spot.like;
         }
     }
-    let before = place.saturating_sub(NEAR)..place;
-    let behind = place.saturating_add(1)..place.saturating_add(NEAR);
+    let before = spot.place.saturating_sub(NEAR)..spot.place;
+    let behind = spot.place.saturating_add(1)..spot.place.saturating_add(NEAR);
     first_with(schedule, before, writes).or_else(|| first_with(schedule, behind, writes))
 }
 
@@ -101,40 +96,33 @@ fn place_like(
 fn reseated<C: Fn(&Indexes, &[Job]) -> Result<Vec<Done>, Refusal>>(
     alloc: Global,
     crew: &C,
-    tie: Tie,
-    old: &Book,
-    new: &Book,
-    keys: &Audiences,
-    indexes: &Indexes,
+    basis: &Basis<'_>,
     schedule: &Schedule,
-    place: usize,
+    spot: Spot,
     others: &[usize],
-    like: Option<usize>,
     meter: &mut Meter,
 ) -> Result<Schedule, Refusal>
     requires crew { IsCrew (λ v. v.items) (C.pre crew.now) (C.post crew.now) }
-    requires place { place < length new.now.objects.resources }
-    requires keys { AreKeysOf old.now.objects keys.now }
-    requires kept { KeepsEvents old.now.objects new.now.objects }
-    requires indexed { IsIndexOf tie new.now.objects.events indexes.now }
-    requires seated { AreSeatedBut tie new.now.objects (place ∷ others.now) schedule.now }
+    requires place { spot.place < length basis.now.new.now.objects.resources }
+    requires basis { IsBasis basis.now }
+    requires seated { AreSeatedBut basis.now.tie basis.now.new.now.objects (spot.place ∷ others.now) schedule.now }
     requires room { meter.old + most_reseated < 2 ^ 128 }
-    ensures seated { IfOk result (AreSeatedBut tie new.now.objects others.now) }
+    ensures seated { IfOk result (AreSeatedBut basis.now.tie basis.now.new.now.objects others.now) }
     ensures compared { meter.new ≤ meter.old + most_reseated }
-    ensures least { OnOk result (meter.new ≤ meter.old + most_reseated_at new.now.objects schedule.now place) }
-    ensures fewer { IfOk result (λ after. (p : ℕ) → most_reseated_at new.now.objects after p ≤ most_reseated_at new.now.objects schedule.now p) }
+    ensures least { OnOk result (meter.new ≤ meter.old + most_reseated_at basis.now.new.now.objects schedule.now spot.place) }
+    ensures fewer { IfOk result (λ after. (p : ℕ) → most_reseated_at basis.now.new.now.objects after p ≤ most_reseated_at basis.now.new.now.objects schedule.now p) }
     ensures refusal { OnlyNoMemory result }
 {
-    new.book_laws();
+    basis.new.book_laws();
     index_laws();
     schedule.schedule_laws();
-    let writes = writes_at(alloc, old, new, keys, place)?;
+    let place = spot.place;
+    let writes = writes_at(alloc, basis.old, basis.new, basis.keys, place)?;
     let _ = writes.numbers();
     writes_ascend(schedule, place);
-    let like = place_like(schedule, like, place, &writes);
-    let after = with_writes(
-        alloc, crew, tie, new, indexes, schedule, place, like, &writes, meter,
-    )?;
+    let like = place_like(schedule, spot, &writes);
+    let near = Spot { place, like };
+    let after = with_writes(alloc, crew, basis, schedule, near, &writes, meter)?;
     Ok(after)
 }
 
@@ -143,34 +131,30 @@ fn reseated<C: Fn(&Indexes, &[Job]) -> Result<Vec<Done>, Refusal>>(
 pub(crate) fn reseated_all<C: Fn(&Indexes, &[Job]) -> Result<Vec<Done>, Refusal>>(
     alloc: Global,
     crew: &C,
-    tie: Tie,
-    old: &Book,
-    new: &Book,
-    keys: &Audiences,
-    indexes: &Indexes,
+    basis: &Basis<'_>,
     schedule: Schedule,
     places: &[usize],
     meter: &mut Meter,
 ) -> Result<Schedule, Refusal>
     requires crew { IsCrew (λ v. v.items) (C.pre crew.now) (C.post crew.now) }
-    requires places { (p : ℕ) → is_among places.now p ≡ true → p < length new.now.objects.resources }
-    requires keys { AreKeysOf old.now.objects keys.now }
-    requires kept { KeepsEvents old.now.objects new.now.objects }
-    requires indexed { IsIndexOf tie new.now.objects.events indexes.now }
-    requires seated { AreSeatedBut tie new.now.objects places.now schedule }
+    requires places { (p : ℕ) → is_among places.now p ≡ true → p < length basis.now.new.now.objects.resources }
+    requires basis { IsBasis basis.now }
+    requires seated { AreSeatedBut basis.now.tie basis.now.new.now.objects places.now schedule }
     requires room { meter.old + length places.now * most_reseated < 2 ^ 128 }
-    ensures seated { IfOk result (AreSeatedFor tie new.now.objects) }
+    ensures seated { IfOk result (AreSeatedFor basis.now.tie basis.now.new.now.objects) }
     ensures compared { meter.new ≤ meter.old + length places.now * most_reseated }
-    ensures least { OnOk result (meter.new ≤ meter.old + sum_by (most_reseated_at new.now.objects schedule) places.now) }
+    ensures least { OnOk result (meter.new ≤ meter.old + sum_by (most_reseated_at basis.now.new.now.objects schedule) places.now) }
     ensures refusal { OnlyNoMemory result }
 {
     let mut after = schedule;
     let mut like = None;
     let mut rest = places;
     'rest: while let Some((place, others)) = rest.split_first() {
-        after = reseated(
-            alloc, crew, tie, old, new, keys, indexes, &after, *place, others, like, meter,
-        )?;
+        let spot = Spot {
+            place: *place,
+            like,
+        };
+        after = reseated(alloc, crew, basis, &after, spot, others, meter)?;
         like = Some(*place);
         rest = others;
     }

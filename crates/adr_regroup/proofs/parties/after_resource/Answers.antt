@@ -25,76 +25,85 @@ found_within rs p o at there = by o at there
 
 pub reseated_at-requires-clause-place : goal.reseated_at-requires-clause-place
 reseated_at-requires-clause-place g c =
-    let old = c.args.old.now.objects in
-    let new = c.args.new.now.objects in
-    let starts = resource_comes c.args.tie old new c.in-Create.field-0 c.args.schedule.now c.in_ok-more-in-Create.more (subst (λ (e : Edit). is_of_resource e ≡ true) c.in-Create.is c.requires.resource)
-    (subst (λ (e : Edit). step old e ≡ Ok new) c.in-Create.is c.requires.accepted) c.schedule_laws.ensures c.in_ok-more-in-Create.ensures.place c.in_ok-more-in-Create.ensures.right c.requires.seated in
+    let edited = c.args.edited.now in
+    let old = edited.old.now.objects in
+    let new = edited.new.now.objects in
+    let starts = resource_comes edited.tie old new c.in-Create.field-0 edited.schedule.now c.in_ok-more-in-Create.more (subst (λ (e : Edit). is_of_resource e ≡ true) c.in-Create.is c.requires.resource)
+    (subst (λ (e : Edit). step old e ≡ Ok new) c.in-Create.is c.requires.edited.accepted) c.schedule_laws.ensures c.in_ok-more-in-Create.ensures.place c.in_ok-more-in-Create.ensures.right c.requires.edited.seated in
     last_within _ _ _ _ c.len-place.ensures c.in_ok-more-in-Create.ensures.place.count starts.count
 
 pub reseated_at-requires-clause-seated : goal.reseated_at-requires-clause-seated
 reseated_at-requires-clause-seated g c =
-    let old = c.args.old.now.objects in
-    let new = c.args.new.now.objects in
-    subst (λ (p : ℕ). AreSeatedBut c.args.tie new (p ∷ []) c.in_ok-more-in-Create.more) (sym c.len-place.ensures)
-    (resource_comes c.args.tie old new c.in-Create.field-0 c.args.schedule.now c.in_ok-more-in-Create.more (subst (λ (e : Edit). is_of_resource e ≡ true) c.in-Create.is c.requires.resource)
-    (subst (λ (e : Edit). step old e ≡ Ok new) c.in-Create.is c.requires.accepted) c.schedule_laws.ensures c.in_ok-more-in-Create.ensures.place c.in_ok-more-in-Create.ensures.right c.requires.seated)
+    let edited = c.args.edited.now in
+    let old = edited.old.now.objects in
+    let new = edited.new.now.objects in
+    subst (λ (p : ℕ). AreSeatedBut edited.tie new (p ∷ []) c.in_ok-more-in-Create.more) (sym c.len-place.ensures)
+    (resource_comes edited.tie old new c.in-Create.field-0 edited.schedule.now c.in_ok-more-in-Create.more (subst (λ (e : Edit). is_of_resource e ≡ true) c.in-Create.is c.requires.resource)
+    (subst (λ (e : Edit). step old e ≡ Ok new) c.in-Create.is c.requires.edited.accepted) c.schedule_laws.ensures c.in_ok-more-in-Create.ensures.place c.in_ok-more-in-Create.ensures.right c.requires.edited.seated)
 
 pub unreachable-requires : goal.unreachable-requires
 unreachable-requires g c =
-    let old = c.args.old.now.objects in
-    let there = resource_to_change old c.args.new.now.objects c.in-Change.object (subst (λ (e : Edit). is_of_resource e ≡ true) c.in-Change.is c.requires.resource)
-    (subst (λ (e : Edit). step old e ≡ Ok c.args.new.now.objects) c.in-Change.is c.requires.accepted) in
+    let edited = c.args.edited.now in
+    let old = edited.old.now.objects in
+    let there = resource_to_change old edited.new.now.objects c.in-Change.object (subst (λ (e : Edit). is_of_resource e ≡ true) c.in-Change.is c.requires.resource)
+    (subst (λ (e : Edit). step old e ≡ Ok edited.new.now.objects) c.in-Change.is c.requires.edited.accepted) in
     both_ways (is_some (resource_by old (id_of c.in-Change.object))) (sym (c.in_default.ensures.found ∙ ap (λ i. is_some (resource_by old i)) c.id.ensures)) there
 
 pub reseated_at-requires-in-Change-clause-place : goal.reseated_at-requires-in-Change-clause-place
 reseated_at-requires-in-Change-clause-place g c =
-    let old = c.args.old.now.objects in
-    let new = c.args.new.now.objects in
+    let edited = c.args.edited.now in
+    let old = edited.old.now.objects in
+    let new = edited.new.now.objects in
     let own = subst (λ (e : Edit). is_of_resource e ≡ true) c.in-Change.is c.requires.resource in
-    let made = subst (λ (e : Edit). step old e ≡ Ok new) c.in-Change.is c.requires.accepted in
+    let made = subst (λ (e : Edit). step old e ≡ Ok new) c.in-Change.is c.requires.edited.accepted in
     let at : slice_get old.resources c.in-Some.place ≡ resource_by old (id_of c.in-Change.object) = c.in-Some.ensures.value ∙ ap (resource_by old) c.id.ensures in
-    let starts = resource_changes c.args.tie old new c.in-Change.object c.in-Some.place c.args.schedule.now c.book_laws.ensures.whole own made at c.requires.seated in
-    subst (λ n. c.in-Some.place < n) (sym c.requires.seated.count ∙ starts.count)
+    let starts = resource_changes edited.tie old new c.in-Change.object c.in-Some.place edited.schedule.now c.book_laws.ensures.whole own made at c.requires.edited.seated in
+    subst (λ n. c.in-Some.place < n) (sym c.requires.edited.seated.count ∙ starts.count)
     (found_within old.resources c.in-Some.place (resource_by old (id_of c.in-Change.object)) at (resource_to_change old new c.in-Change.object own made))
 
 pub reseated_at-requires-in-Change-clause-seated : goal.reseated_at-requires-in-Change-clause-seated
 reseated_at-requires-in-Change-clause-seated g c =
-    let old = c.args.old.now.objects in
-    let new = c.args.new.now.objects in
-    subst (λ (s : Seating). AreSeatedBut c.args.tie new (c.in-Some.place ∷ []) s) (sym c.in_ok-same-in-Change.ensures)
-    (resource_changes c.args.tie old new c.in-Change.object c.in-Some.place c.args.schedule.now c.book_laws.ensures.whole
-    (subst (λ (e : Edit). is_of_resource e ≡ true) c.in-Change.is c.requires.resource) (subst (λ (e : Edit). step old e ≡ Ok new) c.in-Change.is c.requires.accepted)
-    (c.in-Some.ensures.value ∙ ap (resource_by old) c.id.ensures) c.requires.seated)
+    let edited = c.args.edited.now in
+    let old = edited.old.now.objects in
+    let new = edited.new.now.objects in
+    subst (λ (s : Seating). AreSeatedBut edited.tie new (c.in-Some.place ∷ []) s) (sym c.in_ok-same-in-Change.ensures)
+    (resource_changes edited.tie old new c.in-Change.object c.in-Some.place edited.schedule.now c.book_laws.ensures.whole
+    (subst (λ (e : Edit). is_of_resource e ≡ true) c.in-Change.is c.requires.resource) (subst (λ (e : Edit). step old e ≡ Ok new) c.in-Change.is c.requires.edited.accepted)
+    (c.in-Some.ensures.value ∙ ap (resource_by old) c.id.ensures) c.requires.edited.seated)
 
 pub without-requires-clause-there : goal.without-requires-clause-there
 without-requires-clause-there g c =
-    resource_to_go c.args.old.now.objects c.args.new.now.objects c.in-Remove.field-0 c.in-Remove.id (subst (λ (e : Edit). is_of_resource e ≡ true) c.in-Remove.is c.requires.resource)
-    (subst (λ (e : Edit). step c.args.old.now.objects e ≡ Ok c.args.new.now.objects) c.in-Remove.is c.requires.accepted)
+    let edited = c.args.edited.now in
+    resource_to_go edited.old.now.objects edited.new.now.objects c.in-Remove.field-0 c.in-Remove.id (subst (λ (e : Edit). is_of_resource e ≡ true) c.in-Remove.is c.requires.resource)
+    (subst (λ (e : Edit). step edited.old.now.objects e ≡ Ok edited.new.now.objects) c.in-Remove.is c.requires.edited.accepted)
 
 pub returns-in_ok-after-in-Remove-clause-seated : goal.returns-in_ok-after-in-Remove-clause-seated
 returns-in_ok-after-in-Remove-clause-seated g c =
+    let edited = c.args.edited.now in
     let p = c.in_ok-after-in-Remove.ensures.place in
-    resource_goes c.args.tie c.args.old.now.objects c.args.new.now.objects c.in-Remove.field-0 c.in-Remove.id p.0 c.args.schedule.now c.in_ok-after-in-Remove.after c.book_laws.ensures.whole
-    (subst (λ (e : Edit). is_of_resource e ≡ true) c.in-Remove.is c.requires.resource) (subst (λ (e : Edit). step c.args.old.now.objects e ≡ Ok c.args.new.now.objects) c.in-Remove.is c.requires.accepted)
-    p.1 p.2 p.3 c.requires.seated
+    resource_goes edited.tie edited.old.now.objects edited.new.now.objects c.in-Remove.field-0 c.in-Remove.id p.0 edited.schedule.now c.in_ok-after-in-Remove.after c.book_laws.ensures.whole
+    (subst (λ (e : Edit). is_of_resource e ≡ true) c.in-Remove.is c.requires.resource) (subst (λ (e : Edit). step edited.old.now.objects e ≡ Ok edited.new.now.objects) c.in-Remove.is c.requires.edited.accepted)
+    p.1 p.2 p.3 c.requires.edited.seated
 
 pub returns-in_ok-after-in-Create-clause-least : goal.returns-in_ok-after-in-Create-clause-least
 returns-in_ok-after-in-Create-clause-least g c =
-    let old = c.args.old.now.objects in
-    let new = c.args.new.now.objects in
+    let edited = c.args.edited.now in
+    let old = edited.old.now.objects in
+    let new = edited.new.now.objects in
     let more = c.in_ok-more-in-Create.more in
-    let own = created_cost old new c.in-Create.field-0 c.args.schedule.now more c.book_laws-2.ensures.whole
-    (subst (λ (e : Edit). is_of_resource e ≡ true) c.in-Create.is c.requires.resource) (subst (λ (e : Edit). step old e ≡ Ok new) c.in-Create.is c.requires.accepted)
-    c.requires.seated.count c.in_ok-more-in-Create.ensures.place in
+    let own = created_cost old new c.in-Create.field-0 edited.schedule.now more c.book_laws-2.ensures.whole
+    (subst (λ (e : Edit). is_of_resource e ≡ true) c.in-Create.is c.requires.resource) (subst (λ (e : Edit). step old e ≡ Ok new) c.in-Create.is c.requires.edited.accepted)
+    c.requires.edited.seated.count c.in_ok-more-in-Create.ensures.place in
     let here = ap (most_reseated_at new more) c.len-place.ensures in
     omega (arith, own, here, c.requires.begun, c.in_ok-after-in-Create.ensures.least)
 
 pub returns-in_ok-after-in-Change-clause-least : goal.returns-in_ok-after-in-Change-clause-least
 returns-in_ok-after-in-Change-clause-least g c =
-    let old = c.args.old.now.objects in
-    let new = c.args.new.now.objects in
-    let own = changed_cost c.args.tie old new c.in-Change.object c.in-Some.place c.args.schedule.now c.book_laws.ensures.whole c.book_laws-2.ensures.whole
-    (subst (λ (e : Edit). is_of_resource e ≡ true) c.in-Change.is c.requires.resource) (subst (λ (e : Edit). step old e ≡ Ok new) c.in-Change.is c.requires.accepted)
-    (c.in-Some.ensures.value ∙ ap (resource_by old) c.id.ensures) c.requires.seated in
+    let edited = c.args.edited.now in
+    let old = edited.old.now.objects in
+    let new = edited.new.now.objects in
+    let own = changed_cost edited.tie old new c.in-Change.object c.in-Some.place edited.schedule.now c.book_laws.ensures.whole c.book_laws-2.ensures.whole
+    (subst (λ (e : Edit). is_of_resource e ≡ true) c.in-Change.is c.requires.resource) (subst (λ (e : Edit). step old e ≡ Ok new) c.in-Change.is c.requires.edited.accepted)
+    (c.in-Some.ensures.value ∙ ap (resource_by old) c.id.ensures) c.requires.edited.seated in
     let here = ap (λ (s : Seating). most_reseated_at new s c.in-Some.place) c.in_ok-same-in-Change.ensures in
     omega (arith, own, here, c.requires.begun, c.in_ok-after-in-Change.ensures.least)

@@ -9,7 +9,7 @@ use Rattle.adr_regroup.proofs.party.with_writes.Goals as goal
 
 pub unreachable-requires : goal.unreachable-requires
 unreachable-requires g c =
-    let held = c.schedule_laws.ensures c.args.place c.requires.within in
+    let held = c.schedule_laws.ensures c.args.spot.place c.requires.within in
     none_is_some held.0 (c.in_default-group.ensures.value ∙ held.1)
 
 fits : (a p q l limit : ℕ) → q ≡ p → p ≤ l → a + l < limit → a + q < limit
@@ -17,8 +17,9 @@ fits a p q l limit e f g = omega (arith, e, f, g)
 
 pub rewritten-requires-clause-room : goal.rewritten-requires-clause-room
 rewritten-requires-clause-room g c =
+    let basis = c.args.basis.now in
     let group : Lines = c.in-Some-group.group.now in
-    let indexes = c.args.indexes.now in
+    let indexes = basis.indexes.now in
     let windows = c.in_ok-windows.windows.items in
     let most = c.requires.room.0 in
     let new = length c.args.writes.now in
@@ -28,23 +29,25 @@ rewritten-requires-clause-room g c =
 
 pub returns-clause-right : goal.returns-clause-right
 returns-clause-right g c =
-    let events = c.args.book.now.objects.events in
+    let basis = c.args.basis.now in
+    let events = basis.new.now.objects.events in
     let group : Lines = c.in-Some-group.group.now in
     let new = c.args.writes.now in
     let within = subst (λ ns. AreWindowsOf events ns new (entries_under c.in_ok-windows.windows.items)) c.writes.ensures c.in_ok-windows.ensures.windows in
     let inside = subst (λ gs. AreWindowsOf events group.writes new (entries_under gs)) (sym c.deref.ensures.value) within in
     IfOk-weaker c.rewritten.result _ _
-    (λ after right indexed before. right c.args.tie events indexed
+    (λ after right indexed before. right basis.tie events indexed
     (λ g at. subst (λ (x : Lines). AreWindowsOf events x.writes new (entries_under c.deref.result.now)) (some_same group g (c.in-Some-group.ensures.value ∙ at)) inside) before)
     c.rewritten.ensures.right
 
 pub returns-clause-least : goal.returns-clause-least
 returns-clause-least g c lines cost at bound =
-    let events = c.args.book.now.objects.events in
+    let basis = c.args.basis.now in
+    let events = basis.new.now.objects.events in
     let new = c.args.writes.now in
     let same : c.writes.result.now ≡ lines.writes = c.writes.ensures ∙ ap (λ (x : Lines). x.writes) (some_same c.in-Some-group.group.now lines (c.in-Some-group.ensures.value ∙ at)) in
-    let least = c.in_ok-windows.ensures.least c.args.indexes.now new cost bound in
+    let least = c.in_ok-windows.ensures.least basis.indexes.now new cost bound in
     let first = ap (λ ns. cost_but cost events ns new) same in
     let second = ap (λ ns. cost_but cost events new ns) same in
-    let whole = ap (λ gs. most_repaired gs new c.args.indexes.now) c.deref.ensures.value in
+    let whole = ap (λ gs. most_repaired gs new basis.indexes.now) c.deref.ensures.value in
     omega (arith, least, first, second, whole, c.rewritten.ensures.least)

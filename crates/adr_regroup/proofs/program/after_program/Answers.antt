@@ -8,14 +8,16 @@ use Rattle.adr_regroup.proofs.program.after_program.Goals as goal
 
 pub returns-in_ok-copy-in-Create-clause-seated : goal.returns-in_ok-copy-in-Create-clause-seated
 returns-in_ok-copy-in-Create-clause-seated g c =
-    subst (λ (s : Seating). AreSeatedFor c.args.tie c.args.new.now.objects s) (sym c.in_ok-copy-in-Create.ensures)
-    (after_create c.args.tie c.args.old.now.objects c.args.new.now.objects c.in-Create.field-0 c.args.schedule.now c.book_laws.ensures.whole
+    let edited = c.args.edited.now in
+    subst (λ (s : Seating). AreSeatedFor edited.tie edited.new.now.objects s) (sym c.in_ok-copy-in-Create.ensures)
+    (after_create edited.tie edited.old.now.objects edited.new.now.objects c.in-Create.field-0 edited.schedule.now c.book_laws.ensures.whole
     (subst (λ (e : Edit). is_of_program e ≡ true) c.in-Create.is c.requires.program)
-    (subst (λ (e : Edit). step c.args.old.now.objects e ≡ Ok c.args.new.now.objects) c.in-Create.is c.requires.accepted) c.requires.seated)
+    (subst (λ (e : Edit). step edited.old.now.objects e ≡ Ok edited.new.now.objects) c.in-Create.is c.requires.edited.accepted) c.requires.edited.seated)
 
 pub returns-in_ok-copy-in-Remove-clause-seated : goal.returns-in_ok-copy-in-Remove-clause-seated
 returns-in_ok-copy-in-Remove-clause-seated g c =
-    subst (λ (s : Seating). AreSeatedFor c.args.tie c.args.new.now.objects s) (sym c.in_ok-copy-in-Remove.ensures)
-    (after_remove c.args.tie c.args.old.now.objects c.args.new.now.objects c.in-Remove.field-0 c.in-Remove.field-1 c.args.schedule.now c.book_laws.ensures.whole
+    let edited = c.args.edited.now in
+    subst (λ (s : Seating). AreSeatedFor edited.tie edited.new.now.objects s) (sym c.in_ok-copy-in-Remove.ensures)
+    (after_remove edited.tie edited.old.now.objects edited.new.now.objects c.in-Remove.field-0 c.in-Remove.field-1 edited.schedule.now c.book_laws.ensures.whole
     (subst (λ (e : Edit). is_of_program e ≡ true) c.in-Remove.is c.requires.program)
-    (subst (λ (e : Edit). step c.args.old.now.objects e ≡ Ok c.args.new.now.objects) c.in-Remove.is c.requires.accepted) c.requires.seated)
+    (subst (λ (e : Edit). step edited.old.now.objects e ≡ Ok edited.new.now.objects) c.in-Remove.is c.requires.edited.accepted) c.requires.edited.seated)

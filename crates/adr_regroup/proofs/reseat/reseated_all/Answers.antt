@@ -14,14 +14,14 @@ left after meter n rest start all h e l = by most_reseated h (subst (λ k. meter
 
 pub reseated-requires-clause-place : goal.reseated-requires-clause-place
 reseated-requires-clause-place g c =
-    let n = length c.args.new.now.objects.resources in
+    let n = length c.args.basis.now.new.now.objects.resources in
     first_among c.in-Some.place.now c.in-Some.others.now n
     (subst (λ (ps : List ℕ). (p : ℕ) → is_among ps p ≡ true → p < n) c.in-Some.ensures.cases.0 c.rest.invariant.within)
 
 pub rest-preserved : goal.rest-preserved
 rest-preserved g c =
-    let n = length c.args.new.now.objects.resources in
-    let asked : ℕ → ℕ = most_reseated_at c.args.new.now.objects c.args.schedule in
+    let n = length c.args.basis.now.new.now.objects.resources in
+    let asked : ℕ → ℕ = most_reseated_at c.args.basis.now.new.now.objects c.args.schedule in
     record {
       within = later_among c.in-Some.place.now c.in-Some.others.now n
           (subst (λ (ps : List ℕ). (p : ℕ) → is_among ps p ≡ true → p < n) c.in-Some.ensures.cases.0 c.rest.invariant.within);

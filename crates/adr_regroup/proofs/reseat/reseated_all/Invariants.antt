@@ -7,11 +7,11 @@ use Rattle.adr_regroup.proofs.reseat.reseated_all.Given as goal
 -- the places so far are seen to, and the rest may compare what is left, none more than at first
 abbrev pub invariant-rest : goal.invariant-rest
 invariant-rest g l = record {
-  within : (p : ℕ) → is_among l.rest p ≡ true → p < length l.new.objects.resources;
-  seated : AreSeatedBut l.tie l.new.objects l.rest l.after;
+  within : (p : ℕ) → is_among l.rest p ≡ true → p < length l.basis.new.now.objects.resources;
+  seated : AreSeatedBut l.basis.tie l.basis.new.now.objects l.rest l.after;
   compared : l.meter + length l.rest * most_reseated ≤ l.fn.meter + length l.places * most_reseated;
-  fewer : (p : ℕ) → most_reseated_at l.new.objects l.after p ≤ most_reseated_at l.new.objects l.fn.schedule p;
-  least : l.meter + sum_by (most_reseated_at l.new.objects l.fn.schedule) l.rest ≤ l.fn.meter + sum_by (most_reseated_at l.new.objects l.fn.schedule) l.places;
+  fewer : (p : ℕ) → most_reseated_at l.basis.new.now.objects l.after p ≤ most_reseated_at l.basis.new.now.objects l.fn.schedule p;
+  least : l.meter + sum_by (most_reseated_at l.basis.new.now.objects l.fn.schedule) l.rest ≤ l.fn.meter + sum_by (most_reseated_at l.basis.new.now.objects l.fn.schedule) l.places;
 }
 
 abbrev pub decreases-rest : goal.decreases-rest
