@@ -1,17 +1,16 @@
 -- What is told of a published version is a timeline of the least matching intervals.
-use Rattle.std.proofs.Common.{◌≡◌, ℕ, ℤ, ◌≤ℤ◌, ◌<ℤ◌, Bool, true, ◌&&◌, cond, List, Option, None, is_some, refl, sym, ap, subst, ◌∙◌, arith}
-use Rattle.std.specs.Prelude.{int_le, int_lt, Result, Ok, Err}
-use Rattle.std.specs.Option.{option_and_then}
+use Rattle.std.proofs.Common.{◌≡◌, ℕ, ℤ, ◌≤ℤ◌, ◌<ℤ◌, true, ◌&&◌, cond, List, None, is_some, sym, ap, subst, ◌∙◌, arith}
+use Rattle.std.specs.Prelude.{int_le, int_lt, Ok, Err}
+use Rattle.std.proofs.Math.Nat.{le_refl}
 use Rattle.std.proofs.lemmas.Int.{ints}
 use Rattle.adr_value.specs.declared.payload.PayloadType.{PayloadType}
-use Rattle.adr_value.specs.declared.refusal.Refusal.{Refusal}
 use Rattle.adr_value.specs.declared.refusal.Refusal.TheVariants.{BadWindow, UnknownResource}
 use Rattle.adr_model.specs.declared.entry.Tie.{Tie}
-use Rattle.adr_model.specs.declared.timeline.Winner.{Winner}
-use Rattle.adr_model.specs.Answer.{at, at_text, shown, until}
+use Rattle.adr_model.specs.Answer.{at, at_text, until}
 use Rattle.adr_model.specs.Book.{Book, resource_by}
 use Rattle.adr_model.specs.Governor.{governs}
-use Rattle.adr_model.specs.Machine.{last_book}
+use Rattle.adr_model.specs.Edits.{after}
+use Rattle.adr_model.specs.Machine.{State, last_book, last_number}
 use Rattle.adr_model.specs.Queries.{list, list_text}
 use Rattle.adr_model.specs.Timeline.{shows}
 use Rattle.adr_model.proofs.AnswerLaws.{until_is_the_next_change}
@@ -19,8 +18,10 @@ use Rattle.adr_repair.specs.Ranks.{IsGovernor}
 use Rattle.adr_repair.proofs.Least.{governor_is_least}
 use Rattle.adr_calendar.specs.Segments.{segments_within}
 use Rattle.adr_calendar.proofs.Segments.{lists_tell_timelines}
-use Rattle.adr_server.specs.Laws.{PublishedStatesTellTheLeastMatching, PublishedTimelinesGiveTheLeastMatching}
+use Rattle.adr_server.specs.Laws.{LinesTellTheLeastMatching, PublishedStatesTellTheLeastMatching, PublishedTimelinesGiveTheLeastMatching, TellsStates, TellsTimelines}
+use Rattle.adr_server.specs.Reached.{IsLeftBy, accepted_edits, published_edits, state_after}
 use Rattle.adr_server.specs.Text.{answer_line}
+use Rattle.adr_server.proofs.Reached.{accepted_edits_leave_the_state}
 
 module _ (tie : Tie) (book : Book) (id : List ℕ) (kind : PayloadType) where
   list_told : (from to : ℤ) → from <ℤ to → is_some (resource_by book id) ≡ true → answer_line (list tie book id kind from to) ≡ list_text tie book id kind from to
@@ -63,3 +64,18 @@ published_states_tell_the_least_matching s id kind t there = (
   until_is_the_next_change s.tie (last_book s) id kind t,
   at_told s.tie (last_book s) id kind t there,
 )
+
+pub lines_tell_the_least_matching : LinesTellTheLeastMatching
+lines_tell_the_least_matching tie marks lines = (
+  subst (λ b. TellsTimelines end tie b) objects (subst (λ r. TellsTimelines end r (last_book end)) left.0 (published_timelines_give_the_least_matching end)),
+  subst (λ b. TellsStates end tie b) objects (subst (λ r. TellsStates end r (last_book end)) left.0 (published_states_tell_the_least_matching end)),
+)
+  where
+    end : State
+    end = state_after tie marks lines
+
+    left : (end.tie ≡ tie) × IsLeftBy (accepted_edits tie marks lines) end
+    left = accepted_edits_leave_the_state tie marks lines
+
+    objects : last_book end ≡ after (published_edits tie marks lines)
+    objects = left.1.published (last_number end) (le_refl (last_number end))

@@ -6,4 +6,5 @@ mod Journals
 mod Larger
 mod Parts
 mod Printed
+mod Reached
 mod Words

@@ -4,6 +4,7 @@ pub mod Kept
 pub mod Larger
 pub mod Laws
 pub mod Line
+pub mod Reached
 pub mod Shown
 pub mod Text
 pub mod Views

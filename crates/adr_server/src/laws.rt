@@ -1,17 +1,26 @@
 //! The laws of the script's text.
 ghost use Rattle.adr_server.specs.Fan.{FanRunsTheScript, ReadersMayAnswerAtTheEnd};
 ghost use Rattle.adr_server.specs.Larger.{LargerLimitsTellTheSame, LimitsGrew};
-ghost use Rattle.adr_server.specs.Laws.{GovernsTheLeastMatching, PublishedStatesTellTheLeastMatching, PublishedTimelinesGiveTheLeastMatching, RefusalsChangeNothing, RefusedEditsChangeNothing, AcceptedEditsAreKept, QueriesChangeNothing};
+ghost use Rattle.adr_server.specs.Laws.{LinesTellTheLeastMatching, GovernsTheLeastMatching, PublishedStatesTellTheLeastMatching, PublishedTimelinesGiveTheLeastMatching, LinesAreSteps, AcceptedEditsLeaveTheState, TextsGoOn, RefusalsChangeNothing, RefusedEditsChangeNothing, AcceptedEditsAreKept, QueriesChangeNothing};
 
-/// What the text that `run` writes promises. After any lines, a published timeline gives, at every resource, payload
-/// type and instant, the least matching interval of the objects that the accepted edits up to its version left, and
-/// none where none matches; a refused edit changes nothing. The timeline is what `list` tells, segment by segment, and
-/// `at` tells of one instant what it shows there and until when.
-#[tactic(auto, using(crate::proofs::Headline::published_timelines_give_the_least_matching, crate::proofs::Headline::published_states_tell_the_least_matching))]
+/// What the text that `run` writes promises. After any lines, of which any may be refused for want of memory, a published
+/// timeline gives, at every resource, payload type and instant, the least matching interval of the objects that the
+/// accepted edits up to its version left, and none where none matches. The timeline is what `list` tells, segment by
+/// segment, and `at` tells of one instant what governs there and until when.
+///
+/// The state after the lines is one that the machine of edits and publications reaches from its start by what stands on
+/// them, in order, and the text goes on from there. The objects of each publication are what the accepted edits up to its
+/// version leave, whatever was condensed. An accepted edit is answered `ok` with its version; a refused one, a refused
+/// line and a query change nothing.
+#[tactic(auto, using(crate::proofs::Headline::published_timelines_give_the_least_matching, crate::proofs::Headline::published_states_tell_the_least_matching, crate::proofs::Reached::lines_are_steps, crate::proofs::Reached::accepted_edits_leave_the_state, crate::proofs::Reached::texts_go_on))]
 pub fn least_matching_interval_governs()
+    ensures lines { LinesTellTheLeastMatching }
     ensures timelines { PublishedTimelinesGiveTheLeastMatching }
     ensures states { PublishedStatesTellTheLeastMatching }
     ensures governs { GovernsTheLeastMatching }
+    ensures steps { LinesAreSteps }
+    ensures objects { AcceptedEditsLeaveTheState }
+    ensures text { TextsGoOn }
     ensures refused_lines { RefusalsChangeNothing }
     ensures refused_edits { RefusedEditsChangeNothing }
     ensures accepted_edits { AcceptedEditsAreKept }

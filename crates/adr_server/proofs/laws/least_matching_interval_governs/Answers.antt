@@ -8,7 +8,11 @@ use Rattle.adr_repair.proofs.Least.{governor_is_least}
 use Rattle.adr_server.specs.declared.command.Command.{Command}
 use Rattle.adr_server.specs.declared.command.Command.TheVariants.{Edit, Publish, Condense, At, List as Listed, Roll, Types}
 use Rattle.adr_server.specs.Text.{query_of, reply_line, command_reply, command_next, reply_or, next_or}
+use Rattle.adr_server.proofs.Headline.{lines_tell_the_least_matching}
 use Rattle.adr_server.proofs.laws.least_matching_interval_governs.Goals as goal
+
+pub returns-clause-lines : goal.returns-clause-lines
+returns-clause-lines c = lines_tell_the_least_matching
 
 pub returns-clause-governs : goal.returns-clause-governs
 returns-clause-governs c = λ s id payload_type t. governor_is_least s.tie (last_book s) id payload_type t
