@@ -1,6 +1,6 @@
 -- Each kind of step is one of the machine's.
-use Rattle.std.proofs.Common.{◌≡◌, ◌∙◌, ℕ, zero, suc, ◌+◌, ◌-◌, ◌<◌, ◌≤◌, max, Bool, true, false, cond, List, [], ◌∷◌, ◌++◌, length, get_or, set, Global, Ok, Err, refl, sym, ap, arith}
-use Rattle.std.specs.Prelude.{slice_index, slice_set, nat_lt}
+use Rattle.std.proofs.Common.{◌≡◌, ◌∙◌, ℕ, suc, ◌+◌, ◌-◌, ◌<◌, ◌≤◌, max, Bool, cond, List, [], ◌∷◌, ◌++◌, length, get_or, set, Global, Ok, Err, refl, sym, ap, arith}
+use Rattle.std.specs.Prelude.{slice_index, slice_set}
 use Rattle.std.specs.declared.sync.Arc.{Arc}
 use Rattle.std.specs.Arc.{arc_value}
 use Rattle.std.proofs.lemmas.Bool.{lt-ltb, le-ltb}
@@ -9,13 +9,13 @@ use Rattle.adr_value.specs.declared.refusal.Refusal.{Refusal}
 use Rattle.adr_value.specs.declared.refusal.Refusal.TheVariants.{Full}
 use Rattle.adr_object.specs.declared.object.Edit.{Edit as AnyEdit}
 use Rattle.adr_model.specs.Edits.{full_at, step_to}
-use Rattle.adr_model.specs.Machine.{Publication, Reply, State, after_edit, after_publish, book_of, last_book, last_number, opening, refused, done, published, condensed, told, seen}
+use Rattle.adr_model.specs.Machine.{Publication, after_edit, after_publish, last_book, last_number, opening, refused, done, published, condensed, told, seen}
 use Rattle.adr_board.specs.declared.board.Published.{Published as Numbered}
 use Rattle.adr_board.specs.Boards.{Board, View, last_of, newcomer, with_published}
 use Rattle.adr_snapshot.specs.Published.{PublishedBook}
 use Rattle.adr_board.specs.declared.run_steps.Step.TheVariants.{Edit, Publish, Condense, Tell, Look}
 use Rattle.adr_board.specs.declared.run_steps.Shown.TheVariants.{Done, Refused, Published, Told, Condensed, Seen}
-use Rattle.adr_board.specs.Replay.{AreReached, IsOf, IsStep, reach, state_of}
+use Rattle.adr_board.specs.Replay.{IsOf, IsStep, reach, state_of}
 use Rattle.adr_board.proofs.Reached.{reached_at, reached_length, reached_set}
 
 pub edited : (b c : Board) (x : AnyEdit) (version : ℕ) → step_to (full_at b.book.base.version) b.book.objects x ≡ Ok c.book.objects

@@ -1,4 +1,5 @@
 //! What readers are shown, of which `left_right` holds two copies.
+ghost use Rattle.std.specs.Prelude.{◌≡◌};
 ghost use Rattle.adr_board.specs.Rules.{showing};
 
 use adr_diary::Page;

@@ -14,7 +14,7 @@ new-requires-2-clause-rule g c =
     let place : diary.attempts ≡ 0 = omega (arith, diary.counted, ap length c.args.board.empty) in
     let first : publication_of c.book.result.now ≡ opening = search rules in
     let log = first_log c.in-Some.attempt.page.log diary.page.log opening _ c.in-Some.ensures.log c.args.board.empty first in
-    let x : Shown = record { snapshot = c.in-Ok-try_clone.shown; attempt = diary.attempts; page = c.again.result } in
+    let x : Shown = c.of-first.result in
     let number : (showing x).snapshot.number ≡ 0 = search rules in
     let publication : publication_in (showing x).snapshot ≡ opening = search rules in
-    starts _ x number publication (first_carried _ (showing x) number publication (search rules) (ap (λ p. p.log) c.again.ensures ∙ (ap (λ p. p.log) c.again-page.ensures ∙ log)) place)
+    starts _ x number publication (first_carried _ (showing x) number publication (search rules) (ap (λ p. p.log) c.of-first.ensures.page ∙ (ap (λ p. p.log) c.again-page.ensures ∙ log)) (c.of-first.ensures.attempt ∙ place))

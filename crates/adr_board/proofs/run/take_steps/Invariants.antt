@@ -1,7 +1,6 @@
-use Rattle.std.proofs.Common.{◌≡◌, All, vec_len, List}
+use Rattle.std.proofs.Common.{◌≡◌, All, vec_len}
 use Rattle.std.specs.Vec.Iter.{into_iter_items}
-use Rattle.adr_board.specs.Replay.{AreSteps, NamesReader}
-use Rattle.adr_board.specs.declared.run_steps.Shown.{Shown}
+use Rattle.adr_board.specs.Replay.{NamesReader}
 use Rattle.adr_board.proofs.Runs.{LeadsOn}
 use Rattle.adr_board.proofs.run.take_steps.Given as goal
 

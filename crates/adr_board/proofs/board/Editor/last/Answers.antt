@@ -1,4 +1,4 @@
-use Rattle.std.proofs.Common.{◌≡◌, ap, sym}
+use Rattle.std.proofs.Common.{ap, sym}
 use Rattle.left_right.specs.Sides.{view as known}
 use Rattle.adr_model.specs.Machine.{Publication}
 use Rattle.adr_board.proofs.Lasts.{last_is}

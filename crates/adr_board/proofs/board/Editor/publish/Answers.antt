@@ -1,4 +1,4 @@
-use Rattle.std.proofs.Common.{rules, ◌≡◌, ◌∙◌, ◌*◌, ap, arith, sym, subst, length}
+use Rattle.std.proofs.Common.{rules, ◌≡◌, ◌∙◌, ◌*◌, ◌∷◌, ◌++◌, [], ap, arith, sym, subst, length}
 use Rattle.std.specs.Arc.{arc_value}
 use Rattle.left_right.specs.Sides.{view as known}
 use Rattle.adr_model.specs.Edits.{after_from}
@@ -32,30 +32,33 @@ show_next-requires g c =
     let book = c.self.inside.desk.book in
     let leads : after_from book.base (journal_of book) ≡ book.objects = subst (λ (b : Ledger). after_from b.base (journal_of b) ≡ b.objects) c.book.ensures c.journal-leads.ensures.leads in
     let link = leads_on book last.book.objects (publication_in (arc_value c.in-Ok.prepared.shown)) leads kept.2 made.publication in
-    let t : Showing = record { snapshot = arc_value c.in-Ok.prepared.shown; attempt = c.self.inside.diary.attempts; page = c.again.result } in
-    may_follow _ (known c.self.inside.writer.desk.place) (showing c.self.inside.writer.desk.shown.value) t last c.self.inside.diary.page.log kept.0 kept.1 (search rules) link (search rules) (search rules) kept.6 (search rules)
+    let t : Showing = record { snapshot = arc_value c.in-Ok.prepared.shown; attempt = c.self.inside.diary.attempts; page = c.of-shown.result.page } in
+    rw (c.of-shown.ensures.snapshot, c.of-shown.ensures.attempt)
+    (may_follow _ (known c.self.inside.writer.desk.place) (showing c.self.inside.writer.desk.shown.value) t last c.self.inside.diary.page.log kept.0 kept.1 (search rules) link (search rules) (search rules) kept.6 (search rules))
 
 pub invariant_of-self-in-Ok-show_next : goal.invariant_of-self-in-Ok-show_next
 invariant_of-self-in-Ok-show_next g c =
     let kept = c.self.invariant in
     let made = c.in-Ok.ensures in
-    let shown = c.in-Ok-show_next.ensures.ok in
+    let own = c.of-shown.ensures.snapshot in
     let end = c.end-in-Ok-show_next in
     let diary = c.self.inside.diary in
     let before = known c.self.inside.writer.desk.place in
     let after = known c.show_next.new.writer.desk.place in
+    let value : (showing c.show_next.new.writer.desk.shown.value).snapshot ≡ arc_value c.in-Ok.prepared.shown = ap (λ s. s.snapshot) c.in-Ok-show_next.ensures.ok.0 ∙ ap arc_value own in
+    let more = subst (λ a. after ≡ before ++ publication_in (arc_value a) ∷ []) own c.in-Ok-show_next.ensures.ok.1 in
     let last = arc_value c.in-Ok.prepared.last in
     let same : last ≡ (arc_value c.in-Ok.prepared.shown) = made.last in
     let book = c.self.inside.desk.book in
     let leads : after_from book.base (journal_of book) ≡ book.objects = subst (λ (b : Ledger). after_from b.base (journal_of b) ≡ b.objects) c.book.ensures c.journal-leads.ensures.leads in
     let was = arc_value c.self.inside.last in
     let link = leads_on book was.book.objects (publication_in (arc_value c.in-Ok.prepared.shown)) leads kept.2 made.publication in
-    let t : Showing = record { snapshot = arc_value c.in-Ok.prepared.shown; attempt = diary.attempts; page = c.again.result } in
+    let t : Showing = record { snapshot = arc_value c.in-Ok.prepared.shown; attempt = diary.attempts; page = c.of-shown.result.page } in
     let may = may_follow g.J.Naming.history before (showing c.self.inside.writer.desk.shown.value) t was diary.page.log kept.0 kept.1 (search rules) link (search rules) (search rules) kept.6 (search rules) in
     let go = c.go_on_from.ensures in
     let objects = ap (λ s. s.book.objects) same ∙ (ap (λ p. p.book) made.publication ∙ (sym made.objects ∙ (sym made.leads ∙ sym (ap (λ d. sealed_of d.book) go)))) in
     let tie = ap (λ s. s.tie) same ∙ (made.tie.1 ∙ (sym made.tie.0 ∙ sym (ap (λ d. d.tie) go))) in
     let number : length before ≡ last.number = search rules in
     let place : length diary.page.log ≡ 2 * diary.attempts = diary.counted in
-    let history = after_shown diary.page.log end.new.self.page.log _ (publication_in (arc_value c.in-Ok.prepared.shown)) last.number diary.attempts before after end.ensures.log kept.6 place number shown.1 (search rules) in
-    (same ∙ sym (ap (λ s. s.snapshot) shown.0), shown_last g.J.Naming.history before after (showing c.self.inside.writer.desk.shown.value) t last may shown.1 same, objects, tie, grind arith, end.ensures.history ∙ kept.5, history.0, history.1, subst HasPrivateNames (sym made.objects ∙ sym (ap (λ (b : Ledger). b.objects) (ap (λ d. d.book) go))) kept.8)
+    let history = after_shown diary.page.log end.new.self.page.log _ (publication_in (arc_value c.in-Ok.prepared.shown)) last.number diary.attempts before after end.ensures.log kept.6 place number more (search rules) in
+    (same ∙ sym value, shown_last g.J.Naming.history before after (showing c.self.inside.writer.desk.shown.value) t last may more same, objects, tie, grind arith, end.ensures.history ∙ kept.5, history.0, history.1, subst HasPrivateNames (sym made.objects ∙ sym (ap (λ (b : Ledger). b.objects) (ap (λ d. d.book) go))) kept.8)
