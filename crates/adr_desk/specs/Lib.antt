@@ -1,3 +1,4 @@
+pub mod Accepted
 pub mod Desk
 pub mod Edited
 pub mod Ranks

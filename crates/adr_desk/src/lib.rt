@@ -2,6 +2,7 @@
 //! A book and the timelines of all its resources, each shown at every instant what governs, repaired by each edit where
 //! it touches.
 
+mod accepted;
 mod desk;
 mod empty;
 mod events;

@@ -1,17 +1,19 @@
 //! An accepted edit, made beside the old book.
 ghost use Rattle.std.specs.Prelude.{◌≡◌, ◌≤◌, ◌++◌, ◌∷◌, [], true, false, Ok, IsOk, IfOk, OnOk, OnErr};
 ghost use Rattle.adr_value.specs.Answer.{OnlyNoMemory};
-ghost use Rattle.adr_model.specs.Edits.{full_at, made, step, step_to};
+ghost use Rattle.adr_model.specs.Edits.{full_at, made, step_to};
 ghost use Rattle.adr_model.specs.Touches.{touches};
 ghost use Rattle.adr_model.specs.Whole.{IsWhole};
 ghost use Rattle.adr_audience.specs.Keys.{AreKeysOf};
 ghost use Rattle.adr_group.specs.Jobs.{IsCrew};
-ghost use Rattle.adr_lines.specs.Exchange.{IsIndexOf};
 ghost use Rattle.adr_schedule.specs.Seating.{AreSeatedFor};
 ghost use Rattle.adr_regroup.specs.Compared.{most_compared_in};
+ghost use Rattle.adr_regroup.specs.Edited.{IsEdited};
+ghost use Rattle.adr_desk.specs.Accepted.{IsAccepted};
 ghost use Rattle.adr_desk.specs.Desk.{AreOf, IsDesk};
 ghost use Rattle.adr_desk.specs.Edited.{is_of_event as the_is_of_event};
 
+use crate::accepted::Accepted;
 use crate::kinds::{is_of_event, is_of_program, is_of_ven};
 use crate::making::after_event;
 use crate::receipt::Touched;
@@ -19,9 +21,8 @@ use adr_audience::Audiences;
 use adr_book::{Book, Judged};
 use adr_group::{Done, Job};
 use adr_lines::Indexes;
-use adr_model::{Tie, edit_laws};
-use adr_object::Edit;
-use adr_regroup::{after_program, after_resource, after_ven};
+use adr_model::edit_laws;
+use adr_regroup::{Edited, after_program, after_resource, after_ven};
 use adr_resolution::Resolution;
 use adr_rule::Meter;
 use adr_schedule::Schedule;
@@ -56,38 +57,23 @@ fn committed(book: &Book, edit: &Judged) -> Result<Book, Refusal>
 fn regrouped<C: Fn(&Indexes, &[Job]) -> Result<Vec<Done>, Refusal>>(
     alloc: Global,
     crew: &C,
-    tie: Tie,
-    old: &Book,
-    new: &Book,
-    keys: &Audiences,
-    indexes: &Indexes,
-    schedule: &Schedule,
-    edit: &Edit,
+    edited: &Edited<'_>,
     meter: &mut Meter,
 ) -> Result<Schedule, Refusal>
     requires crew { IsCrew (λ v. v.items) (C.pre crew.now) (C.post crew.now) }
-    requires other { the_is_of_event edit.now ≡ false }
-    requires accepted { step old.now.objects edit.now ≡ Ok new.now.objects }
-    requires keys { AreKeysOf old.now.objects keys.now }
-    requires indexed { IsIndexOf tie old.now.objects.events indexes.now }
-    requires seated { AreSeatedFor tie old.now.objects schedule.now }
+    requires other { the_is_of_event edited.now.edit.now ≡ false }
+    requires edited { IsEdited edited.now }
     requires begun { meter.old ≡ 0 }
-    ensures seated { IfOk result (AreSeatedFor tie new.now.objects) }
-    ensures least { OnOk result (meter.new ≤ most_compared_in new.now.objects (touches old.now.objects new.now.objects)) }
+    ensures seated { IfOk result (AreSeatedFor edited.now.tie edited.now.new.now.objects) }
+    ensures least { OnOk result (meter.new ≤ most_compared_in edited.now.new.now.objects (touches edited.now.old.now.objects edited.now.new.now.objects)) }
     ensures refusal { OnlyNoMemory result }
 {
-    if is_of_program(edit) {
-        after_program(
-            alloc, crew, tie, old, new, keys, indexes, schedule, edit, meter,
-        )
-    } else if is_of_ven(edit) {
-        after_ven(
-            alloc, crew, tie, old, new, keys, indexes, schedule, edit, meter,
-        )
+    if is_of_program(edited.edit) {
+        after_program(alloc, crew, edited, meter)
+    } else if is_of_ven(edited.edit) {
+        after_ven(alloc, crew, edited, meter)
     } else {
-        after_resource(
-            alloc, crew, tie, old, new, keys, indexes, schedule, edit, meter,
-        )
+        after_resource(alloc, crew, edited, meter)
     }
 }
 
@@ -95,32 +81,34 @@ fn regrouped<C: Fn(&Indexes, &[Job]) -> Result<Vec<Done>, Refusal>>(
 fn followed<C: Fn(&Indexes, &[Job]) -> Result<Vec<Done>, Refusal>>(
     alloc: Global,
     crew: &C,
-    tie: Tie,
-    old: &Book,
-    new: &Book,
+    accepted: &Accepted<'_>,
     keys: &mut Audiences,
     indexes: &Indexes,
-    schedule: &Schedule,
-    edit: &Edit,
     meter: &mut Meter,
 ) -> Result<Shared<Schedule>, Refusal>
     requires crew { IsCrew (λ v. v.items) (C.pre crew.now) (C.post crew.now) }
-    requires other { the_is_of_event edit.now ≡ false }
-    requires whole { IsWhole old.now.objects }
-    requires accepted { step old.now.objects edit.now ≡ Ok new.now.objects }
-    requires desk { IsDesk tie old.now.objects keys.old indexes.now schedule.now }
+    requires other { the_is_of_event accepted.now.edit.now ≡ false }
+    requires whole { IsWhole accepted.now.old.now.objects }
+    requires accepted { IsAccepted accepted.now keys.old indexes.now }
     requires begun { meter.old ≡ 0 }
-    ensures seated { IfOk result (AreSeatedFor tie new.now.objects) }
-    ensures least { OnOk result (meter.new ≤ most_compared_in new.now.objects (touches old.now.objects new.now.objects)) }
-    ensures keys { OnOk result (AreKeysOf (made old.now.objects edit.now) keys.new) }
+    ensures seated { IfOk result (AreSeatedFor accepted.now.tie accepted.now.new.now.objects) }
+    ensures least { OnOk result (meter.new ≤ most_compared_in accepted.now.new.now.objects (touches accepted.now.old.now.objects accepted.now.new.now.objects)) }
+    ensures keys { OnOk result (AreKeysOf (made accepted.now.old.now.objects accepted.now.edit.now) keys.new) }
     ensures unchanged { OnErr result (keys.new ≡ keys.old) }
     ensures refusal { OnlyNoMemory result }
 {
-    let after = regrouped(
-        alloc, crew, tie, old, new, keys, indexes, schedule, edit, meter,
-    )?;
+    let edited = Edited {
+        tie: accepted.tie,
+        old: accepted.old,
+        new: accepted.new,
+        edit: accepted.edit,
+        keys,
+        indexes,
+        schedule: accepted.schedule,
+    };
+    let after = regrouped(alloc, crew, &edited, meter)?;
     let after = Shared::new(alloc, after)?;
-    keys.follow(old.objects(), edit)?;
+    keys.follow(accepted.old.objects(), accepted.edit)?;
     Ok(after)
 }
 
@@ -129,29 +117,22 @@ fn followed<C: Fn(&Indexes, &[Job]) -> Result<Vec<Done>, Refusal>>(
 fn after_other<C: Fn(&Indexes, &[Job]) -> Result<Vec<Done>, Refusal>>(
     alloc: Global,
     crew: &C,
-    tie: Tie,
-    old: &Book,
-    new: &Book,
+    accepted: &Accepted<'_>,
     keys: &mut Audiences,
     indexes: &Indexes,
-    schedule: &Schedule,
-    edit: &Edit,
     meter: &mut Meter,
 ) -> Result<Shared<Schedule>, Refusal>
     requires crew { IsCrew (λ v. v.items) (C.pre crew.now) (C.post crew.now) }
-    requires other { the_is_of_event edit.now ≡ false }
-    requires accepted { step old.now.objects edit.now ≡ Ok new.now.objects }
-    requires desk { IsDesk tie old.now.objects keys.old indexes.now schedule.now }
+    requires other { the_is_of_event accepted.now.edit.now ≡ false }
+    requires accepted { IsAccepted accepted.now keys.old indexes.now }
     requires begun { meter.old ≡ 0 }
-    ensures ok { IfOk result (λ after. IsDesk tie new.now.objects keys.new indexes.now after) }
-    ensures least { OnOk result (meter.new ≤ most_compared_in new.now.objects (touches old.now.objects new.now.objects)) }
+    ensures ok { IfOk result (λ after. IsDesk accepted.now.tie accepted.now.new.now.objects keys.new indexes.now after) }
+    ensures least { OnOk result (meter.new ≤ most_compared_in accepted.now.new.now.objects (touches accepted.now.old.now.objects accepted.now.new.now.objects)) }
     ensures err { OnErr result (keys.new ≡ keys.old) }
     ensures refusal { OnlyNoMemory result }
 {
-    old.book_laws();
-    let after = followed(
-        alloc, crew, tie, old, new, keys, indexes, schedule, edit, meter,
-    )?;
+    accepted.old.book_laws();
+    let after = followed(alloc, crew, accepted, keys, indexes, meter)?;
     Ok(after)
 }
 
@@ -160,33 +141,23 @@ fn after_other<C: Fn(&Indexes, &[Job]) -> Result<Vec<Done>, Refusal>>(
 fn grouped<C: Fn(&Indexes, &[Job]) -> Result<Vec<Done>, Refusal>>(
     alloc: Global,
     crew: &C,
-    tie: Tie,
-    old: &Book,
-    new: &Book,
+    accepted: &Accepted<'_>,
     keys: &mut Audiences,
     indexes: &mut Indexes,
-    schedule: &Schedule,
-    edit: &Judged,
     meter: &mut Meter,
 ) -> Result<Shared<Schedule>, Refusal>
     requires crew { IsCrew (λ v. v.items) (C.pre crew.now) (C.post crew.now) }
-    requires accepted { step old.now.objects edit.now ≡ Ok new.now.objects }
-    requires desk { IsDesk tie old.now.objects keys.old indexes.old schedule.now }
+    requires accepted { IsAccepted accepted.now keys.old indexes.old }
     requires begun { meter.old ≡ 0 }
-    ensures ok { IfOk result (λ after. IsDesk tie new.now.objects keys.new indexes.new after) }
-    ensures least { OnOk result (meter.new ≤ most_compared_in new.now.objects (touches old.now.objects new.now.objects)) }
-    ensures err { OnErr result (IsDesk tie old.now.objects keys.new indexes.new schedule.now) }
+    ensures ok { IfOk result (λ after. IsDesk accepted.now.tie accepted.now.new.now.objects keys.new indexes.new after) }
+    ensures least { OnOk result (meter.new ≤ most_compared_in accepted.now.new.now.objects (touches accepted.now.old.now.objects accepted.now.new.now.objects)) }
+    ensures err { OnErr result (IsDesk accepted.now.tie accepted.now.old.now.objects keys.new indexes.new accepted.now.schedule.now) }
     ensures refusal { OnlyNoMemory result }
 {
-    if is_of_event(edit.edit()) {
-        after_event(
-            alloc, crew, tie, old, new, keys, indexes, schedule, edit, meter,
-        )
+    if is_of_event(accepted.edit) {
+        after_event(alloc, crew, accepted, keys, indexes, meter)
     } else {
-        let edit = edit.edit();
-        after_other(
-            alloc, crew, tie, old, new, keys, indexes, schedule, edit, meter,
-        )
+        after_other(alloc, crew, accepted, keys, indexes, meter)
     }
 }
 
@@ -218,18 +189,15 @@ pub(crate) fn make<C: Fn(&Indexes, &[Job]) -> Result<Vec<Done>, Refusal>>(
     let after = committed(book, edit)?;
     let touched = Touched::between(book.copy()?, after.copy()?, edit.edit().copy()?);
     let mut meter = Meter::new();
-    let schedule = grouped(
-        alloc,
-        crew,
-        old.tie(),
-        book,
-        &after,
-        keys,
-        indexes,
-        old.schedule(),
-        edit,
-        &mut meter,
-    )?;
+    let accepted = Accepted {
+        tie: old.tie(),
+        old: book,
+        new: &after,
+        edit: edit.edit(),
+        layout: edit.layout(),
+        schedule: old.schedule(),
+    };
+    let schedule = grouped(alloc, crew, &accepted, keys, indexes, &mut meter)?;
     Ok(Made {
         resolution: Resolution::of(old.tie(), after, schedule),
         touched,

@@ -1,11 +1,9 @@
 //! An accepted edit of an event, made to the indexes, the keys and the groups.
-ghost use Rattle.std.specs.Prelude.{◌≡◌, ◌≤◌, true, Ok, IsOk, IfOk, OnOk, OnErr};
+ghost use Rattle.std.specs.Prelude.{◌≡◌, ◌≤◌, true, IfOk, OnOk, OnErr};
 ghost use Rattle.adr_value.specs.Answer.{OnlyNoMemory};
 ghost use Rattle.adr_value.specs.declared.payload.PayloadType.{PayloadType as AnyType};
-ghost use Rattle.adr_model.specs.Book.{Book as Objects};
-ghost use Rattle.adr_model.specs.Edits.{made, step};
+ghost use Rattle.adr_model.specs.Edits.{made};
 ghost use Rattle.adr_model.specs.Touches.{touches};
-ghost use Rattle.adr_model.specs.Whole.{IsWhole};
 ghost use Rattle.adr_audience.specs.Keys.{AreKeysOf};
 ghost use Rattle.adr_index.specs.Index.{inserted_all, others_all, AreNew};
 ghost use Rattle.adr_stretch.specs.Grouped.{entries_under};
@@ -15,19 +13,18 @@ ghost use Rattle.adr_lines.specs.Indexes.{under};
 ghost use Rattle.adr_schedule.specs.Seating.{AreSeatedFor};
 ghost use Rattle.adr_schedule.specs.Shift.{entries_in, AreTwo};
 ghost use Rattle.adr_regroup.specs.Compared.{most_compared_in};
-ghost use Rattle.adr_desk.specs.Desk.{HasRoom, IsDesk, IsSideOf};
-ghost use Rattle.adr_desk.specs.Edited.{come_of, gone_of, is_of_event, with_come, HaveOneId, IsExchanged};
+ghost use Rattle.adr_desk.specs.Accepted.{IsAccepted, IsChangeBy};
+ghost use Rattle.adr_desk.specs.Desk.{IsDesk};
+ghost use Rattle.adr_desk.specs.Edited.{come_of, is_of_event, with_come};
 
+use crate::accepted::Accepted;
 use crate::events::{joining, leaving};
 use crate::laws::edits_have_room;
 use crate::ranks::NewestRanks;
 use crate::side::{come_side, gone_side};
 use adr_audience::Audiences;
-use adr_book::{Book, Judged};
 use adr_group::{Done, Job, repairs_compare_little, right_moves};
 use adr_lines::{Indexes, exchange_laws};
-use adr_model::Tie;
-use adr_object::Edit;
 use adr_rule::Meter;
 use adr_schedule::{Change, Schedule, Side};
 use adr_shared::Shared;
@@ -68,35 +65,30 @@ fn take_out(indexes: &mut Indexes, leaving: &[TypeEntries])
 fn regrouped<C: Fn(&Indexes, &[Job]) -> Result<Vec<Done>, Refusal>>(
     alloc: Global,
     crew: &C,
-    tie: Tie,
-    book: &Book,
+    accepted: &Accepted<'_>,
     keys: &Audiences,
     indexes: &Indexes,
-    schedule: &Schedule,
-    edit: &Edit,
     change: &Change,
     meter: &mut Meter,
 ) -> Result<Schedule, Refusal>
     requires crew { IsCrew (λ v. v.items) (C.pre crew.now) (C.post crew.now) }
-    requires whole { IsWhole book.now.objects }
-    requires keys { AreKeysOf book.now.objects keys.now }
-    requires gone { IsSideOf tie (gone_of book.now.objects edit.now) change.now.gone }
-    requires come { IsSideOf tie (come_of book.now.objects edit.now) change.now.come }
+    requires change { IsChangeBy accepted.now change.now }
     requires two { AreTwo change.now }
-    requires indexed { IsIndexOf tie (with_come book.now.objects (come_of book.now.objects edit.now)) indexes.now }
-    requires room { HasRoom tie book.now.objects (gone_of book.now.objects edit.now) (come_of book.now.objects edit.now) }
+    requires keys { AreKeysOf accepted.now.old.now.objects keys.now }
+    requires indexed { IsIndexOf accepted.now.tie (with_come accepted.now.old.now.objects (come_of accepted.now.old.now.objects accepted.now.edit.now)) indexes.now }
+    requires seated { AreSeatedFor accepted.now.tie accepted.now.old.now.objects accepted.now.schedule.now }
     requires begun { meter.old ≡ 0 }
-    ensures seated { IfOk result (λ after. (new : Objects) → IsExchanged book.now.objects new (gone_of book.now.objects edit.now) (come_of book.now.objects edit.now) → AreSeatedFor tie book.now.objects schedule.now → AreSeatedFor tie new after) }
-    ensures least { OnOk result ((new : Objects) → IsWhole new → IsExchanged book.now.objects new (gone_of book.now.objects edit.now) (come_of book.now.objects edit.now) → HaveOneId book.now.objects new (gone_of book.now.objects edit.now) (come_of book.now.objects edit.now) → AreSeatedFor tie book.now.objects schedule.now → meter.new ≤ most_compared_in new (touches book.now.objects new)) }
+    ensures seated { IfOk result (AreSeatedFor accepted.now.tie accepted.now.new.now.objects) }
+    ensures least { OnOk result (meter.new ≤ most_compared_in accepted.now.new.now.objects (touches accepted.now.old.now.objects accepted.now.new.now.objects)) }
     ensures refusal { OnlyNoMemory result }
 {
     repairs_compare_little();
     right_moves();
-    let joining = joining(alloc, keys, book, edit)?;
-    let leaving = leaving(alloc, keys, book, edit)?;
-    let newest = NewestRanks::of(book);
-    let ranks = newest.under(tie);
-    let mid = schedule.shifted(
+    let joining = joining(alloc, keys, accepted.old, accepted.edit)?;
+    let leaving = leaving(alloc, keys, accepted.old, accepted.edit)?;
+    let newest = NewestRanks::of(accepted.old);
+    let ranks = newest.under(accepted.tie);
+    let mid = accepted.schedule.shifted(
         alloc,
         indexes,
         crew,
@@ -108,7 +100,7 @@ fn regrouped<C: Fn(&Indexes, &[Job]) -> Result<Vec<Done>, Refusal>>(
     if leaving.as_slice() == joining.as_slice() {
         return Ok(mid);
     }
-    let gone = gone_side(alloc, tie, book, edit)?;
+    let gone = gone_side(alloc, accepted.tie, accepted.old, accepted.edit)?;
     let alone = Change { gone, come: None };
     let no_ranks: Option<&NewestRanks> = None;
     let after = mid.shifted(
@@ -127,36 +119,28 @@ fn regrouped<C: Fn(&Indexes, &[Job]) -> Result<Vec<Done>, Refusal>>(
 fn followed<C: Fn(&Indexes, &[Job]) -> Result<Vec<Done>, Refusal>>(
     alloc: Global,
     crew: &C,
-    tie: Tie,
-    book: &Book,
+    accepted: &Accepted<'_>,
     keys: &mut Audiences,
     indexes: &Indexes,
-    schedule: &Schedule,
-    edit: &Edit,
     change: &Change,
     meter: &mut Meter,
 ) -> Result<Shared<Schedule>, Refusal>
     requires crew { IsCrew (λ v. v.items) (C.pre crew.now) (C.post crew.now) }
-    requires whole { IsWhole book.now.objects }
-    requires accepted { IsOk (step book.now.objects edit.now) }
-    requires keys { AreKeysOf book.now.objects keys.old }
-    requires gone { IsSideOf tie (gone_of book.now.objects edit.now) change.now.gone }
-    requires come { IsSideOf tie (come_of book.now.objects edit.now) change.now.come }
+    requires change { IsChangeBy accepted.now change.now }
     requires two { AreTwo change.now }
-    requires indexed { IsIndexOf tie (with_come book.now.objects (come_of book.now.objects edit.now)) indexes.now }
-    requires room { HasRoom tie book.now.objects (gone_of book.now.objects edit.now) (come_of book.now.objects edit.now) }
+    requires keys { AreKeysOf accepted.now.old.now.objects keys.old }
+    requires indexed { IsIndexOf accepted.now.tie (with_come accepted.now.old.now.objects (come_of accepted.now.old.now.objects accepted.now.edit.now)) indexes.now }
+    requires seated { AreSeatedFor accepted.now.tie accepted.now.old.now.objects accepted.now.schedule.now }
     requires begun { meter.old ≡ 0 }
-    ensures seated { IfOk result (λ after. (new : Objects) → IsExchanged book.now.objects new (gone_of book.now.objects edit.now) (come_of book.now.objects edit.now) → AreSeatedFor tie book.now.objects schedule.now → AreSeatedFor tie new after) }
-    ensures least { OnOk result ((new : Objects) → IsWhole new → IsExchanged book.now.objects new (gone_of book.now.objects edit.now) (come_of book.now.objects edit.now) → HaveOneId book.now.objects new (gone_of book.now.objects edit.now) (come_of book.now.objects edit.now) → AreSeatedFor tie book.now.objects schedule.now → meter.new ≤ most_compared_in new (touches book.now.objects new)) }
-    ensures keys { OnOk result (AreKeysOf (made book.now.objects edit.now) keys.new) }
+    ensures seated { IfOk result (AreSeatedFor accepted.now.tie accepted.now.new.now.objects) }
+    ensures least { OnOk result (meter.new ≤ most_compared_in accepted.now.new.now.objects (touches accepted.now.old.now.objects accepted.now.new.now.objects)) }
+    ensures keys { OnOk result (AreKeysOf (made accepted.now.old.now.objects accepted.now.edit.now) keys.new) }
     ensures unchanged { OnErr result (keys.new ≡ keys.old) }
     ensures refusal { OnlyNoMemory result }
 {
-    let after = regrouped(
-        alloc, crew, tie, book, keys, indexes, schedule, edit, change, meter,
-    )?;
+    let after = regrouped(alloc, crew, accepted, keys, indexes, change, meter)?;
     let after = Shared::new(alloc, after)?;
-    keys.follow(book.objects(), edit)?;
+    keys.follow(accepted.old.objects(), accepted.edit)?;
     Ok(after)
 }
 
@@ -164,35 +148,24 @@ fn followed<C: Fn(&Indexes, &[Job]) -> Result<Vec<Done>, Refusal>>(
 fn exchanged<C: Fn(&Indexes, &[Job]) -> Result<Vec<Done>, Refusal>>(
     alloc: Global,
     crew: &C,
-    tie: Tie,
-    old: &Book,
-    new: &Book,
+    accepted: &Accepted<'_>,
     keys: &mut Audiences,
     indexes: &mut Indexes,
-    schedule: &Schedule,
-    edit: &Edit,
     change: &Change,
     meter: &mut Meter,
 ) -> Result<Shared<Schedule>, Refusal>
     requires crew { IsCrew (λ v. v.items) (C.pre crew.now) (C.post crew.now) }
-    requires whole { IsWhole old.now.objects }
-    requires accepted { step old.now.objects edit.now ≡ Ok new.now.objects }
-    requires exchange { IsExchanged old.now.objects new.now.objects (gone_of old.now.objects edit.now) (come_of old.now.objects edit.now) }
-    requires gone { IsSideOf tie (gone_of old.now.objects edit.now) change.now.gone }
-    requires come { IsSideOf tie (come_of old.now.objects edit.now) change.now.come }
-    requires room { HasRoom tie old.now.objects (gone_of old.now.objects edit.now) (come_of old.now.objects edit.now) }
-    requires desk { IsDesk tie old.now.objects keys.old indexes.old schedule.now }
+    requires change { IsChangeBy accepted.now change.now }
+    requires desk { IsDesk accepted.now.tie accepted.now.old.now.objects keys.old indexes.old accepted.now.schedule.now }
     requires begun { meter.old ≡ 0 }
-    ensures ok { IfOk result (λ after. IsDesk tie new.now.objects keys.new indexes.new after) }
-    ensures least { OnOk result (IsWhole new.now.objects → HaveOneId old.now.objects new.now.objects (gone_of old.now.objects edit.now) (come_of old.now.objects edit.now) → meter.new ≤ most_compared_in new.now.objects (touches old.now.objects new.now.objects)) }
-    ensures err { OnErr result (IsDesk tie old.now.objects keys.new indexes.new schedule.now) }
+    ensures ok { IfOk result (λ after. IsDesk accepted.now.tie accepted.now.new.now.objects keys.new indexes.new after) }
+    ensures least { OnOk result (meter.new ≤ most_compared_in accepted.now.new.now.objects (touches accepted.now.old.now.objects accepted.now.new.now.objects)) }
+    ensures err { OnErr result (IsDesk accepted.now.tie accepted.now.old.now.objects keys.new indexes.new accepted.now.schedule.now) }
     ensures refusal { OnlyNoMemory result }
 {
     exchange_laws();
     put_in(alloc, indexes, entries(&change.come))?;
-    match followed(
-        alloc, crew, tie, old, keys, indexes, schedule, edit, change, meter,
-    ) {
+    match followed(alloc, crew, accepted, keys, indexes, change, meter) {
         Ok(after) => {
             take_out(indexes, entries(&change.gone));
             Ok(after)
@@ -204,38 +177,36 @@ fn exchanged<C: Fn(&Indexes, &[Job]) -> Result<Vec<Done>, Refusal>>(
     }
 }
 
-/// Makes an accepted edit of an event to the keys and the indexes, and answers the groups after it; `new` is the book
-/// after the edit. A refused call leaves keys and indexes of the old book.
+/// Makes an accepted edit of an event to the keys and the indexes, and answers the groups after it. A refused call leaves
+/// keys and indexes of the old book.
 pub(crate) fn after_event<C: Fn(&Indexes, &[Job]) -> Result<Vec<Done>, Refusal>>(
     alloc: Global,
     crew: &C,
-    tie: Tie,
-    old: &Book,
-    new: &Book,
+    accepted: &Accepted<'_>,
     keys: &mut Audiences,
     indexes: &mut Indexes,
-    schedule: &Schedule,
-    edit: &Judged,
     meter: &mut Meter,
 ) -> Result<Shared<Schedule>, Refusal>
     requires crew { IsCrew (λ v. v.items) (C.pre crew.now) (C.post crew.now) }
-    requires event { is_of_event edit.now ≡ true }
-    requires accepted { step old.now.objects edit.now ≡ Ok new.now.objects }
-    requires desk { IsDesk tie old.now.objects keys.old indexes.old schedule.now }
+    requires event { is_of_event accepted.now.edit.now ≡ true }
+    requires accepted { IsAccepted accepted.now keys.old indexes.old }
     requires begun { meter.old ≡ 0 }
-    ensures ok { IfOk result (λ after. IsDesk tie new.now.objects keys.new indexes.new after) }
-    ensures least { OnOk result (meter.new ≤ most_compared_in new.now.objects (touches old.now.objects new.now.objects)) }
-    ensures err { OnErr result (IsDesk tie old.now.objects keys.new indexes.new schedule.now) }
+    ensures ok { IfOk result (λ after. IsDesk accepted.now.tie accepted.now.new.now.objects keys.new indexes.new after) }
+    ensures least { OnOk result (meter.new ≤ most_compared_in accepted.now.new.now.objects (touches accepted.now.old.now.objects accepted.now.new.now.objects)) }
+    ensures err { OnErr result (IsDesk accepted.now.tie accepted.now.old.now.objects keys.new indexes.new accepted.now.schedule.now) }
     ensures refusal { OnlyNoMemory result }
 {
-    old.book_laws();
-    new.book_laws();
+    accepted.old.book_laws();
+    accepted.new.book_laws();
     edits_have_room();
-    let come = come_side(alloc, tie, old, edit)?;
-    let edit = edit.edit();
-    let gone = gone_side(alloc, tie, old, edit)?;
+    let come = come_side(
+        alloc,
+        accepted.tie,
+        accepted.old,
+        accepted.edit,
+        accepted.layout,
+    )?;
+    let gone = gone_side(alloc, accepted.tie, accepted.old, accepted.edit)?;
     let change = Change { gone, come };
-    exchanged(
-        alloc, crew, tie, old, new, keys, indexes, schedule, edit, &change, meter,
-    )
+    exchanged(alloc, crew, accepted, keys, indexes, &change, meter)
 }

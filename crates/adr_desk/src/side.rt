@@ -3,11 +3,11 @@ ghost use Rattle.std.specs.Prelude.{◌≡◌, ◌+◌, Some, IfOk};
 ghost use Rattle.adr_value.specs.Answer.{OnlyNoMemory};
 ghost use Rattle.adr_model.specs.Book.{event_by};
 ghost use Rattle.adr_stretch.specs.Grouped.{written_event};
-ghost use Rattle.adr_book.specs.Judged.{placed_of};
+ghost use Rattle.adr_book.specs.Judged.{placed_by, placed_of};
 ghost use Rattle.adr_desk.specs.Desk.{IsSideOf};
 ghost use Rattle.adr_desk.specs.Edited.{come_of, gone_for, gone_of, made_of};
 
-use adr_book::{Book, Judged};
+use adr_book::Book;
 use adr_model::{Placed, Tie};
 use adr_object::{Edit, Event, Id, Kind, Object};
 use adr_schedule::Side;
@@ -89,19 +89,21 @@ fn made_side(
     }
 }
 
-/// The event that the edit makes, with its layout from judging.
+/// The event that the edit makes, whose intervals lie at those places.
 pub(crate) fn come_side(
     alloc: Global,
     tie: Tie,
     book: &Book,
-    edit: &Judged,
+    edit: &Edit,
+    places: &[Placed],
 ) -> Result<Option<Side>, Refusal>
+    requires { places.now ≡ placed_by edit.now }
     ensures side { IfOk result (λ side. IsSideOf tie (come_of book.now.objects edit.now) side) }
     ensures refusal { OnlyNoMemory result }
 {
-    match edit.edit() {
-        Edit::Create(object) => made_side(alloc, tie, book, object, edit.layout()),
-        Edit::Change(object) => made_side(alloc, tie, book, object, edit.layout()),
+    match edit {
+        Edit::Create(object) => made_side(alloc, tie, book, object, places),
+        Edit::Change(object) => made_side(alloc, tie, book, object, places),
         Edit::Remove(_, _) => Ok(None),
     }
 }

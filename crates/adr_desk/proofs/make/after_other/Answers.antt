@@ -8,11 +8,11 @@ use Rattle.adr_desk.proofs.make.after_other.Goals as goal
 
 pub returns-clause-ok : goal.returns-clause-ok
 returns-clause-ok g c =
-    let old = c.args.old.now.objects in
-    let new = c.args.new.now.objects in
-    let edit = c.args.edit.now in
+    let old = c.args.accepted.now.old.now.objects in
+    let new = c.args.accepted.now.new.now.objects in
+    let edit = c.args.accepted.now.edit.now in
     record {
-      keys_are = subst (λ b. AreKeysOf b c.followed.new.keys) (accepted old new edit c.requires.accepted).1 c.in_ok-after.ensures.keys;
-      indexed = subst (λ (es : List Written). IsIndexOf c.args.tie es c.args.indexes.now) (other_events old new edit c.requires.other c.requires.accepted) c.requires.desk.indexed;
+      keys_are = subst (λ b. AreKeysOf b c.followed.new.keys) (accepted old new edit c.requires.accepted.made).1 c.in_ok-after.ensures.keys;
+      indexed = subst (λ (es : List Written). IsIndexOf c.args.accepted.now.tie es c.args.indexes.now) (other_events old new edit c.requires.other c.requires.accepted.made) c.requires.accepted.desk.indexed;
       seated = c.in_ok-after.ensures.seated;
     }

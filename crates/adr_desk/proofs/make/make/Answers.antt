@@ -1,3 +1,5 @@
+use Rattle.std.proofs.Common.{ap, sym, ◌∙◌}
+use Rattle.adr_book.specs.Judged.{placed_by}
 use Rattle.adr_desk.proofs.make.make.Goals as goal
 
 pub between-touched-requires : goal.between-touched-requires
@@ -9,4 +11,8 @@ between-touched-requires g c =
 pub grouped-requires-clause-accepted : goal.grouped-requires-clause-accepted
 grouped-requires-clause-accepted g c =
     let book = c.book-book.result.now in
-    c.edit_laws.ensures.bases book.base.version book.objects c.in_ok-after.after.objects c.args.edit.now c.in_ok-after.ensures.objects
+    record {
+      made = rw c.edit-2.ensures (c.edit_laws.ensures.bases book.base.version book.objects c.in_ok-after.after.objects c.args.edit.now c.in_ok-after.ensures.objects);
+      layout = c.layout.ensures ∙ ap placed_by (sym c.edit-2.ensures);
+      desk = rw (c.tie.ensures, c.book-book.ensures) (record { keys_are = c.requires.desk.keys_are; indexed = c.requires.desk.indexed; seated = c.schedule.ensures });
+    }

@@ -22,91 +22,104 @@ use Rattle.adr_desk.proofs.making.regrouped.Goals as goal
 
 pub shifted-requires-clause-laid : goal.shifted-requires-clause-laid
 shifted-requires-clause-laid g c =
-    let book = c.args.book.now.objects in
-    let come = come_of book c.args.edit.now in
+    let accepted = c.args.accepted.now in
+    let book = accepted.old.now.objects in
+    let come = come_of book accepted.edit.now in
     let rank_in = λ (ranks : NewestRanks) (winner : Winner). newest_rank ranks.book.now.objects.events winner in
-    let ranks = ap (option_map rank_in) c.under-ranks.ensures ∙ map_if_newest rank_in c.args.tie c.of-newest.result ∙ ap (λ (b : Ledger). if_newest c.args.tie (newest_rank b.objects.events)) c.of-newest.ensures in
+    let ranks = ap (option_map rank_in) c.under-ranks.ensures ∙ map_if_newest rank_in accepted.tie c.of-newest.result ∙ ap (λ (b : Ledger). if_newest accepted.tie (newest_rank b.objects.events)) c.of-newest.ensures in
     subst (λ (o : Option (Winner → Rank)). IsLaidBy o c.args.indexes.now c.args.change.now) (sym ranks)
-    (laid_by c.args.tie book come c.args.indexes.now c.args.change.now c.requires.whole (next_number book c.args.edit.now) c.requires.indexed c.requires.come)
+    (laid_by accepted.tie book come c.args.indexes.now c.args.change.now c.requires.change.whole (next_number book accepted.edit.now) c.requires.indexed c.requires.change.come)
 
 pub shifted-requires-clause-room : goal.shifted-requires-clause-room
 shifted-requires-clause-room g c =
-    let book = c.args.book.now.objects in
-    let edit = c.args.edit.now in
-    let room = c.requires.room c.args.indexes.now (entries_in c.args.change.now.gone) (entries_in c.args.change.now.come) c.requires.indexed
-    (groups_of_side c.args.tie (gone_of book edit) c.args.change.now.gone c.requires.gone) (groups_of_side c.args.tie (come_of book edit) c.args.change.now.come c.requires.come) in
+    let accepted = c.args.accepted.now in
+    let book = accepted.old.now.objects in
+    let edit = accepted.edit.now in
+    let room = c.requires.change.room c.args.indexes.now (entries_in c.args.change.now.gone) (entries_in c.args.change.now.come) c.requires.indexed
+    (groups_of_side accepted.tie (gone_of book edit) c.args.change.now.gone c.requires.change.gone) (groups_of_side accepted.tie (come_of book edit) c.args.change.now.come c.requires.change.come) in
     let few : length c.as_slice.result.now * most_possible (sides_of c.args.change.now) c.args.indexes.now < 2 ^ 127 =
     rw c.as_slice.ensures.value (room_for_both (length c.in_ok-joining.joining.items) (length book.resources) (most_possible (sides_of c.args.change.now) c.args.indexes.now) c.in_ok-joining.ensures.count room) in
     omega (arith, few, c.requires.begun)
 
 pub shifted-requires-2-clause-room : goal.shifted-requires-2-clause-room
 shifted-requires-2-clause-room g c =
-    let book = c.args.book.now.objects in
-    let edit = c.args.edit.now in
+    let accepted = c.args.accepted.now in
+    let book = accepted.old.now.objects in
+    let edit = accepted.edit.now in
     let alone : Change = record { gone = c.in_ok-gone.gone; come = None } in
-    let room = c.requires.room c.args.indexes.now (entries_in c.args.change.now.gone) (entries_in c.args.change.now.come) c.requires.indexed
-    (groups_of_side c.args.tie (gone_of book edit) c.args.change.now.gone c.requires.gone) (groups_of_side c.args.tie (come_of book edit) c.args.change.now.come c.requires.come) in
+    let room = c.requires.change.room c.args.indexes.now (entries_in c.args.change.now.gone) (entries_in c.args.change.now.come) c.requires.indexed
+    (groups_of_side accepted.tie (gone_of book edit) c.args.change.now.gone c.requires.change.gone) (groups_of_side accepted.tie (come_of book edit) c.args.change.now.come c.requires.change.come) in
     let few : length c.as_slice.result.now * most_possible (sides_of c.args.change.now) c.args.indexes.now < 2 ^ 127 =
     rw c.as_slice.ensures.value (room_for_both (length c.in_ok-joining.joining.items) (length book.resources) (most_possible (sides_of c.args.change.now) c.args.indexes.now) c.in_ok-joining.ensures.count room) in
-    let again = c.requires.room c.args.indexes.now (entries_in c.in_ok-gone.gone) (entries_in c.args.change.now.come) c.requires.indexed
-    (groups_of_side c.args.tie (gone_of book edit) c.in_ok-gone.gone c.in_ok-gone.ensures.side) (groups_of_side c.args.tie (come_of book edit) c.args.change.now.come c.requires.come) in
+    let again = c.requires.change.room c.args.indexes.now (entries_in c.in_ok-gone.gone) (entries_in c.args.change.now.come) c.requires.indexed
+    (groups_of_side accepted.tie (gone_of book edit) c.in_ok-gone.gone c.in_ok-gone.ensures.side) (groups_of_side accepted.tie (come_of book edit) c.args.change.now.come c.requires.change.come) in
     let less : length c.as_slice-4.result.now * most_possible (sides_of alone) c.args.indexes.now < 2 ^ 127 =
     rw c.as_slice-4.ensures.value (room_for_one c.args.indexes.now c.repairs_compare_little.ensures.both alone (entries_in c.args.change.now.come) (length c.in_ok-leaving.leaving.items) (length book.resources) refl c.in_ok-leaving.ensures.count again) in
     omega (arith, few, less, c.requires.begun, c.shifted.ensures.compared)
 
 pub returns-then-eq-clause-seated : goal.returns-then-eq-clause-seated
 returns-then-eq-clause-seated g c =
-    let book = c.args.book.now.objects in
-    let edit = c.args.edit.now in
+    let accepted = c.args.accepted.now in
+    let book = accepted.old.now.objects in
+    let edit = accepted.edit.now in
     let joining = c.as_slice.result.now in
     let stay : Change = record { gone = c.args.change.now.gone; come = None } in
     let same : c.in_ok-leaving.leaving.items ≡ joining = sym c.as_slice-2.ensures.value ∙ ((slice_eq-Decides Decides-eqb c.as_slice-2.result.now c.as_slice-3.result.now c.eq.result c.eq.ensures).0 c.if-eq.true ∙ (c.as_slice-3.ensures.value ∙ sym c.as_slice.ensures.value)) in
-    seated_after c.right_moves.ensures c.args.tie book (gone_of book edit) (come_of book edit) c.args.indexes.now c.args.change.now stay
-    c.requires.gone c.requires.come c.requires.gone refl c.requires.indexed
-    c.args.schedule.now c.in_ok-mid.mid c.in_ok-mid.mid joining joining
+    seated_after c.right_moves.ensures accepted.tie book (gone_of book edit) (come_of book edit) c.args.indexes.now c.args.change.now stay
+    c.requires.change.gone c.requires.change.come c.requires.change.gone refl c.requires.indexed
+    accepted.schedule.now c.in_ok-mid.mid c.in_ok-mid.mid joining joining
     (λ p r v at e. ap (λ ps. is_among ps p) c.as_slice.ensures.value ∙ c.in_ok-joining.ensures.apply p r v at e)
     (λ p r u at e. ap (λ ps. is_among ps p) (sym same) ∙ c.in_ok-leaving.ensures.apply p r u at e)
     c.in_ok-mid.ensures.shifted c.in_ok-mid.ensures.right
-    (same_places (number_in c.args.change.now.gone) (number_in c.args.change.now.come) joining c.args.schedule.now c.in_ok-mid.mid c.requires.two c.in_ok-mid.ensures.shifted)
+    (same_places (number_in c.args.change.now.gone) (number_in c.args.change.now.come) joining accepted.schedule.now c.in_ok-mid.mid c.requires.two c.in_ok-mid.ensures.shifted)
     (λ tie events indexed sides right. right)
+    accepted.new.now.objects c.requires.change.exchange c.requires.seated
 
 pub returns-then-eq-clause-least : goal.returns-then-eq-clause-least
-returns-then-eq-clause-least g c new whole x one seated =
-    let book = c.args.book.now.objects in
-    let edit = c.args.edit.now in
+returns-then-eq-clause-least g c =
+    let accepted = c.args.accepted.now in
+    let new = accepted.new.now.objects in
+    let one = c.requires.change.one_id in
+    let book = accepted.old.now.objects in
+    let edit = accepted.edit.now in
     let joining = c.in_ok-joining.joining.items in
     let leaving = c.in_ok-leaving.leaving.items in
     let stay : Change = record { gone = c.args.change.now.gone; come = None } in
-    let cost = shifts_cost c.args.tie book new (gone_of book edit) (come_of book edit) x c.requires.whole whole one.0 one.1 one.2 c.args.indexes.now c.requires.indexed c.args.change.now stay
-    c.requires.gone c.requires.come c.requires.gone refl c.args.schedule.now c.in_ok-mid.mid seated joining leaving c.in_ok-joining.ensures.apply
-    (subst (λ (ps : List ℕ). IsShifted (number_in c.args.change.now.gone) (number_in c.args.change.now.come) ps c.args.schedule.now c.in_ok-mid.mid) c.as_slice.ensures.value c.in_ok-mid.ensures.shifted)
+    let cost = shifts_cost accepted.tie book new (gone_of book edit) (come_of book edit) c.requires.change.exchange c.requires.change.whole c.requires.change.whole_after one.0 one.1 one.2 c.args.indexes.now c.requires.indexed c.args.change.now stay
+    c.requires.change.gone c.requires.change.come c.requires.change.gone refl accepted.schedule.now c.in_ok-mid.mid c.requires.seated joining leaving c.in_ok-joining.ensures.apply
+    (subst (λ (ps : List ℕ). IsShifted (number_in c.args.change.now.gone) (number_in c.args.change.now.come) ps accepted.schedule.now c.in_ok-mid.mid) c.as_slice.ensures.value c.in_ok-mid.ensures.shifted)
     c.in_ok-joining.ensures.once c.in_ok-leaving.ensures.once in
-    let first = ap (sum_by (most_at c.args.change.now c.args.indexes.now c.args.schedule.now)) c.as_slice.ensures.value in
+    let first = ap (sum_by (most_at c.args.change.now c.args.indexes.now accepted.schedule.now)) c.as_slice.ensures.value in
     omega (arith, cost, first, c.requires.begun, c.in_ok-mid.ensures.least)
 
 pub returns-clause-seated : goal.returns-clause-seated
 returns-clause-seated g c =
-    let book = c.args.book.now.objects in
-    let edit = c.args.edit.now in
+    let accepted = c.args.accepted.now in
+    let book = accepted.old.now.objects in
+    let edit = accepted.edit.now in
     let alone : Change = record { gone = c.in_ok-gone.gone; come = None } in
-    seated_after c.right_moves.ensures c.args.tie book (gone_of book edit) (come_of book edit) c.args.indexes.now c.args.change.now alone
-    c.requires.gone c.requires.come c.in_ok-gone.ensures.side refl c.requires.indexed
-    c.args.schedule.now c.in_ok-mid.mid c.in_ok-after.after c.as_slice.result.now c.as_slice-4.result.now
+    seated_after c.right_moves.ensures accepted.tie book (gone_of book edit) (come_of book edit) c.args.indexes.now c.args.change.now alone
+    c.requires.change.gone c.requires.change.come c.in_ok-gone.ensures.side refl c.requires.indexed
+    accepted.schedule.now c.in_ok-mid.mid c.in_ok-after.after c.as_slice.result.now c.as_slice-4.result.now
     (λ p r v at e. ap (λ ps. is_among ps p) c.as_slice.ensures.value ∙ c.in_ok-joining.ensures.apply p r v at e)
     (λ p r u at e. ap (λ ps. is_among ps p) c.as_slice-4.ensures.value ∙ c.in_ok-leaving.ensures.apply p r u at e)
     c.in_ok-mid.ensures.shifted c.in_ok-mid.ensures.right c.in_ok-after.ensures.shifted c.in_ok-after.ensures.right
+    accepted.new.now.objects c.requires.change.exchange c.requires.seated
 
 pub returns-clause-least : goal.returns-clause-least
-returns-clause-least g c new whole x one seated =
-    let book = c.args.book.now.objects in
-    let edit = c.args.edit.now in
+returns-clause-least g c =
+    let accepted = c.args.accepted.now in
+    let new = accepted.new.now.objects in
+    let one = c.requires.change.one_id in
+    let book = accepted.old.now.objects in
+    let edit = accepted.edit.now in
     let joining = c.in_ok-joining.joining.items in
     let leaving = c.in_ok-leaving.leaving.items in
     let alone : Change = record { gone = c.in_ok-gone.gone; come = None } in
-    let cost = shifts_cost c.args.tie book new (gone_of book edit) (come_of book edit) x c.requires.whole whole one.0 one.1 one.2 c.args.indexes.now c.requires.indexed c.args.change.now alone
-    c.requires.gone c.requires.come c.in_ok-gone.ensures.side refl c.args.schedule.now c.in_ok-mid.mid seated joining leaving c.in_ok-joining.ensures.apply
-    (subst (λ (ps : List ℕ). IsShifted (number_in c.args.change.now.gone) (number_in c.args.change.now.come) ps c.args.schedule.now c.in_ok-mid.mid) c.as_slice.ensures.value c.in_ok-mid.ensures.shifted)
+    let cost = shifts_cost accepted.tie book new (gone_of book edit) (come_of book edit) c.requires.change.exchange c.requires.change.whole c.requires.change.whole_after one.0 one.1 one.2 c.args.indexes.now c.requires.indexed c.args.change.now alone
+    c.requires.change.gone c.requires.change.come c.in_ok-gone.ensures.side refl accepted.schedule.now c.in_ok-mid.mid c.requires.seated joining leaving c.in_ok-joining.ensures.apply
+    (subst (λ (ps : List ℕ). IsShifted (number_in c.args.change.now.gone) (number_in c.args.change.now.come) ps accepted.schedule.now c.in_ok-mid.mid) c.as_slice.ensures.value c.in_ok-mid.ensures.shifted)
     c.in_ok-joining.ensures.once c.in_ok-leaving.ensures.once in
-    let first = ap (sum_by (most_at c.args.change.now c.args.indexes.now c.args.schedule.now)) c.as_slice.ensures.value in
+    let first = ap (sum_by (most_at c.args.change.now c.args.indexes.now accepted.schedule.now)) c.as_slice.ensures.value in
     let second = ap (sum_by (most_at alone c.args.indexes.now c.in_ok-mid.mid)) c.as_slice-4.ensures.value in
     omega (arith, cost, first, second, c.requires.begun, c.in_ok-mid.ensures.least, c.in_ok-after.ensures.least)
