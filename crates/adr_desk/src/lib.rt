@@ -15,6 +15,7 @@ mod receipt;
 mod side;
 
 pub use adr_crew::{Gate, NoGate};
+pub use adr_model::Touch;
 pub use adr_touches::EditTouches;
 pub use desk::Desk;
 pub use laws::edits_have_room;
