@@ -402,7 +402,9 @@ impl<J: Naming> Editor<J> {
     }
 
     /// The same by several workers, 1 to 64, who share out the repair of timelines and pass the gate before each of its
-    /// jobs, as the desk's `apply_with` does. The answer is the same for every number of workers.
+    /// jobs, as the desk's `apply_with` does. Under `Tie::Newest` an event that comes is no job where it is laid over what
+    /// groups show that lose none: the calling thread does so, past no gate. The answer is the same for every number of
+    /// workers.
     pub fn apply_with<R: Threads + Sync, G: Gate + Sync>(
         &mut self,
         rt: &R,

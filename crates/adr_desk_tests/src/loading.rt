@@ -87,6 +87,47 @@ fn load(rt: &(impl Threads + Sync), alloc: Global, tie: Tie, last: u64) -> Resul
     Ok(answered && same && first && second && fourth)
 }
 
+/// Edits that create a program, a ven, a resource and 4,097 events without intervals.
+fn many(alloc: Global) -> Result<Vec<Edit>, Refusal> {
+    let mut edits = Vec::new(alloc);
+    for line in EDITS.lines().take(3) {
+        edits.push(edit(alloc, line)?)?;
+    }
+    for number in 0..4097u32 {
+        let line = format!(in alloc;
+            "create event e{number} {{\"programID\":\"p1\",\"intervals\":[]}}"
+        )?;
+        edits.push(edit(alloc, line.as_str())?)?;
+    }
+    Ok(edits)
+}
+
+/// How many answers come in the order of the versions from 1 on; none where one doesn't.
+fn in_order(answers: &[Result<u64, Refusal>]) -> Option<u64> {
+    let mut version = 0_u64;
+    for answer in answers {
+        version = version.saturating_add(1);
+        if *answer != Ok(version) {
+            return None;
+        }
+    }
+    Some(version)
+}
+
+fn load_many(rt: &(impl Threads + Sync), alloc: Global) -> Result<Option<u64>, Refusal> {
+    let (desk, answers) = Desk::load(rt, alloc, many(alloc)?, Tie::Newest)?;
+    let last = in_order(answers.as_slice());
+    drop(answers);
+    drop(desk);
+    Ok(last)
+}
+
+#[test]
+fn thousands_of_events_are_loaded_in_order(rt: HostRuntime) -> Result<(), Fail> {
+    assert_eq!(rt; load_many(&rt, rt.alloc())?, Some(4_100));
+    Ok(())
+}
+
 #[test]
 fn a_loaded_desk_shows_what_edits_leave(rt: HostRuntime) -> Result<(), Fail> {
     assert!(rt; load(&rt, rt.alloc(), Tie::Newest, 6)?);

@@ -31,8 +31,23 @@ change ven v2 {"venName":"V2"}
 change program p1 {"programName":"P"}
 delete event e2 -"#;
 
-/// How many lines go before one whose edit has two jobs or more: of an event, of a ven, of a resource and of a program.
-const MEETINGS: [usize; 4] = [7, 10, 11, 12];
+/// An event for one of two resources, under two types.
+const TWO_TYPES: &str = r#"create program p1 {"programName":"P"}
+create ven v1 {"venName":"V"}
+create resource r1 {"resourceName":"R","venID":"v1"}
+create resource r2 {"resourceName":"Q","venID":"v1"}
+create event e1 {"programID":"p1","intervals":[{"id":0,"intervalPeriod":{"start":"2024-01-01T00:00:00Z","duration":"PT2H"},"payloads":[{"type":"PRICE","values":[10]},{"type":"X_LOAD","values":["a b",true,{"x":1,"y":2.50}]}]}],"targets":[{"type":"RESOURCE_NAME","values":["R"]}]}"#;
+
+/// Edits, how many of them go before one that has two jobs or more, and the rule for ties: changes of an event, of a ven, of
+/// a resource and of a program, and an event that comes. Under the rule of the newest that one is laid over what is shown,
+/// by the calling thread.
+const MEETINGS: [(&str, usize, Tie); 5] = [
+    (EDITS, 7, Tie::Newest),
+    (EDITS, 10, Tie::Newest),
+    (EDITS, 11, Tie::Newest),
+    (EDITS, 12, Tie::Newest),
+    (TWO_TYPES, 4, Tie::LatestStart),
+];
 
 /// Who governs at an instant.
 fn winner(line: Option<&Timeline>, at: Moment) -> Option<(u64, u32)> {
@@ -160,13 +175,14 @@ fn meet<G: Gate + Sync>(
     rt: &(impl Threads + Sync),
     gate: &G,
     desk: &mut Desk,
+    edits: &str,
     count: usize,
 ) -> Result<(), Refusal> {
-    for line in EDITS.lines().take(count) {
+    for line in edits.lines().take(count) {
         let receipt = desk.apply(edit(alloc, line)?)?;
         drop(receipt);
     }
-    if let Some(line) = EDITS.lines().nth(count) {
+    if let Some(line) = edits.lines().nth(count) {
         let receipt = desk.apply_with(rt, 2, gate, edit(alloc, line)?)?;
         drop(receipt);
     }
@@ -175,15 +191,15 @@ fn meet<G: Gate + Sync>(
 
 #[test]
 fn two_workers_run_at_once(rt: HostRuntime) -> Result<(), Fail> {
-    for count in MEETINGS {
+    for (edits, count, tie) in MEETINGS {
         let meeting = Meeting {
             rt: rt.clone()?,
             first: AtomicBool::new(false),
             second: AtomicBool::new(false),
             missed: AtomicBool::new(false),
         };
-        let mut desk = Desk::new(rt.alloc(), Tie::Newest)?;
-        let met = meet(rt.alloc(), &rt, &meeting, &mut desk, count);
+        let mut desk = Desk::new(rt.alloc(), tie)?;
+        let met = meet(rt.alloc(), &rt, &meeting, &mut desk, edits, count);
         drop(desk);
         met?;
         assert!(rt;
