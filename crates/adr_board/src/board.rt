@@ -401,10 +401,10 @@ impl<J: Naming> Editor<J> {
         self.desk.apply(edit)
     }
 
-    /// The same by several workers, 1 to 64, who share out the repair of timelines and pass the gate before each of its
-    /// jobs, as the desk's `apply_with` does. Under `Tie::Newest` an event that comes is no job where it is laid over what
-    /// groups show that lose none: the calling thread does so, past no gate. The answer is the same for every number of
-    /// workers.
+    /// Makes an edit as [`Editor::apply`] does, by several workers, 1 to 64, who share out the repair of timelines
+    /// and pass the gate before each of its jobs, as the desk's `apply_with` does. Under `Tie::Newest` an event that
+    /// comes is no job where it is laid over what groups show that lose none: the calling thread does so, past no
+    /// gate. The answer is the same for every number of workers.
     pub fn apply_with<R: Threads + Sync, G: Gate + Sync>(
         &mut self,
         rt: &R,
@@ -708,8 +708,8 @@ impl Board {
         Board::over(alloc, rt, board, Desk::new(alloc, tie)?, readers)
     }
 
-    /// The same with a desk that stays the editor's, whose book has no base and no closed batch, and the same refusals.
-    /// Publication 0 is the empty book here too.
+    /// A board as [`Board::open`] makes it, over a desk that stays the editor's, whose book has no base and no closed
+    /// batch; it is refused as `open` is. Publication 0 is the empty book here too.
     pub fn over<J: Naming, R: Wait>(
         alloc: Global,
         rt: &R,
