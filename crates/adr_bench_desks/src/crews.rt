@@ -2,11 +2,11 @@
 use crate::desk_rows::NEARLY_ALL;
 use crate::desk_times::ROUNDS;
 use crate::desks::{desk_of, edits_of, made_of};
-use crate::told::{since, told};
 use crate::works::Work;
 use adr_desk::{Desk, NoGate};
 use adr_model::Tie;
 use adr_object::Edit;
+use adr_test_values::telling::{taken, told};
 use std::alloc::Global;
 use std::io;
 use std::rt::Clock;
@@ -25,9 +25,7 @@ fn edit_by<R: Clock + Threads + Sync>(
 ) -> io::Result<u128> {
     let start = Instant::now(rt);
     let receipt = desk.apply_with(rt, workers, &NoGate, edit);
-    let nanoseconds = since(rt, start);
-    drop(told(receipt)?);
-    nanoseconds
+    taken(rt, start, receipt)
 }
 
 /// The nanoseconds in which an event of all comes, before it goes again: the least of some times.
@@ -62,14 +60,22 @@ fn print_workers<R: AllocGlobal + Print + Clock + Threads + Sync>(
     println!(rt)
 }
 
+/// The row of a desk of so many resources.
+fn print_workers_of<R: AllocGlobal + Print + Clock + Threads + Sync>(
+    rt: &R,
+    count: usize,
+) -> io::Result<()> {
+    let mut desk = told(desk_of(rt.alloc(), count))?;
+    let printed = print_workers(rt, &mut desk, count);
+    drop(desk);
+    printed
+}
+
 /// The table of workers.
 fn print_all_workers<R: AllocGlobal + Print + Clock + Threads + Sync>(rt: &R) -> io::Result<()> {
     println!(rt; "| Resources | µs by 1 worker | by 2 | by 4 |\n|---|---|---|---|")?;
     for count in COUNTS {
-        let mut desk = told(desk_of(rt.alloc(), count))?;
-        let printed = print_workers(rt, &mut desk, count);
-        drop(desk);
-        printed?;
+        print_workers_of(rt, count)?;
     }
     println!(rt)
 }
@@ -79,9 +85,7 @@ fn load_taken<R: Clock + Threads + Sync>(rt: &R, alloc: Global, count: usize) ->
     let edits = told(edits_of(alloc, count))?;
     let start = Instant::now(rt);
     let loaded = Desk::load(rt, alloc, edits, Tie::Newest);
-    let nanoseconds = since(rt, start);
-    drop(told(loaded)?);
-    nanoseconds
+    taken(rt, start, loaded)
 }
 
 /// The nanoseconds in which the edits are applied one after the other.
@@ -89,9 +93,7 @@ fn apply_taken<C: Clock>(clock: &C, alloc: Global, count: usize) -> io::Result<u
     let edits = told(edits_of(alloc, count))?;
     let start = Instant::now(clock);
     let desk = made_of(alloc, edits);
-    let nanoseconds = since(clock, start);
-    drop(told(desk)?);
-    nanoseconds
+    taken(clock, start, desk)
 }
 
 /// The table of loads: the resources, and the milliseconds of the edits one by one and at once.

@@ -1,14 +1,33 @@
 //! Rows of how much the repairs of edits of desks compare, and of how long edits take.
 use crate::desk_times::{Round, least_round};
 use crate::desks::desk_of;
-use crate::told::told;
 use crate::works::Work;
 use adr_desk::Desk;
+use adr_test_values::telling::told;
 use std::io;
 use std::rt::Clock;
 
 /// As many resources as there may be but 64, with as many events: so that one more of each is not refused.
 pub(crate) const NEARLY_ALL: usize = 16_320;
+
+fn print_round(
+    rt: &impl Print,
+    name: &str,
+    count: usize,
+    round: Round,
+    is_timed: bool,
+) -> io::Result<()> {
+    let Round { there, back } = round;
+    print!(rt;
+        "| {name} | {count} | {} | {} |",
+        there.compares, back.compares
+    )?;
+    if is_timed {
+        let (time, time_back) = (there.nanoseconds / 1000, back.nanoseconds / 1000);
+        print!(rt; " {time} | {time_back} |")?;
+    }
+    println!(rt)
+}
 
 /// A row for each work: its name, the resources, the comparisons there and back and, where it is timed, the microseconds.
 fn print_rows_of<R: AllocGlobal + Print + Clock>(
@@ -18,14 +37,8 @@ fn print_rows_of<R: AllocGlobal + Print + Clock>(
     is_timed: bool,
 ) -> io::Result<()> {
     for work in Work::ALL {
-        let Round { there, back } = least_round(rt, rt.alloc(), desk, work, count)?;
-        let (name, compares, compares_back) = (work.name(), there.compares, back.compares);
-        print!(rt; "| {name} | {count} | {compares} | {compares_back} |")?;
-        if is_timed {
-            let (time, time_back) = (there.nanoseconds / 1000, back.nanoseconds / 1000);
-            print!(rt; " {time} | {time_back} |")?;
-        }
-        println!(rt)?;
+        let round = least_round(rt, rt.alloc(), desk, work, count)?;
+        print_round(rt, work.name(), count, round, is_timed)?;
     }
     Ok(())
 }

@@ -1,8 +1,8 @@
 //! How much an edit compares, and how long it takes.
-use crate::told::{since, told};
 use crate::works::Work;
 use adr_desk::Desk;
 use adr_object::Edit;
+use adr_test_values::telling::{since, told};
 use std::alloc::Global;
 use std::io;
 use std::rt::Clock;
@@ -78,8 +78,10 @@ pub(crate) fn least_round<C: Clock>(
         back: Taken::MOST,
     };
     for _ in 0..ROUNDS {
-        let there = take(clock, desk, told(work.there(alloc, count))?)?;
-        let back = take(clock, desk, told(work.back(alloc, count))?)?;
+        let there = told(work.there(alloc, count))?;
+        let there = take(clock, desk, there)?;
+        let back = told(work.back(alloc, count))?;
+        let back = take(clock, desk, back)?;
         least = Round {
             there: least.there.least(there),
             back: least.back.least(back),

@@ -13,8 +13,8 @@ pub(crate) const PRIORITY: u32 = 5;
 /// Programs and vens for so many resources and events.
 fn add_parties(alloc: Global, edits: &mut Vec<Edit>, count: usize) -> Result<(), Refusal> {
     for number in 0..count / MEMBERS + 1 {
-        edits.push(Edit::Create(program(alloc, number, None)?))?;
-        edits.push(Edit::Create(ven(alloc, number, number)?))?;
+        edits.push(program(alloc, "create", number, None)?)?;
+        edits.push(ven(alloc, "create", number, number)?)?;
     }
     Ok(())
 }
@@ -22,7 +22,7 @@ fn add_parties(alloc: Global, edits: &mut Vec<Edit>, count: usize) -> Result<(),
 /// So many resources.
 fn add_resources(alloc: Global, edits: &mut Vec<Edit>, count: usize) -> Result<(), Refusal> {
     for number in 0..count {
-        edits.push(Edit::Create(resource(alloc, number, number / MEMBERS)?))?;
+        edits.push(resource(alloc, "create", number, number / MEMBERS)?)?;
     }
     Ok(())
 }
@@ -34,7 +34,7 @@ fn add_events(
     shape: Shape,
 ) -> Result<(), Refusal> {
     for number in numbers {
-        edits.push(Edit::Create(event(alloc, number, shape, PRIORITY)?))?;
+        edits.push(event(alloc, "create", number, shape, PRIORITY)?)?;
     }
     Ok(())
 }

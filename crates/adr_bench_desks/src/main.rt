@@ -9,16 +9,16 @@ mod crews;
 mod desk_rows;
 mod desk_times;
 mod desks;
-mod told;
 mod workloads;
 mod works;
 
 use crate::crews::print_crews;
 use crate::desk_rows::print_desks;
 use crate::workloads::print_workloads;
-use std::rt::{Clock, Env};
+use adr_test_values::word;
+use std::io;
+use std::rt::Clock;
 use std::thread::Threads;
-use std::{env, io};
 
 /// What stands behind a word.
 fn print_part<R: AllocGlobal + Print + Clock + Threads + Sync>(
@@ -32,14 +32,16 @@ fn print_part<R: AllocGlobal + Print + Clock + Threads + Sync>(
     }
 }
 
+/// All by count.
+fn print_all<R: AllocGlobal + Print + Clock>(rt: &R) -> io::Result<()> {
+    print_desks(rt, false)?;
+    println!(rt)?;
+    print_workloads(rt, false)
+}
+
 fn main(rt: HostRuntime) -> io::Result<()> {
-    let mut words = env::args(&rt)?;
-    let _name = words.next();
-    let part = words.next();
-    if let Some(part) = &part {
-        return print_part(&rt, part.as_str());
+    match word(&rt, 1)? {
+        Some(part) => print_part(&rt, part.as_str()),
+        None => print_all(&rt),
     }
-    print_desks(&rt, false)?;
-    println!(&rt)?;
-    print_workloads(&rt, false)
 }

@@ -3,9 +3,9 @@
 use crate::bodies::{MEMBERS, Shape, event};
 use crate::desk_times::{Taken, take};
 use crate::desks::{PRIORITY, edits_of, edits_with, made_of};
-use crate::told::told;
 use adr_desk::Desk;
 use adr_object::Edit;
+use adr_test_values::telling::told;
 use adr_value::Refusal;
 use std::alloc::Global;
 use std::io;
@@ -75,23 +75,22 @@ impl Workload {
         let number = turn as usize;
         let groups = Shape::Groups(MANY / MEMBERS);
         let priority = turn % 10;
-        Ok(match self {
-            Workload::Bulk => Edit::Create(event(alloc, number, groups, PRIORITY)?),
-            Workload::Live => Edit::Change(event(alloc, number, groups, priority)?),
-            Workload::Fleet => Edit::Change(event(alloc, number, Shape::All, priority)?),
-            Workload::Wide if turn == 0 => {
-                Edit::Create(event(alloc, FEW, Shape::Endless, priority)?)
-            }
-            Workload::Wide => Edit::Change(event(alloc, FEW, Shape::Endless, priority)?),
-            Workload::Dense => Edit::Create(event(alloc, number, Shape::All, priority)?),
-            Workload::Ingest => Edit::Change(event(alloc, number % 4, Shape::Long, priority)?),
-        })
+        match self {
+            Workload::Bulk => event(alloc, "create", number, groups, PRIORITY),
+            Workload::Live => event(alloc, "change", number, groups, priority),
+            Workload::Fleet => event(alloc, "change", number, Shape::All, priority),
+            Workload::Wide if turn == 0 => { event(alloc, "create", FEW, Shape::Endless, priority) }
+            Workload::Wide => event(alloc, "change", FEW, Shape::Endless, priority),
+            Workload::Dense => event(alloc, "create", number, Shape::All, priority),
+            Workload::Ingest => event(alloc, "change", number % 4, Shape::Long, priority),
+        }
     }
 }
 
 /// How many windows the edit of the first turn touches.
 fn first_windows(alloc: Global, desk: &mut Desk, workload: Workload) -> Result<usize, Refusal> {
-    let receipt = desk.apply(workload.edit(alloc, 0)?)?;
+    let edit = workload.edit(alloc, 0)?;
+    let receipt = desk.apply(edit)?;
     let touched = receipt.touched.to_vec(alloc);
     drop(receipt);
     let touched = touched?;
@@ -115,6 +114,21 @@ fn take_others<C: Clock>(
     Ok(taken)
 }
 
+/// The desk that the workload is done on.
+fn desk_for(alloc: Global, workload: Workload) -> Result<Desk, Refusal> {
+    made_of(alloc, workload.base(alloc)?)
+}
+
+/// The windows of the workload's first edit, and what the others take.
+fn done<R: AllocGlobal + Clock>(rt: &R, workload: Workload) -> io::Result<(usize, Taken)> {
+    let alloc = rt.alloc();
+    let mut desk = told(desk_for(alloc, workload))?;
+    let windows = first_windows(alloc, &mut desk, workload);
+    let taken = take_others(rt, alloc, &mut desk, workload);
+    drop(desk);
+    Ok((told(windows)?, taken?))
+}
+
 /// A row: the workload, the windows of its first edit, the comparisons of the others and, where it is timed, their
 /// microseconds.
 fn print_workload<R: AllocGlobal + Print + Clock>(
@@ -122,13 +136,7 @@ fn print_workload<R: AllocGlobal + Print + Clock>(
     workload: Workload,
     is_timed: bool,
 ) -> io::Result<()> {
-    let alloc = rt.alloc();
-    let edits = told(workload.base(alloc))?;
-    let mut desk = told(made_of(alloc, edits))?;
-    let windows = first_windows(alloc, &mut desk, workload);
-    let taken = take_others(rt, alloc, &mut desk, workload);
-    drop(desk);
-    let (windows, taken) = (told(windows)?, taken?);
+    let (windows, taken) = done(rt, workload)?;
     let (name, compares) = (workload.name(), taken.compares);
     print!(rt; "| {name} | {windows} | {compares} |")?;
     if is_timed {

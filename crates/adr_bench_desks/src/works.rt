@@ -1,7 +1,7 @@
 //! The edits that are measured.
 use crate::bodies::{MEMBERS, Shape, event, program, removal, resource, ven};
 use crate::desks::PRIORITY;
-use adr_object::{Edit, Kind};
+use adr_object::Edit;
 use adr_value::Refusal;
 use std::alloc::Global;
 
@@ -45,13 +45,13 @@ impl Work {
     pub(crate) fn there(self, alloc: Global, count: usize) -> Result<Edit, Refusal> {
         let groups = Shape::Groups(count / MEMBERS);
         match self {
-            Work::Priority => Ok(Edit::Change(event(alloc, 0, groups, 0)?)),
-            Work::Event => removal(alloc, Kind::Event, 0),
-            Work::EventOfAll => Ok(Edit::Create(event(alloc, count, Shape::All, PRIORITY)?)),
-            Work::Program => Ok(Edit::Change(program(alloc, 0, Some(count))?)),
-            Work::Ven => Ok(Edit::Change(ven(alloc, 0, 1)?)),
-            Work::Resource => Ok(Edit::Change(resource(alloc, 0, 1)?)),
-            Work::NewResource => Ok(Edit::Create(resource(alloc, count, 0)?)),
+            Work::Priority => event(alloc, "change", 0, groups, 0),
+            Work::Event => removal(alloc, "event", 0),
+            Work::EventOfAll => event(alloc, "create", count, Shape::All, PRIORITY),
+            Work::Program => program(alloc, "change", 0, Some(count)),
+            Work::Ven => ven(alloc, "change", 0, 1),
+            Work::Resource => resource(alloc, "change", 0, 1),
+            Work::NewResource => resource(alloc, "create", count, 0),
         }
     }
 
@@ -59,13 +59,13 @@ impl Work {
     pub(crate) fn back(self, alloc: Global, count: usize) -> Result<Edit, Refusal> {
         let groups = Shape::Groups(count / MEMBERS);
         match self {
-            Work::Priority => Ok(Edit::Change(event(alloc, 0, groups, PRIORITY)?)),
-            Work::Event => Ok(Edit::Create(event(alloc, 0, groups, PRIORITY)?)),
-            Work::EventOfAll => removal(alloc, Kind::Event, count),
-            Work::Program => Ok(Edit::Change(program(alloc, 0, None)?)),
-            Work::Ven => Ok(Edit::Change(ven(alloc, 0, 0)?)),
-            Work::Resource => Ok(Edit::Change(resource(alloc, 0, 0)?)),
-            Work::NewResource => removal(alloc, Kind::Resource, count),
+            Work::Priority => event(alloc, "change", 0, groups, PRIORITY),
+            Work::Event => event(alloc, "create", 0, groups, PRIORITY),
+            Work::EventOfAll => removal(alloc, "event", count),
+            Work::Program => program(alloc, "change", 0, None),
+            Work::Ven => ven(alloc, "change", 0, 0),
+            Work::Resource => resource(alloc, "change", 0, 0),
+            Work::NewResource => removal(alloc, "resource", count),
         }
     }
 }

@@ -4,6 +4,6 @@ mod reading;
 mod targets;
 mod touches;
 
-pub use reading::{edit, kind_of, object, read_object, shared, word};
+pub use reading::{edit, edit_of, kind_of, list_of, object, read_object, shared, word};
 pub use targets::{APPLIES, LISTS, setting};
 pub use touches::{any_edit, are_touches};

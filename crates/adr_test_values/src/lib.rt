@@ -1,11 +1,13 @@
 #![tactic(auto)]
 //! What tests and measurements share: edits from short lines and from lines with bodies, rows of targets and touches,
-//! whether two values are the same by all that their look-ups tell, and what is told of a call.
+//! whether two values are the same by all that their look-ups tell, what is told of a call, and the words of a program.
 
 pub mod bodies;
 pub mod lines;
 mod random;
 pub mod same;
 pub mod telling;
+mod words;
 
 pub use random::next;
+pub use words::word;

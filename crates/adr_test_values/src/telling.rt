@@ -1,8 +1,13 @@
-//! What is told of a call.
+//! What is told of a call, and how long it took.
+//!
+//! What is measured is let go by `drop` before an answer is looked at: at the end of its scope it would be taken apart, field
+//! by field, in the proof of each function that has it.
 ghost use Rattle.std.specs.Prelude.{◌≡◌, Ok, IfOk};
 
 use adr_value::Refusal;
 use std::io;
+use std::rt::Clock;
+use std::time::Instant;
 
 /// The answer, with a refusal as an error of input and output.
 pub fn told<T: Drop>(answer: Result<T, Refusal>) -> io::Result<T>
@@ -10,6 +15,27 @@ pub fn told<T: Drop>(answer: Result<T, Refusal>) -> io::Result<T>
 {
     match answer {
         Ok(value) => Ok(value),
+        Err(_) => Err(io::ErrorKind::OutOfMemory.into()),
+    }
+}
+
+/// The nanoseconds since then.
+pub fn since<C: Clock>(clock: &C, start: io::Result<Instant>) -> io::Result<u128> {
+    Ok(start?.elapsed(clock)?.as_nanos())
+}
+
+/// The nanoseconds since then, once a call has answered. What it made is let go after that.
+pub fn taken<C: Clock, T: Drop, E: Drop>(
+    clock: &C,
+    start: io::Result<Instant>,
+    answer: Result<T, E>,
+) -> io::Result<u128> {
+    let nanoseconds = since(clock, start);
+    match answer {
+        Ok(value) => {
+            drop(value);
+            nanoseconds
+        }
         Err(_) => Err(io::ErrorKind::OutOfMemory.into()),
     }
 }
