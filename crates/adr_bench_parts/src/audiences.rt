@@ -4,11 +4,12 @@ mod measure;
 mod objects;
 
 use crate::audiences::measure::{
-    change_time, count, fastest_audience, fastest_index, indexed, resources, told, vens,
+    change_time, count, fastest_index, indexed, resources, time_of, vens,
 };
 use crate::audiences::objects::{event, program};
 use adr_audience::Audience;
 use adr_object::{Event, Program, Resource, Ven};
+use adr_test_values::telling::told;
 use std::io;
 use std::rt::Clock;
 
@@ -41,8 +42,20 @@ fn print_end(rt: &impl Print, nanoseconds: Option<u128>) -> io::Result<()> {
     println!(rt)
 }
 
-/// A row of the table: the resources, what is asked for, and how many places.
-fn print_places<R: AllocGlobal + Print + Clock>(
+/// A row of the table: the resources, what is asked for, and how many places; and where it is timed the microseconds.
+fn print_places(
+    rt: &impl Print,
+    resources: usize,
+    asked: &str,
+    places: usize,
+    time: Option<u128>,
+) -> io::Result<()> {
+    print!(rt; "| {resources} | {asked} | {places} |")?;
+    print_end(rt, time)
+}
+
+/// The row of an event that asks for that.
+fn print_event<R: AllocGlobal + Print + Clock>(
     rt: &R,
     audience: &Audience,
     event: &Event,
@@ -51,13 +64,8 @@ fn print_places<R: AllocGlobal + Print + Clock>(
     is_timed: bool,
 ) -> io::Result<()> {
     let places = told(count(audience, event, program))?;
-    print!(rt; "| {} | {asked} | {places} |", audience.len())?;
-    let time = if is_timed {
-        Some(fastest_audience(rt, audience, event, program)?)
-    } else {
-        None
-    };
-    print_end(rt, time)
+    let time = time_of(rt, audience, event, program, is_timed)?;
+    print_places(rt, audience.len(), asked, places, time)
 }
 
 fn print_row<R: AllocGlobal + Print + Clock>(
@@ -69,7 +77,7 @@ fn print_row<R: AllocGlobal + Print + Clock>(
     is_timed: bool,
 ) -> io::Result<()> {
     let event = told(event(rt.alloc(), body))?;
-    let printed = print_places(rt, audience, &event, program, asked, is_timed);
+    let printed = print_event(rt, audience, &event, program, asked, is_timed);
     drop(event);
     printed
 }
@@ -103,6 +111,21 @@ fn print_edit(rt: &impl Print, count: usize, made: &str, nanoseconds: u128) -> i
     print_end(rt, Some(nanoseconds))
 }
 
+/// The nanoseconds of a resource that changes and changes back: the least of both; 0 where there are too few of them.
+fn fastest_change<C: Clock>(
+    clock: &C,
+    audience: &mut Audience,
+    resources: &[Resource],
+    vens: &[Ven],
+) -> io::Result<u128> {
+    if resources.len() < 300 || vens.is_empty() {
+        return Ok(0);
+    }
+    let change = change_time(clock, audience, 100, &resources[200], &vens[0])?;
+    let back = change_time(clock, audience, 100, &resources[100], &vens[0])?;
+    Ok(change.min(back))
+}
+
 /// How long an index of all takes, and a resource that changes.
 fn print_edits<R: AllocGlobal + Print + Clock>(
     rt: &R,
@@ -112,13 +135,8 @@ fn print_edits<R: AllocGlobal + Print + Clock>(
 ) -> io::Result<()> {
     let index = fastest_index(rt, resources, vens)?;
     print_edit(rt, audience.len(), "an index of all", index)?;
-    if resources.len() < 300 || vens.is_empty() {
-        return Ok(());
-    }
-    let change = change_time(rt, audience, 100, &resources[200], &vens[0])?;
-    let back = change_time(rt, audience, 100, &resources[100], &vens[0])?;
-    let time = change.min(back);
-    print_edit(rt, audience.len(), "a resource that changes", time)
+    let change = fastest_change(rt, audience, resources, vens)?;
+    print_edit(rt, audience.len(), "a resource that changes", change)
 }
 
 fn print_all<R: AllocGlobal + Print + Clock>(

@@ -3,15 +3,19 @@ mod contents;
 mod measure;
 
 use crate::bodies::contents::{CONTENTS, Contents, body_of};
-use crate::bodies::measure::{fastest_read, read, told};
+use crate::bodies::measure::time_of;
 use adr_object::Id;
+use adr_read::read_event;
+use adr_test_values::telling::told;
+use adr_time::Moment;
+use adr_value::Refusal;
 use std::alloc::Global;
 use std::io;
 use std::rt::Clock;
 
 /// How many intervals and values the event of a body has.
-fn counts_of(alloc: Global, body: &str, id: &Id) -> io::Result<(usize, u64)> {
-    let event = read(alloc, body, id)?;
+fn counts_of(alloc: Global, body: &str, id: &Id) -> Result<(usize, u64), Refusal> {
+    let event = read_event(alloc, body.as_bytes(), id, Moment::MIN)?;
     let mut values: u64 = 0;
     for interval in event.intervals.as_slice() {
         for payload in interval.payloads.as_slice() {
@@ -25,24 +29,32 @@ fn counts_of(alloc: Global, body: &str, id: &Id) -> io::Result<(usize, u64)> {
 
 /// The row of a body: its bytes, and the intervals and values of its event; and where it is timed the microseconds of a
 /// reading.
+fn print_counts(
+    rt: &impl Print,
+    name: &str,
+    bytes: usize,
+    (intervals, values): (usize, u64),
+    time: Option<u128>,
+) -> io::Result<()> {
+    match time {
+        Some(time) => println!(rt;
+            "| {name} | {bytes} | {intervals} | {values} | {} |",
+            time / 1000
+        ),
+        None => println!(rt; "| {name} | {bytes} | {intervals} | {values} |"),
+    }
+}
+
 fn print_row<R: AllocGlobal + Print + Clock>(
     rt: &R,
     contents: Contents,
     id: &Id,
     is_timed: bool,
 ) -> io::Result<()> {
-    let body = told(body_of(rt.alloc(), contents))?;
-    let (intervals, values) = counts_of(rt.alloc(), body.as_str(), id)?;
-    print!(rt;
-        "| {} | {} | {intervals} | {values} |",
-        contents.name(),
-        body.len()
-    )?;
-    if is_timed {
-        let time = fastest_read(rt, rt.alloc(), body.as_str(), id)?;
-        print!(rt; " {} |", time / 1000)?;
-    }
-    println!(rt)
+    let body = body_of(rt.alloc(), contents)?;
+    let counts = told(counts_of(rt.alloc(), body.as_str(), id))?;
+    let time = time_of(rt, rt.alloc(), body.as_str(), id, is_timed)?;
+    print_counts(rt, contents.name(), body.len(), counts, time)
 }
 
 fn print_rows<R: AllocGlobal + Print + Clock>(rt: &R, id: &Id, is_timed: bool) -> io::Result<()> {

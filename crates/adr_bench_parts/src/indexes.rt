@@ -1,5 +1,8 @@
 //! How many entries an index answers and, where it is timed, how long it takes to fill it and to write an event's entries
 //! again, beside a plain list of the same entries in order.
+ghost use Rattle.std.specs.Prelude.{◌≡◌, length};
+ghost use Rattle.adr_bench_parts.specs.Numbers.{AreRising};
+
 mod filled;
 mod list;
 mod shape;
@@ -20,34 +23,90 @@ fn print_fills<R: AllocGlobal + Print + Clock>(rt: &R, count: u32) -> io::Result
     print_microseconds(rt, sort)
 }
 
+/// How an index or a list stands after the edits: its entries, those that meet a window, and the nanoseconds of an edit.
+#[derive(Clone, Copy)]
+struct Standing {
+    entries: usize,
+    met: usize,
+    edit: u128,
+}
+
+/// How an index stands that is filled with the entries and edited.
+fn index_standing<R: AllocGlobal + Clock>(
+    rt: &R,
+    entries: &[Entry],
+    count: u32,
+) -> io::Result<Standing>
+    requires rising { AreRising 0 entries.now }
+    requires length { length entries.now ≡ count }
+{
+    let mut index = index_of(rt.alloc(), entries)?;
+    let edit = fastest_edit(rt, &mut index, count)?;
+    let met = met(&index, window_of(count))?;
+    Ok(Standing {
+        entries: index.len(),
+        met,
+        edit,
+    })
+}
+
+/// How a list stands of the same entries after the same edits.
+fn list_standing<R: AllocGlobal + Clock>(
+    rt: &R,
+    entries: &[Entry],
+    count: u32,
+) -> io::Result<Standing> {
+    let mut list = sorted(rt.alloc(), entries)?;
+    let edit = fastest_list_edit(rt, &mut list, count)?;
+    Ok(Standing {
+        entries: list.len(),
+        met: met_in(&list, window_of(count)),
+        edit,
+    })
+}
+
+/// How both stand.
+fn standings<R: AllocGlobal + Clock>(rt: &R, count: u32) -> io::Result<(Standing, Standing)> {
+    let entries = entries(rt.alloc(), 0, count, count)?;
+    let index = index_standing(rt, &entries, count)?;
+    let list = list_standing(rt, &entries, count)?;
+    Ok((index, list))
+}
+
+fn print_times<R: AllocGlobal + Print + Clock>(
+    rt: &R,
+    count: u32,
+    index: Standing,
+    list: Standing,
+) -> io::Result<()> {
+    print_fills(rt, count)?;
+    print_microseconds(rt, index.edit)?;
+    print_microseconds(rt, list.edit)
+}
+
 /// A row of the table: the number of entries, how many there are after the edits, how many of them meet a window, in
 /// the index and in the list, and where it is timed the microseconds of filling both and of an edit of both.
 fn print_row<R: AllocGlobal + Print + Clock>(rt: &R, count: u32, is_timed: bool) -> io::Result<()> {
-    let window = window_of(count);
-    let entries = entries(rt.alloc(), 0, count, count)?;
-    let mut index = index_of(rt.alloc(), &entries)?;
-    let mut list = sorted(rt.alloc(), &entries)?;
-    let edit = fastest_edit(rt, &mut index, count)?;
-    let list_edit = fastest_list_edit(rt, &mut list, count)?;
-    print!(rt; "| {count} | {} | {} |", index.len(), list.len())?;
-    print!(rt; " {} | {} |", met(&index, window)?, met_in(&list, window))?;
+    let (index, list) = standings(rt, count)?;
+    print!(rt;
+        "| {count} | {} | {} | {} | {} |",
+        index.entries, list.entries, index.met, list.met
+    )?;
     if is_timed {
-        print_fills(rt, count)?;
-        print_microseconds(rt, edit)?;
-        print_microseconds(rt, list_edit)?;
+        print_times(rt, count, index, list)?;
     }
     println!(rt)
 }
 
 fn print_heading(rt: &impl Print, is_timed: bool) -> io::Result<()> {
-    print!(rt; "| Entries | In the index | In the list | Met in the index | In the list |")?;
-    if is_timed {
-        println!(rt; " µs filled | µs sorted | µs an event | In the list |")?;
-        println!(rt; "|---|---|---|---|---|---|---|---|---|")
-    } else {
-        println!(rt)?;
-        println!(rt; "|---|---|---|---|---|")
-    }
+    println!(rt;
+        "{}",
+        if is_timed {
+            "| Entries | In the index | In the list | Met in the index | In the list | µs filled | µs sorted | µs an event | In the list |\n|---|---|---|---|---|---|---|---|---|"
+        } else {
+            "| Entries | In the index | In the list | Met in the index | In the list |\n|---|---|---|---|---|"
+        }
+    )
 }
 
 pub(crate) fn print_indexes<R: AllocGlobal + Print + Clock>(

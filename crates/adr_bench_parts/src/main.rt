@@ -13,8 +13,9 @@ use crate::audiences::print_all_audiences;
 use crate::bodies::print_bodies;
 use crate::indexes::print_indexes;
 use crate::timelines::print_timelines;
-use std::rt::{Clock, Env};
-use std::{env, io};
+use adr_test_values::word;
+use std::io;
+use std::rt::Clock;
 
 /// Nanoseconds as microseconds.
 fn print_microseconds(rt: &impl Print, nanoseconds: u128) -> io::Result<()> {
@@ -31,18 +32,20 @@ fn print_part<R: AllocGlobal + Print + Clock>(rt: &R, part: &str) -> io::Result<
     }
 }
 
+/// All by count.
+fn print_all<R: AllocGlobal + Print + Clock>(rt: &R) -> io::Result<()> {
+    print_timelines(rt, false)?;
+    println!(rt)?;
+    print_indexes(rt, false)?;
+    println!(rt)?;
+    print_all_audiences(rt, false)?;
+    println!(rt)?;
+    print_bodies(rt, false)
+}
+
 fn main(rt: HostRuntime) -> io::Result<()> {
-    let mut words = env::args(&rt)?;
-    let _name = words.next();
-    let part = words.next();
-    if let Some(part) = &part {
-        return print_part(&rt, part.as_str());
+    match word(&rt, 1)? {
+        Some(part) => print_part(&rt, part.as_str()),
+        None => print_all(&rt),
     }
-    print_timelines(&rt, false)?;
-    println!(&rt)?;
-    print_indexes(&rt, false)?;
-    println!(&rt)?;
-    print_all_audiences(&rt, false)?;
-    println!(&rt)?;
-    print_bodies(&rt, false)
 }

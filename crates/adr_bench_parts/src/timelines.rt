@@ -1,6 +1,6 @@
 //! How much the building of a timeline compares and, where it is timed, how long it takes, as a table over how many
 //! entries there are and how they lie.
-ghost use Rattle.std.specs.Prelude.{◌<◌, ◌≤◌};
+ghost use Rattle.std.specs.Prelude.{◌<◌, ◌≤◌, length};
 
 mod measure;
 mod repair;
@@ -8,9 +8,10 @@ mod shape;
 mod sweep;
 
 use crate::print_microseconds;
-use crate::timelines::measure::{fastest_build, fastest_pass, fastest_sweep, measured};
+use crate::timelines::measure::{Times, measured};
 use crate::timelines::repair::Repair;
 use crate::timelines::shape::{Shape, entries};
+use adr_timeline::Entry;
 use std::io;
 use std::rt::Clock;
 
@@ -18,6 +19,32 @@ use std::rt::Clock;
 fn print_ratio(rt: &impl Print, time: u128, other: u128) -> io::Result<()> {
     let parts = time.saturating_mul(100) / other.max(1);
     print!(rt; " {}.{:02} |", parts / 100, parts % 100)
+}
+
+fn print_times(rt: &impl Print, times: Times) -> io::Result<()> {
+    let Times { build, sweep, pass } = times;
+    print_microseconds(rt, build)?;
+    print_microseconds(rt, sweep)?;
+    print_ratio(rt, build, sweep)?;
+    print_microseconds(rt, pass)?;
+    print!(rt; " {} |", build / pass.max(1))
+}
+
+fn print_row_of<R: AllocGlobal + Print + Clock>(
+    rt: &R,
+    name: &str,
+    entries: &[Entry],
+    is_timed: bool,
+) -> io::Result<()>
+    requires { (0 < length entries.now) × (length entries.now ≤ 65536) }
+{
+    let (segments, compares) = measured(rt.alloc(), entries)?;
+    let count = entries.len();
+    print!(rt; "| {name} | {count} | {segments} | {compares} |")?;
+    if is_timed {
+        print_times(rt, Times::of(rt, entries)?)?;
+    }
+    println!(rt)
 }
 
 /// A row of the table: how the entries lie, their number, the segments and the comparisons of a build, and where it is
@@ -32,31 +59,18 @@ fn print_row<R: AllocGlobal + Print + Clock>(
     requires { (0 < count) × (count ≤ 65536) }
 {
     let entries = entries(rt.alloc(), shape, count)?;
-    let (segments, compares) = measured(rt.alloc(), &entries)?;
-    print!(rt; "| {} | {count} | {segments} | {compares} |", shape.name())?;
-    if is_timed {
-        let build = fastest_build(rt, &entries)?;
-        let sweep = fastest_sweep(rt, &entries)?;
-        let pass = fastest_pass(rt, &entries)?;
-        print_microseconds(rt, build)?;
-        print_microseconds(rt, sweep)?;
-        print_ratio(rt, build, sweep)?;
-        print_microseconds(rt, pass)?;
-        print!(rt; " {} |", build / pass.max(1))?;
-    }
-    println!(rt)
+    print_row_of(rt, shape.name(), &entries, is_timed)
 }
 
 fn print_heading(rt: &impl Print, is_timed: bool) -> io::Result<()> {
-    if is_timed {
-        println!(rt;
-            "| Entries lie | Entries | Segments | Comparisons | µs a build | µs a sweep | Ratio | µs a pass | Ratio |"
-        )?;
-        println!(rt; "|---|---|---|---|---|---|---|---|---|")
-    } else {
-        println!(rt; "| Entries lie | Entries | Segments | Comparisons |")?;
-        println!(rt; "|---|---|---|---|")
-    }
+    println!(rt;
+        "{}",
+        if is_timed {
+            "| Entries lie | Entries | Segments | Comparisons | µs a build | µs a sweep | Ratio | µs a pass | Ratio |\n|---|---|---|---|---|---|---|---|---|"
+        } else {
+            "| Entries lie | Entries | Segments | Comparisons |\n|---|---|---|---|"
+        }
+    )
 }
 
 fn print_table<R: AllocGlobal + Print + Clock>(rt: &R, is_timed: bool) -> io::Result<()> {
@@ -69,6 +83,20 @@ fn print_table<R: AllocGlobal + Print + Clock>(rt: &R, is_timed: bool) -> io::Re
     Ok(())
 }
 
+fn print_repair_of<R: Print + Clock>(
+    rt: &R,
+    repair: &Repair,
+    count: u32,
+    is_timed: bool,
+) -> io::Result<()> {
+    let segments = repair.segments()?;
+    print!(rt; "| {count} | {segments} |")?;
+    if is_timed {
+        print_microseconds(rt, repair.fastest(rt)?)?;
+    }
+    println!(rt)
+}
+
 /// A row of the table of repairs: the segments of the line, those of the repaired one, and where it is timed the
 /// microseconds of a repair.
 fn print_repair<R: AllocGlobal + Print + Clock>(
@@ -79,23 +107,18 @@ fn print_repair<R: AllocGlobal + Print + Clock>(
     requires { (64 ≤ count) × (count ≤ 65536) }
 {
     let repair = Repair::of(rt.alloc(), count)?;
-    let segments = repair.segments()?;
-    print!(rt; "| {count} | {segments} |")?;
-    if is_timed {
-        let time = repair.fastest(rt)?;
-        print_microseconds(rt, time)?;
-    }
-    println!(rt)
+    print_repair_of(rt, &repair, count, is_timed)
 }
 
 fn print_repairs<R: AllocGlobal + Print + Clock>(rt: &R, is_timed: bool) -> io::Result<()> {
-    if is_timed {
-        println!(rt; "| Segments | Repaired | µs a repair |")?;
-        println!(rt; "|---|---|---|")?;
-    } else {
-        println!(rt; "| Segments | Repaired |")?;
-        println!(rt; "|---|---|")?;
-    }
+    println!(rt;
+        "{}",
+        if is_timed {
+            "| Segments | Repaired | µs a repair |\n|---|---|---|"
+        } else {
+            "| Segments | Repaired |\n|---|---|"
+        }
+    )?;
     for count in [256, 4096, 65_536] {
         print_repair(rt, count, is_timed)?;
     }

@@ -2,6 +2,7 @@
 use crate::audiences::objects::{resource, ven};
 use adr_audience::Audience;
 use adr_object::{Event, Program, Resource, Ven};
+use adr_test_values::telling::taken;
 use adr_value::Refusal;
 use std::alloc::Global;
 use std::io;
@@ -10,14 +11,6 @@ use std::time::Instant;
 
 /// How often each time is taken, of which the least is told.
 const ROUNDS: u32 = 15;
-
-/// The answer, with a refusal as an error of input and output.
-pub(crate) fn told<T: Drop>(answer: Result<T, Refusal>) -> io::Result<T> {
-    match answer {
-        Ok(value) => Ok(value),
-        Err(_) => Err(io::ErrorKind::OutOfMemory.into()),
-    }
-}
 
 /// So many resources.
 pub(crate) fn resources(alloc: Global, count: usize) -> Result<Vec<Resource>, Refusal> {
@@ -81,15 +74,13 @@ fn audience_time<C: Clock>(
     event: &Event,
     program: &Program,
 ) -> io::Result<u128> {
-    let start = Instant::now(clock)?;
+    let start = Instant::now(clock);
     let places = audience.audience(event, program);
-    let passed = start.elapsed(clock);
-    drop(places);
-    Ok(passed?.as_nanos())
+    taken(clock, start, places)
 }
 
 /// The nanoseconds of an audience: the least of some times.
-pub(crate) fn fastest_audience<C: Clock>(
+fn fastest_audience<C: Clock>(
     clock: &C,
     audience: &Audience,
     event: &Event,
@@ -102,16 +93,28 @@ pub(crate) fn fastest_audience<C: Clock>(
     Ok(least)
 }
 
+/// The same, where it is timed.
+pub(crate) fn time_of<C: Clock>(
+    clock: &C,
+    audience: &Audience,
+    event: &Event,
+    program: &Program,
+    is_timed: bool,
+) -> io::Result<Option<u128>> {
+    if !is_timed {
+        return Ok(None);
+    }
+    Ok(Some(fastest_audience(clock, audience, event, program)?))
+}
+
 fn index_time<R: AllocGlobal + Clock>(
     rt: &R,
     resources: &[Resource],
     vens: &[Ven],
 ) -> io::Result<u128> {
-    let start = Instant::now(rt)?;
+    let start = Instant::now(rt);
     let audience = indexed(rt.alloc(), resources, vens);
-    let passed = start.elapsed(rt);
-    drop(audience);
-    Ok(passed?.as_nanos())
+    taken(rt, start, audience)
 }
 
 /// The nanoseconds of an index of all resources: the least of some times.
@@ -138,7 +141,7 @@ pub(crate) fn change_time<C: Clock>(
     if audience.len() <= place {
         return Ok(0);
     }
-    let start = Instant::now(clock)?;
-    told(audience.replace(place, resource, ven))?;
-    Ok(start.elapsed(clock)?.as_nanos())
+    let start = Instant::now(clock);
+    let replaced = audience.replace(place, resource, ven);
+    taken(clock, start, replaced)
 }

@@ -6,6 +6,7 @@ ghost use Rattle.adr_bench_parts.specs.Numbers.{AreBelow, AreRising};
 
 use crate::indexes::shape::{entries, event};
 use adr_index::{Entry, Index};
+use adr_test_values::telling::{since, taken};
 use adr_time::Span;
 use adr_value::Refusal;
 use std::alloc::Global;
@@ -80,6 +81,24 @@ fn write_again(
     Ok(new)
 }
 
+/// The nanoseconds in which the event is written again, for that time. Its entries take the place of the old ones.
+fn edit_time<R: AllocGlobal + Clock>(
+    rt: &R,
+    index: &mut Index,
+    old: &mut Vec<Entry>,
+    count: u32,
+    time: u32,
+) -> io::Result<u128>
+    requires { AreBelow (count + 16 * time) index.old.entries }
+    ensures { OnOk result (AreBelow (count + 16 * (time + 1)) index.new.entries) }
+{
+    let start = Instant::now(rt);
+    let new = write_again(rt.alloc(), index, old, count, time);
+    let nanoseconds = since(rt, start);
+    *old = new?;
+    nanoseconds
+}
+
 /// The nanoseconds in which the event is written again: the least of some times.
 pub(crate) fn fastest_edit<R: AllocGlobal + Clock>(
     rt: &R,
@@ -91,10 +110,7 @@ pub(crate) fn fastest_edit<R: AllocGlobal + Clock>(
     let mut least = u128::MAX;
     let mut old = write_again(rt.alloc(), index, &[], count, 0)?;
     for time in 1..EDITS {
-        let start = Instant::now(rt)?;
-        old = write_again(rt.alloc(), index, &old, count, time)?;
-        let passed = start.elapsed(rt)?;
-        least = least.min(passed.as_nanos());
+        least = least.min(edit_time(rt, index, &mut old, count, time)?);
     }
     Ok(least)
 }
@@ -102,11 +118,9 @@ pub(crate) fn fastest_edit<R: AllocGlobal + Clock>(
 fn fill_time<R: AllocGlobal + Clock>(rt: &R, entries: &[Entry]) -> io::Result<u128>
     requires { AreRising 0 entries.now }
 {
-    let start = Instant::now(rt)?;
-    let index = index_of(rt.alloc(), entries)?;
-    let passed = start.elapsed(rt)?;
-    drop(index);
-    Ok(passed.as_nanos())
+    let start = Instant::now(rt);
+    let index = index_of(rt.alloc(), entries);
+    taken(rt, start, index)
 }
 
 /// The nanoseconds in which an index is filled at once with a copy of so many entries: the least of some times.

@@ -4,6 +4,7 @@ ghost use Rattle.std.specs.Prelude.{◌≤◌, length};
 use crate::indexes::filled::{EDITS, ROUNDS};
 use crate::indexes::shape::{entries, event};
 use adr_index::Entry;
+use adr_test_values::telling::{since, taken};
 use adr_time::{Span, meets};
 use std::alloc::{AllocError, Global};
 use std::cmp::Ordering;
@@ -60,6 +61,19 @@ fn put(list: &mut Vec<Entry>, entry: &Entry) -> Result<(), AllocError> {
     Ok(())
 }
 
+fn take_all(list: &mut Vec<Entry>, entries: &[Entry]) {
+    for entry in entries {
+        take(list, entry);
+    }
+}
+
+fn put_all(list: &mut Vec<Entry>, entries: &[Entry]) -> Result<(), AllocError> {
+    for entry in entries {
+        put(list, entry)?;
+    }
+    Ok(())
+}
+
 /// Writes the event again, for that time, and answers its entries.
 fn write_again(
     alloc: Global,
@@ -68,14 +82,25 @@ fn write_again(
     count: u32,
     time: u32,
 ) -> Result<Vec<Entry>, AllocError> {
-    for entry in old {
-        take(list, entry);
-    }
+    take_all(list, old);
     let new = event(alloc, count, time)?;
-    for entry in &new {
-        put(list, entry)?;
-    }
+    put_all(list, &new)?;
     Ok(new)
+}
+
+/// The nanoseconds in which the event is written again, for that time. Its entries take the place of the old ones.
+fn edit_time<R: AllocGlobal + Clock>(
+    rt: &R,
+    list: &mut Vec<Entry>,
+    old: &mut Vec<Entry>,
+    count: u32,
+    time: u32,
+) -> io::Result<u128> {
+    let start = Instant::now(rt);
+    let new = write_again(rt.alloc(), list, old, count, time);
+    let nanoseconds = since(rt, start);
+    *old = new?;
+    nanoseconds
 }
 
 /// The nanoseconds in which the event is written again: the least of some times.
@@ -87,20 +112,15 @@ pub(crate) fn fastest_list_edit<R: AllocGlobal + Clock>(
     let mut least = u128::MAX;
     let mut old = write_again(rt.alloc(), list, &[], count, 0)?;
     for time in 1..EDITS {
-        let start = Instant::now(rt)?;
-        old = write_again(rt.alloc(), list, &old, count, time)?;
-        let passed = start.elapsed(rt)?;
-        least = least.min(passed.as_nanos());
+        least = least.min(edit_time(rt, list, &mut old, count, time)?);
     }
     Ok(least)
 }
 
 fn sort_time<R: AllocGlobal + Clock>(rt: &R, entries: &[Entry]) -> io::Result<u128> {
-    let start = Instant::now(rt)?;
-    let list = sorted(rt.alloc(), entries)?;
-    let passed = start.elapsed(rt)?;
-    drop(list);
-    Ok(passed.as_nanos())
+    let start = Instant::now(rt);
+    let list = sorted(rt.alloc(), entries);
+    taken(rt, start, list)
 }
 
 /// The nanoseconds in which a copy of so many entries is sorted: the least of some times.

@@ -3,6 +3,7 @@ ghost use Rattle.std.specs.Prelude.{◌<◌, ◌≤◌, length};
 
 use crate::timelines::sweep::sweep;
 use adr_rule::Meter;
+use adr_test_values::telling::taken;
 use adr_time::{End, Moment, Span, meets};
 use adr_timeline::{Entry, Timeline};
 use std::alloc::Global;
@@ -43,43 +44,6 @@ pub(crate) fn measured(alloc: Global, entries: &[Entry]) -> io::Result<(usize, u
     }
 }
 
-/// The nanoseconds of a build, over some of them.
-fn build_time<R: AllocGlobal + Clock>(rt: &R, entries: &[Entry]) -> io::Result<u128>
-    requires { (0 < length entries.now) × (length entries.now ≤ 65536) }
-{
-    let times = MOST / entries.len();
-    let start = Instant::now(rt)?;
-    for _ in 0..times {
-        let _ = measured(rt.alloc(), entries)?;
-    }
-    let passed = start.elapsed(rt)?;
-    Ok(passed.as_nanos() / (times as u128))
-}
-
-/// The nanoseconds of a plain sweep, over some of them.
-fn sweep_time<R: AllocGlobal + Clock>(rt: &R, entries: &[Entry]) -> io::Result<u128>
-    requires { (0 < length entries.now) × (length entries.now ≤ 65536) }
-{
-    let times = MOST / entries.len();
-    let start = Instant::now(rt)?;
-    for _ in 0..times {
-        let _ = sweep(rt.alloc(), entries)?;
-    }
-    let passed = start.elapsed(rt)?;
-    Ok(passed.as_nanos() / (times as u128))
-}
-
-/// The nanoseconds of a plain sweep: the least of some times.
-pub(crate) fn fastest_sweep<R: AllocGlobal + Clock>(rt: &R, entries: &[Entry]) -> io::Result<u128>
-    requires { (0 < length entries.now) × (length entries.now ≤ 65536) }
-{
-    let mut least = sweep_time(rt, entries)?;
-    for _ in 1..ROUNDS {
-        least = least.min(sweep_time(rt, entries)?);
-    }
-    Ok(least)
-}
-
 /// How many of the entries meet the window.
 fn met(entries: &[Entry], window: &Span) -> usize {
     entries
@@ -88,44 +52,92 @@ fn met(entries: &[Entry], window: &Span) -> usize {
         .count()
 }
 
-/// The nanoseconds of a pass over the entries that finds those that meet a window, over some of them, each with
-/// another window.
-fn pass_time(clock: &impl Clock, entries: &[Entry]) -> io::Result<u128>
-    requires { (0 < length entries.now) × (length entries.now ≤ 65536) }
-{
-    let times = MOST / entries.len();
-    let start = Instant::now(clock)?;
-    for time in 0..times {
-        let window = Span {
-            start: Moment::of(-(time as i128)).unwrap_or(Moment::MIN),
-            end: End::Endless,
-        };
-        if met(entries, &window) < entries.len() {
-            return Err(io::ErrorKind::Other.into());
+/// A pass over the entries that finds those that meet a window, another one each time.
+fn pass(entries: &[Entry], time: usize) -> io::Result<()> {
+    let window = Span {
+        start: Moment::of(-(time as i128)).unwrap_or(Moment::MIN),
+        end: End::Endless,
+    };
+    if met(entries, &window) < entries.len() {
+        return Err(io::ErrorKind::Other.into());
+    }
+    Ok(())
+}
+
+/// What is timed.
+#[derive(Clone, Copy)]
+enum Way {
+    /// A build.
+    Build,
+    /// A plain sweep.
+    Sweep,
+    /// A plain pass.
+    Pass,
+}
+
+impl Way {
+    fn once(self, alloc: Global, entries: &[Entry], time: usize) -> io::Result<()>
+        requires { length entries.now ≤ 65536 }
+    {
+        match self {
+            Way::Build => {
+                let _ = measured(alloc, entries)?;
+                Ok(())
+            }
+            Way::Sweep => {
+                let _ = sweep(alloc, entries)?;
+                Ok(())
+            }
+            Way::Pass => pass(entries, time),
         }
     }
-    let passed = start.elapsed(clock)?;
-    Ok(passed.as_nanos() / (times as u128))
+
+    fn often(self, alloc: Global, entries: &[Entry], times: usize) -> io::Result<()>
+        requires { length entries.now ≤ 65536 }
+    {
+        for time in 0..times {
+            self.once(alloc, entries, time)?;
+        }
+        Ok(())
+    }
+
+    /// The nanoseconds of one time, over some of them.
+    fn time<R: AllocGlobal + Clock>(self, rt: &R, entries: &[Entry]) -> io::Result<u128>
+        requires { (0 < length entries.now) × (length entries.now ≤ 65536) }
+    {
+        let times = MOST / entries.len();
+        let start = Instant::now(rt);
+        let done = self.often(rt.alloc(), entries, times);
+        Ok(taken(rt, start, done)? / (times as u128))
+    }
+
+    /// The nanoseconds of one time: the least of some.
+    fn fastest<R: AllocGlobal + Clock>(self, rt: &R, entries: &[Entry]) -> io::Result<u128>
+        requires { (0 < length entries.now) × (length entries.now ≤ 65536) }
+    {
+        let mut least = u128::MAX;
+        for _ in 0..ROUNDS {
+            least = least.min(self.time(rt, entries)?);
+        }
+        Ok(least)
+    }
 }
 
-/// The nanoseconds of a build: the least of some times.
-pub(crate) fn fastest_build<R: AllocGlobal + Clock>(rt: &R, entries: &[Entry]) -> io::Result<u128>
-    requires { (0 < length entries.now) × (length entries.now ≤ 65536) }
-{
-    let mut least = build_time(rt, entries)?;
-    for _ in 1..ROUNDS {
-        least = least.min(build_time(rt, entries)?);
-    }
-    Ok(least)
+/// The nanoseconds of a build, of a plain sweep with a heap and of a plain pass over the entries.
+#[derive(Clone, Copy)]
+pub(crate) struct Times {
+    pub(crate) build: u128,
+    pub(crate) sweep: u128,
+    pub(crate) pass: u128,
 }
 
-/// The nanoseconds of a pass over the entries: the least of some times.
-pub(crate) fn fastest_pass(clock: &impl Clock, entries: &[Entry]) -> io::Result<u128>
-    requires { (0 < length entries.now) × (length entries.now ≤ 65536) }
-{
-    let mut least = pass_time(clock, entries)?;
-    for _ in 1..ROUNDS {
-        least = least.min(pass_time(clock, entries)?);
+impl Times {
+    pub(crate) fn of<R: AllocGlobal + Clock>(rt: &R, entries: &[Entry]) -> io::Result<Times>
+        requires { (0 < length entries.now) × (length entries.now ≤ 65536) }
+    {
+        let build = Way::Build.fastest(rt, entries)?;
+        let sweep = Way::Sweep.fastest(rt, entries)?;
+        let pass = Way::Pass.fastest(rt, entries)?;
+        Ok(Times { build, sweep, pass })
     }
-    Ok(least)
 }

@@ -4,6 +4,7 @@ ghost use Rattle.std.specs.Prelude.{◌≡◌, ◌≤◌, ◌<◌, length, IfOk}
 use crate::timelines::measure::segments_in;
 use crate::timelines::shape::{Shape, entries, spread};
 use adr_rule::Meter;
+use adr_test_values::telling::taken;
 use adr_time::Span;
 use adr_timeline::{Entry, Timeline, are_apart};
 use std::alloc::Global;
@@ -37,12 +38,33 @@ fn built(alloc: Global, entries: &[Entry]) -> io::Result<Timeline>
     }
 }
 
+/// A line of that many segments.
+fn line_of(alloc: Global, count: u32) -> io::Result<Timeline>
+    requires { count ≤ 65536 }
+{
+    let entries = entries(alloc, Shape::Disjoint, count)?;
+    built(alloc, &entries)
+}
+
 /// A long timeline, the windows of an edit in it, and what is to be shown in them.
-#[derive(Drop)]
 pub(crate) struct Repair {
     line: Timeline,
     windows: Vec<Span>,
     inner: Timeline,
+}
+
+// A function of its own, so that callers that let a value go need not look into it.
+impl Drop for Repair {
+    fn drop(self) {
+        let Repair {
+            line,
+            windows,
+            inner,
+        } = self;
+        drop(line);
+        drop(windows);
+        drop(inner);
+    }
 }
 
 impl Repair {
@@ -50,10 +72,17 @@ impl Repair {
     pub(crate) fn of(alloc: Global, count: u32) -> io::Result<Repair>
         requires { (64 ≤ count) × (count ≤ 65536) }
     {
-        let line = built(alloc, &entries(alloc, Shape::Disjoint, count)?)?;
         let inside = spread(alloc, WINDOWS, count / WINDOWS)?;
-        let inner = built(alloc, &inside)?;
+        Repair::inside(alloc, &inside, count)
+    }
+
+    fn inside(alloc: Global, inside: &[Entry], count: u32) -> io::Result<Repair>
+        requires inside { length inside.now ≤ 65536 }
+        requires count { count ≤ 65536 }
+    {
         let windows = inside.iter().map(|entry| entry.span).collect(alloc)?;
+        let inner = built(alloc, inside)?;
+        let line = line_of(alloc, count)?;
         Ok(Repair {
             line,
             windows,
@@ -78,17 +107,15 @@ impl Repair {
     }
 
     fn time(&self, clock: &impl Clock) -> io::Result<u128> {
-        let start = Instant::now(clock)?;
-        let line = self.repaired()?;
-        let passed = start.elapsed(clock)?;
-        drop(line);
-        Ok(passed.as_nanos())
+        let start = Instant::now(clock);
+        let line = self.repaired();
+        taken(clock, start, line)
     }
 
     /// The nanoseconds of a repair: the least of some times.
     pub(crate) fn fastest(&self, clock: &impl Clock) -> io::Result<u128> {
-        let mut least = self.time(clock)?;
-        for _ in 1..ROUNDS {
+        let mut least = u128::MAX;
+        for _ in 0..ROUNDS {
             least = least.min(self.time(clock)?);
         }
         Ok(least)

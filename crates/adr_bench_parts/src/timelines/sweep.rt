@@ -21,14 +21,24 @@ fn key_of(entry: &Entry, place: usize) -> Key {
     ))
 }
 
+/// Adds the start of the entry of that place, and its end.
+fn add_points(
+    points: &mut Vec<(Moment, usize)>,
+    place: usize,
+    entry: &Entry,
+) -> Result<(), AllocError> {
+    points.push((entry.span.start, place))?;
+    if let End::At(end) = entry.span.end {
+        points.push((end, place))?;
+    }
+    Ok(())
+}
+
 /// The starts and ends, each with the place of its entry.
 fn points(alloc: Global, entries: &[Entry]) -> Result<Vec<(Moment, usize)>, AllocError> {
     let mut points = Vec::with_capacity(alloc, entries.len().saturating_mul(2))?;
     for (place, entry) in entries.iter().enumerate() {
-        points.push((entry.span.start, place))?;
-        if let End::At(end) = entry.span.end {
-            points.push((end, place))?;
-        }
+        add_points(&mut points, place, entry)?;
     }
     points.sort_unstable();
     Ok(points)
@@ -85,31 +95,51 @@ fn winner_of(entry: &Entry) -> Winner {
     }
 }
 
+/// Takes in that the entry of the place starts or ends at the moment.
+fn step(
+    heap: &mut BinaryHeap<Key>,
+    line: &mut Vec<Segment>,
+    open: &mut Open,
+    entries: &[Entry],
+    (moment, place): (Moment, usize),
+) -> Result<(), AllocError> {
+    if let Some(entry) = entries.get(place)
+        && entry.span.start == moment
+    {
+        heap.push(key_of(entry, place))?;
+    }
+    let winner = least(heap, entries, moment);
+    if !is_same(&open.winner, &winner) {
+        close(line, open, End::At(moment))?;
+        *open = Open {
+            start: moment,
+            winner,
+        };
+    }
+    Ok(())
+}
+
+fn sweep_over(
+    heap: &mut BinaryHeap<Key>,
+    line: &mut Vec<Segment>,
+    entries: &[Entry],
+    points: &[(Moment, usize)],
+) -> Result<(), AllocError> {
+    let mut open = Open {
+        start: Moment::MIN,
+        winner: None,
+    };
+    for point in points {
+        step(heap, line, &mut open, entries, *point)?;
+    }
+    close(line, &open, End::Endless)
+}
+
 /// The segments of the least entry at each instant.
 pub(crate) fn sweep(alloc: Global, entries: &[Entry]) -> Result<Vec<Segment>, AllocError> {
     let points = points(alloc, entries)?;
     let mut heap: BinaryHeap<Key> = BinaryHeap::new(alloc);
     let mut line = Vec::new(alloc);
-    let mut open = Open {
-        start: Moment::MIN,
-        winner: None,
-    };
-    for (moment, place) in &points {
-        let Some(entry) = entries.get(*place) else {
-            return Ok(line);
-        };
-        if entry.span.start == *moment {
-            heap.push(key_of(entry, *place))?;
-        }
-        let winner = least(&mut heap, entries, *moment);
-        if !is_same(&open.winner, &winner) {
-            close(&mut line, &open, End::At(*moment))?;
-            open = Open {
-                start: *moment,
-                winner,
-            };
-        }
-    }
-    close(&mut line, &open, End::Endless)?;
+    sweep_over(&mut heap, &mut line, entries, &points)?;
     Ok(line)
 }
