@@ -32,6 +32,17 @@ fn try_line<R: AllocGlobal + Print + Threads + Sync>(
     }
 }
 
+fn try_lines<R: AllocGlobal + Print + Threads + Sync>(
+    rt: &R,
+    desks: &mut Desks,
+    lines: &str,
+) -> io::Result<()> {
+    for line in lines.lines() {
+        try_line(rt, desks, line)?;
+    }
+    Ok(())
+}
+
 /// Does what the lines say: each is an edit, `by COUNT` and an edit for so many workers, `load`, `seal`, `copy` or
 /// `condense`.
 pub(crate) fn try_desk<R: AllocGlobal + Print + Threads + Sync>(
@@ -39,8 +50,7 @@ pub(crate) fn try_desk<R: AllocGlobal + Print + Threads + Sync>(
     lines: &str,
 ) -> io::Result<()> {
     let mut desks = told(Desks::new(rt.alloc()))?;
-    for line in lines.lines() {
-        try_line(rt, &mut desks, line)?;
-    }
-    Ok(())
+    let tried = try_lines(rt, &mut desks, lines);
+    drop(desks);
+    tried
 }

@@ -9,6 +9,7 @@
 
 mod board;
 mod book;
+mod calls;
 mod desk;
 mod same;
 
@@ -28,10 +29,14 @@ fn try_part<R: AllocGlobal + Print + Wait + Threads + Sync>(rt: &R, part: &str) 
     }
 }
 
-fn main(rt: HostRuntime) -> io::Result<()> {
-    let text = io::read_to_string(rt.alloc(), rt.reader())?;
+fn try_parts<R: AllocGlobal + Print + Wait + Threads + Sync>(rt: &R, text: &str) -> io::Result<()> {
     for part in text.split("\n\n") {
-        try_part(&rt, part)?;
+        try_part(rt, part)?;
     }
     Ok(())
+}
+
+fn main(rt: HostRuntime) -> io::Result<()> {
+    let text = io::read_to_string(rt.alloc(), rt.reader())?;
+    try_parts(&rt, text.as_str())
 }

@@ -1,4 +1,5 @@
 //! Questions of a publication.
+use crate::calls::name_question;
 use crate::same::are_same;
 use adr_calendar::{at, list, roll, types};
 use adr_object::Id;
@@ -87,7 +88,7 @@ fn try_question<R: AllocGlobal + Print>(
     line: &str,
 ) -> io::Result<()> {
     let (first, rest) = word(line);
-    println!(rt; "{first}: publication {}, {rest}", snapshot.number())?;
+    name_question(rt, first, snapshot.number(), rest)?;
     match ask(rt.alloc(), snapshot, question) {
         Err(Refusal::NoMemory) => {
             tell_refused(rt, are_same(snapshot, twin))?;

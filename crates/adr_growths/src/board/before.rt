@@ -5,10 +5,18 @@ use adr_snapshot::Snapshot;
 use adr_value::Refusal;
 
 /// Copies of the desk and the last publication of a board before a call.
-#[derive(Drop)]
 pub(crate) struct Before {
     pub(crate) desk: Desk,
     pub(crate) last: Snapshot,
+}
+
+// A function of its own, so that callers that let a value go need not look into it.
+impl Drop for Before {
+    fn drop(self) {
+        let Before { desk, last } = self;
+        drop(desk);
+        drop(last);
+    }
 }
 
 impl Before {

@@ -1,5 +1,6 @@
 //! Edits of a board.
 use crate::board::before::Before;
+use crate::calls::name_apply;
 use adr_board::{Desk, Editor, Naming, NoGate, Receipt};
 use adr_object::Edit;
 use adr_test_values::lines::edit;
@@ -36,13 +37,6 @@ fn apply_to(desk: &mut Desk, edit: &Edit) -> Result<u64, Refusal> {
     version_of(desk.apply(edit))
 }
 
-fn tell_call<R: Print>(rt: &R, version: u64, workers: usize, line: &str) -> io::Result<()> {
-    match workers {
-        0 => println!(rt; "apply: version {version}, {line}"),
-        _ => println!(rt; "apply with {workers}: version {version}, {line}"),
-    }
-}
-
 fn try_apply<J: Naming, R: Print + Threads + Sync>(
     rt: &R,
     editor: &mut Editor<J>,
@@ -51,7 +45,7 @@ fn try_apply<J: Naming, R: Print + Threads + Sync>(
     edit: &Edit,
     line: &str,
 ) -> io::Result<()> {
-    tell_call(rt, twin.desk.book().version(), workers, line)?;
+    name_apply(rt, workers, twin.desk.book().version(), line)?;
     let mut answer = apply(rt, editor, workers, edit);
     if answer == Err(Refusal::NoMemory) {
         tell_refused(rt, twin.is_same(editor))?;

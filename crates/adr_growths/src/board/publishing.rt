@@ -1,5 +1,6 @@
 //! Publications, bases and looks.
 use crate::board::before::Before;
+use crate::calls::name_publication;
 use crate::same::{are_same, show_same};
 use adr_board::{Desk, Editor, Naming, Reader};
 use adr_snapshot::Snapshot;
@@ -28,7 +29,7 @@ fn publish_beside<J: Naming, R: Print + Wait>(
     twin: &mut Before,
 ) -> io::Result<()> {
     let number = twin.last.number();
-    println!(rt; "publish: publication {number}")?;
+    name_publication(rt, "publish", number)?;
     let mut answer = publish(rt, editor);
     if answer.is_err() {
         tell_refused(rt, twin.is_same(editor))?;
@@ -63,7 +64,7 @@ fn condense_beside<J: Naming, R: Print>(
     editor: &mut Editor<J>,
     twin: &Before,
 ) -> io::Result<()> {
-    println!(rt; "condense: publication {}", twin.last.number())?;
+    name_publication(rt, "condense", twin.last.number())?;
     let mut answer = editor.condense();
     if answer.is_err() {
         tell_refused(rt, twin.is_same(editor))?;

@@ -1,4 +1,5 @@
 //! Edits of a desk.
+use crate::calls::name_apply;
 use crate::desk::desks::Desks;
 use adr_desk::{Desk, NoGate, Receipt};
 use adr_object::Edit;
@@ -30,13 +31,6 @@ fn apply<R: Threads + Sync>(
     })
 }
 
-fn tell_call<R: Print>(rt: &R, version: u64, workers: usize, line: &str) -> io::Result<()> {
-    match workers {
-        0 => println!(rt; "apply: version {version}, {line}"),
-        _ => println!(rt; "apply with {workers}: version {version}, {line}"),
-    }
-}
-
 fn try_apply<R: Print + Threads + Sync>(
     rt: &R,
     desks: &mut Desks,
@@ -44,7 +38,7 @@ fn try_apply<R: Print + Threads + Sync>(
     edit: &Edit,
     line: &str,
 ) -> io::Result<()> {
-    tell_call(rt, desks.desk.book().version(), workers, line)?;
+    name_apply(rt, workers, desks.desk.book().version(), line)?;
     let mut answer = apply(rt, &mut desks.desk, workers, edit);
     if answer == Err(Refusal::NoMemory) {
         tell_refused(rt, desks.are_same_beside(edit))?;

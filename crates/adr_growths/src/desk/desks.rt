@@ -8,11 +8,20 @@ use adr_value::Refusal;
 use std::alloc::Global;
 
 /// A desk, its twin, for which the same calls are made once those of the desk have answered, and the edits so far.
-#[derive(Drop)]
 pub(crate) struct Desks {
     pub(crate) desk: Desk,
     pub(crate) twin: Desk,
     pub(crate) made: Vec<Edit>,
+}
+
+// A function of its own, so that callers that let a value go need not look into it.
+impl Drop for Desks {
+    fn drop(self) {
+        let Desks { desk, twin, made } = self;
+        drop(desk);
+        drop(twin);
+        drop(made);
+    }
 }
 
 /// Whether both have the same book and the same timelines, under one rule for ties.

@@ -1,4 +1,5 @@
 //! A desk that is filled at once.
+use crate::calls::name_call;
 use crate::desk::desks::{Desks, same_desk};
 use adr_desk::Desk;
 use adr_model::Tie;
@@ -35,7 +36,7 @@ pub(crate) fn try_load<R: Print + Threads + Sync>(
     alloc: Global,
     desks: &Desks,
 ) -> io::Result<()> {
-    println!(rt; "load: version {}", desks.desk.book().version())?;
+    name_call(rt, "load", desks.desk.book().version())?;
     let mut answer = load(rt, alloc, desks);
     if answer.is_err() {
         tell_refused(rt, desks.are_same())?;

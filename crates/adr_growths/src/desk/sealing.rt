@@ -2,6 +2,7 @@
 ghost use Rattle.std.specs.Prelude.{◌≡◌, [], OnErr, OnOk};
 ghost use Rattle.adr_book.specs.Ledger.{sealed_of};
 
+use crate::calls::name_call;
 use crate::desk::desks::{Desks, same_desk};
 use adr_book::Book;
 use adr_desk::Desk;
@@ -28,7 +29,7 @@ fn seal(desk: &mut Desk) -> Result<u64, Refusal>
 
 /// Closes the open batch.
 pub(crate) fn try_seal<R: Print>(rt: &R, desks: &mut Desks) -> io::Result<()> {
-    println!(rt; "seal: version {}", desks.desk.book().version())?;
+    name_call(rt, "seal", desks.desk.book().version())?;
     let mut answer = seal(&mut desks.desk);
     if answer.is_err() {
         tell_refused(rt, desks.are_same())?;
@@ -50,7 +51,7 @@ fn copy(desks: &Desks) -> Result<(u64, bool), Refusal> {
 
 /// Copies the desk; the copy is compared, and goes.
 pub(crate) fn try_copy<R: Print>(rt: &R, desks: &Desks) -> io::Result<()> {
-    println!(rt; "copy: version {}", desks.desk.book().version())?;
+    name_call(rt, "copy", desks.desk.book().version())?;
     let mut answer = copy(desks);
     if answer.is_err() {
         tell_refused(rt, desks.are_same())?;
@@ -72,11 +73,12 @@ fn condense(desk: &mut Desk) -> Result<u64, Refusal>
     version
 }
 
-/// Makes the desk's objects its base, after its batch is closed.
-pub(crate) fn try_condense<R: Print>(rt: &R, desks: &mut Desks) -> io::Result<()> {
-    told(seal(&mut desks.twin))?;
-    told(seal(&mut desks.desk))?;
-    println!(rt; "condense: version {}", desks.desk.book().version())?;
+/// Makes the objects of the desk its base, and of the twin, where no batch is open.
+fn condense_both<R: Print>(rt: &R, desks: &mut Desks) -> io::Result<()>
+    requires desk { sealed_of desks.old.desk.book ≡ desks.old.desk.book.objects }
+    requires twin { sealed_of desks.old.twin.book ≡ desks.old.twin.book.objects }
+{
+    name_call(rt, "condense", desks.desk.book().version())?;
     let mut answer = condense(&mut desks.desk);
     if answer.is_err() {
         tell_refused(rt, desks.are_same())?;
@@ -85,4 +87,11 @@ pub(crate) fn try_condense<R: Print>(rt: &R, desks: &mut Desks) -> io::Result<()
     tell_ordinary(rt, answer)?;
     told(condense(&mut desks.twin))?;
     tell_same(rt, desks.are_same())
+}
+
+/// Makes the desk's objects its base, after its batch is closed.
+pub(crate) fn try_condense<R: Print>(rt: &R, desks: &mut Desks) -> io::Result<()> {
+    told(seal(&mut desks.twin))?;
+    told(seal(&mut desks.desk))?;
+    condense_both(rt, desks)
 }
