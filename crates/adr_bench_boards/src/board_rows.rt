@@ -4,8 +4,8 @@ ghost use Rattle.std.specs.Prelude.{◌<◌, ◌≤◌};
 use crate::lives::lived;
 use crate::looking::looked;
 use crate::publishing::{held, published};
-use crate::told::told;
 use adr_board::NewBoard;
+use adr_test_values::telling::told;
 use std::io;
 use std::marker::Brand;
 use std::rt::Clock;
@@ -26,7 +26,7 @@ fn print_publications<R: AllocGlobal + Print + Clock + Wait>(
 }
 
 /// Holds so many publications at once, for a measurement of memory from outside.
-pub(crate) fn print_held<R: AllocGlobal + Print + Wait>(rt: &R, count: usize) -> io::Result<()> {
+pub(crate) fn print_held<R: AllocGlobal + Print + Wait>(rt: &R, count: u64) -> io::Result<()> {
     let last = told(held::<Brand, R>(rt, NewBoard::new(), count))?;
     println!(rt; "held {count} up to {last}")
 }

@@ -1,9 +1,9 @@
 //! Rows of how books stand after many edits and publications, and of how long an edit, a copy and a publication take.
 use crate::book_times::Measure;
-use crate::books::{book_of_event, book_of_many, changes, event, publish_often};
-use crate::told::told;
+use crate::books::{book_of_event, book_of_many, change, changes, publish_often};
 use adr_book::Book;
 use adr_object::{Edit, Kind};
+use adr_test_values::telling::told;
 use std::io;
 use std::rt::Clock;
 
@@ -20,17 +20,43 @@ fn print_times(rt: &impl Print, times: &[u128], is_timed: bool) -> io::Result<()
     println!(rt)
 }
 
-/// The nanoseconds of a judgement of the event's change, and of its commit.
+/// The nanoseconds of a judgement of the edit, and of its commit.
+fn least_edits<C: Clock>(clock: &C, book: &mut Book, edit: &Edit) -> io::Result<[u128; 2]> {
+    let judge = Measure::Judge(edit).least(clock, book)?;
+    let commit = Measure::Commit(edit).least(clock, book)?;
+    Ok([judge, commit])
+}
+
+/// The same of the event's change.
 fn edit_times<R: AllocGlobal + Clock>(
     rt: &R,
     book: &mut Book,
     intervals: usize,
 ) -> io::Result<[u128; 2]> {
-    let edit = Edit::Change(told(event(rt.alloc(), 0, intervals))?);
-    let judge = Measure::Judge(&edit).least(rt, book);
-    let commit = Measure::Commit(&edit).least(rt, book);
+    let edit = told(change(rt.alloc(), 0, intervals))?;
+    let times = least_edits(rt, book, &edit);
     drop(edit);
-    Ok([judge?, commit?])
+    times
+}
+
+/// The version and the open batch of a book after an event of so many intervals was changed again and again, and the
+/// times of a change.
+fn edited<R: AllocGlobal + Clock>(rt: &R, intervals: usize) -> io::Result<(u64, usize, [u128; 2])> {
+    let mut book = told(book_of_event(rt.alloc(), intervals))?;
+    let times = edit_times(rt, &mut book, intervals);
+    let (version, pending) = (book.version(), book.journal().pending().len());
+    drop(book);
+    Ok((version, pending, times?))
+}
+
+fn print_edited<R: AllocGlobal + Print + Clock>(
+    rt: &R,
+    intervals: usize,
+    is_timed: bool,
+) -> io::Result<()> {
+    let (version, pending, times) = edited(rt, intervals)?;
+    print!(rt; "| {intervals} | {version} | {pending} |")?;
+    print_times(rt, &times, is_timed)
 }
 
 /// The table of edits: the intervals of an event, and the version and the open batch after it was changed again and
@@ -45,18 +71,20 @@ fn print_edits<R: AllocGlobal + Print + Clock>(rt: &R, is_timed: bool) -> io::Re
         }
     )?;
     for intervals in [1, 16, 256, 4096] {
-        let mut book = told(book_of_event(rt.alloc(), intervals))?;
-        let times = edit_times(rt, &mut book, intervals);
-        let (version, pending) = (book.version(), book.journal().pending().len());
-        drop(book);
-        print!(rt; "| {intervals} | {version} | {pending} |")?;
-        print_times(rt, &times?, is_timed)?;
+        print_edited(rt, intervals, is_timed)?;
     }
     println!(rt)
 }
 
-/// The nanoseconds of a copy of the book, of some changes of so many events beside a copy that is kept, and of the
-/// changes alone.
+/// The nanoseconds of a copy of the book, of the edits beside a copy that is kept, and of the edits alone.
+fn least_copies<C: Clock>(clock: &C, book: &mut Book, edits: &[Edit]) -> io::Result<[u128; 3]> {
+    let copy = Measure::Copy.least(clock, book)?;
+    let beside = Measure::EditsBesideCopy(edits).least(clock, book)?;
+    let alone = Measure::Edits(edits).least(clock, book)?;
+    Ok([copy, beside, alone])
+}
+
+/// The same with some changes of so many events.
 fn copy_times<R: AllocGlobal + Clock>(
     rt: &R,
     book: &mut Book,
@@ -64,20 +92,58 @@ fn copy_times<R: AllocGlobal + Clock>(
 ) -> io::Result<[u128; 3]> {
     told(book.seal())?;
     let edits = told(changes(rt.alloc(), CHANGES, count / CHANGES))?;
-    let copy = Measure::Copy.least(rt, book);
-    let beside = Measure::EditsBesideCopy(edits.as_slice()).least(rt, book);
-    let alone = Measure::Edits(edits.as_slice()).least(rt, book);
+    let times = least_copies(rt, book, edits.as_slice());
     drop(edits);
-    Ok([copy?, beside?, alone?])
+    times
 }
 
-/// The objects, and the version, the closed batches and the open one after all edits.
-fn print_counts(rt: &impl Print, book: &Book) -> io::Result<()> {
-    let (resources, events) = (book.count(Kind::Resource), book.count(Kind::Event));
-    let journal = book.journal();
-    print!(rt; "| {resources} | {events} |")?;
-    print!(rt; " {} | {} |", book.version(), journal.closed().len())?;
-    print!(rt; " {} |", journal.pending().len())
+/// How a book stands: its resources and events, its version, its closed batches and its open one.
+#[derive(Clone, Copy)]
+struct Counts {
+    resources: usize,
+    events: usize,
+    version: u64,
+    closed: usize,
+    pending: usize,
+}
+
+impl Counts {
+    fn of(book: &Book) -> Counts {
+        let journal = book.journal();
+        Counts {
+            resources: book.count(Kind::Resource),
+            events: book.count(Kind::Event),
+            version: book.version(),
+            closed: journal.closed().len(),
+            pending: journal.pending().len(),
+        }
+    }
+
+    fn print(self, rt: &impl Print) -> io::Result<()> {
+        print!(rt;
+            "| {} | {} | {} | {} | {} |",
+            self.resources, self.events, self.version, self.closed, self.pending
+        )
+    }
+}
+
+/// How a book of so many stands after all edits, and the times of copies.
+fn copied<R: AllocGlobal + Clock>(rt: &R, count: usize) -> io::Result<(Counts, [u128; 3])> {
+    let mut book = told(book_of_many(rt.alloc(), count))?;
+    let times = copy_times(rt, &mut book, count);
+    let counts = Counts::of(&book);
+    drop(book);
+    Ok((counts, times?))
+}
+
+fn print_copied<R: AllocGlobal + Print + Clock>(
+    rt: &R,
+    count: usize,
+    is_timed: bool,
+) -> io::Result<()> {
+    let (counts, times) = copied(rt, count)?;
+    counts.print(rt)?;
+    print_times(rt, &times, is_timed)
 }
 
 /// The table of copies.
@@ -91,29 +157,57 @@ fn print_copies<R: AllocGlobal + Print + Clock>(rt: &R, is_timed: bool) -> io::R
         }
     )?;
     for count in [256, 4096, 16_384] {
-        let mut book = told(book_of_many(rt.alloc(), count))?;
-        let times = copy_times(rt, &mut book, count);
-        let printed = print_counts(rt, &book);
-        drop(book);
-        printed?;
-        print_times(rt, &times?, is_timed)?;
+        print_copied(rt, count, is_timed)?;
     }
     println!(rt)
 }
 
-/// The nanoseconds of a copy after so many publications of the event's change, and of one publication more.
+/// The nanoseconds of a copy after so many publications of the edit, and of one publication more.
+fn least_publications<C: Clock>(
+    clock: &C,
+    book: &mut Book,
+    edit: &Edit,
+    publications: u32,
+) -> io::Result<[u128; 2]> {
+    told(publish_often(book, edit, publications))?;
+    let copy = Measure::Copy.least(clock, book)?;
+    let seal = Measure::Seal(edit).least(clock, book)?;
+    Ok([copy, seal])
+}
+
+/// The same of the event's change.
 fn publish_times<R: AllocGlobal + Clock>(
     rt: &R,
     book: &mut Book,
     publications: u32,
 ) -> io::Result<[u128; 2]> {
-    let edit = Edit::Change(told(event(rt.alloc(), 0, 1))?);
-    let published = publish_often(book, &edit, publications);
-    let copy = Measure::Copy.least(rt, book);
-    let seal = Measure::Seal(&edit).least(rt, book);
+    let edit = told(change(rt.alloc(), 0, 1))?;
+    let times = least_publications(rt, book, &edit, publications);
     drop(edit);
-    told(published)?;
-    Ok([copy?, seal?])
+    times
+}
+
+/// The version and the closed batches of a book after some more than so many publications, and the times of a copy and
+/// of a publication.
+fn published<R: AllocGlobal + Clock>(
+    rt: &R,
+    publications: u32,
+) -> io::Result<(u64, usize, [u128; 2])> {
+    let mut book = told(book_of_event(rt.alloc(), 1))?;
+    let times = publish_times(rt, &mut book, publications);
+    let (version, closed) = (book.version(), book.journal().closed().len());
+    drop(book);
+    Ok((version, closed, times?))
+}
+
+fn print_published<R: AllocGlobal + Print + Clock>(
+    rt: &R,
+    publications: u32,
+    is_timed: bool,
+) -> io::Result<()> {
+    let (version, closed, times) = published(rt, publications)?;
+    print!(rt; "| {publications} | {version} | {closed} |")?;
+    print_times(rt, &times, is_timed)
 }
 
 /// The table of publications: their number, and the version and the closed batches after some more of them.
@@ -127,12 +221,7 @@ fn print_publications<R: AllocGlobal + Print + Clock>(rt: &R, is_timed: bool) ->
         }
     )?;
     for publications in [1, 100, 10_000] {
-        let mut book = told(book_of_event(rt.alloc(), 1))?;
-        let times = publish_times(rt, &mut book, publications);
-        let (version, closed) = (book.version(), book.journal().closed().len());
-        drop(book);
-        print!(rt; "| {publications} | {version} | {closed} |")?;
-        print_times(rt, &times?, is_timed)?;
+        print_published(rt, publications, is_timed)?;
     }
     Ok(())
 }

@@ -1,8 +1,8 @@
 //! What is measured: judging and making an edit, copies of a book and edits after them, and publications.
 use crate::books::{make, make_all};
-use crate::told::{since, told};
 use adr_book::{Book, judge};
 use adr_object::Edit;
+use adr_test_values::telling::{taken, told};
 use std::io;
 use std::rt::Clock;
 use std::time::Instant;
@@ -31,36 +31,15 @@ impl Measure<'_> {
     /// The nanoseconds of one time.
     fn time<C: Clock>(self, clock: &C, book: &mut Book) -> io::Result<u128> {
         match self {
-            Measure::Judge(edit) => {
-                let start = Instant::now(clock);
-                told(judge(book, edit))?;
-                since(clock, start)
-            }
-            Measure::Commit(edit) => {
-                told(judge(book, edit))?;
-                let copy = told(edit.copy())?;
-                let start = Instant::now(clock);
-                told(book.commit(copy))?;
-                since(clock, start)
-            }
-            Measure::Seal(edit) => {
-                told(make(book, edit))?;
-                let start = Instant::now(clock);
-                told(book.seal())?;
-                since(clock, start)
-            }
+            Measure::Judge(edit) => judge_time(clock, book, edit),
+            Measure::Commit(edit) => commit_time(clock, book, edit),
+            Measure::Seal(edit) => seal_time(clock, book, edit),
             Measure::Copy => copy_time(clock, book),
             Measure::Edits(edits) => {
                 told(book.seal())?;
                 edits_time(clock, book, edits)
             }
-            Measure::EditsBesideCopy(edits) => {
-                told(book.seal())?;
-                let kept = told(book.copy())?;
-                let time = edits_time(clock, book, edits);
-                drop(kept);
-                time
-            }
+            Measure::EditsBesideCopy(edits) => beside_time(clock, book, edits),
         }
     }
 
@@ -74,17 +53,45 @@ impl Measure<'_> {
     }
 }
 
+fn judge_time<C: Clock>(clock: &C, book: &Book, edit: &Edit) -> io::Result<u128> {
+    let start = Instant::now(clock);
+    let judged = judge(book, edit);
+    taken(clock, start, judged)
+}
+
+fn commit_time<C: Clock>(clock: &C, book: &mut Book, edit: &Edit) -> io::Result<u128> {
+    told(judge(book, edit))?;
+    let copy = told(edit.copy())?;
+    let start = Instant::now(clock);
+    let committed = book.commit(copy);
+    taken(clock, start, committed)
+}
+
+fn seal_time<C: Clock>(clock: &C, book: &mut Book, edit: &Edit) -> io::Result<u128> {
+    told(make(book, edit))?;
+    let start = Instant::now(clock);
+    let sealed = book.seal();
+    taken(clock, start, sealed)
+}
+
 fn copy_time<C: Clock>(clock: &C, book: &Book) -> io::Result<u128> {
     let start = Instant::now(clock);
     let copy = book.copy();
-    let nanoseconds = since(clock, start);
-    drop(told(copy)?);
-    nanoseconds
+    taken(clock, start, copy)
 }
 
 /// The nanoseconds in which the edits are judged and committed.
 fn edits_time<C: Clock>(clock: &C, book: &mut Book, edits: &[Edit]) -> io::Result<u128> {
     let start = Instant::now(clock);
-    told(make_all(book, edits))?;
-    since(clock, start)
+    let made = make_all(book, edits);
+    taken(clock, start, made)
+}
+
+/// The same right after a publication of which a copy is kept.
+fn beside_time<C: Clock>(clock: &C, book: &mut Book, edits: &[Edit]) -> io::Result<u128> {
+    told(book.seal())?;
+    let kept = told(book.copy())?;
+    let time = edits_time(clock, book, edits);
+    drop(kept);
+    time
 }

@@ -1,43 +1,46 @@
 //! The books of the tables, and the edits that fill and change them.
 use adr_book::{Book, judge};
-use adr_object::{Edit, Id, Kind, Object, Shared};
-use adr_read::read_event;
-use adr_test_values::lines::edit;
-use adr_time::Moment;
+use adr_object::{Edit, Kind};
+use adr_test_values::bodies::{edit_of, list_of};
 use adr_value::Refusal;
-use std::alloc::Global;
+use std::alloc::{AllocError, Global};
 
 /// How many events a program has, and how many resources a ven has.
 const GROUP: usize = 64;
 
-/// An interval with one price, and a comma.
-const INTERVAL: &str = r#"{"payloads":[{"type":"PRICE","values":[1]}]},"#;
+/// An interval with one price.
+const INTERVAL: &str = r#"{"payloads":[{"type":"PRICE","values":[1]}]}"#;
 
-/// The event of that number, of so many intervals.
-pub(crate) fn event(alloc: Global, number: usize, intervals: usize) -> Result<Object, Refusal> {
+/// The line of an edit of the event of that number, of so many intervals.
+fn event_line(
+    alloc: Global,
+    verb: &str,
+    number: usize,
+    intervals: usize,
+) -> Result<String, AllocError> {
     let program = number / GROUP;
-    let intervals = INTERVAL.repeat(alloc, intervals)?;
-    let intervals = intervals.as_str().strip_suffix(',').unwrap_or_default();
-    let body = format!(in alloc;
-        r#"{{"programID":"{program}","intervalPeriod":{{"start":"2024-01-01T00Z","duration":"PT1H"}},"intervals":[{intervals}]}}"#
-    )?;
-    let id = format!(in alloc; "{number}")?;
-    let id = Id::read(alloc, id.as_str())?;
-    let event = read_event(alloc, body.as_bytes(), &id, Moment::MIN);
-    drop(id);
-    Ok(Object::Event(Shared::new(alloc, event?)?))
+    let intervals = list_of(alloc, INTERVAL, intervals)?;
+    format!(in alloc;
+        r#"{verb} event {number} {{"programID":"{program}","intervalPeriod":{{"start":"2024-01-01T00Z","duration":"PT1H"}},"intervals":[{intervals}]}}"#
+    )
 }
 
-/// The creation of the object of a kind whose id is the number. An event has one interval.
-fn creation(alloc: Global, kind: Kind, number: usize) -> Result<Edit, Refusal> {
+/// The change of the event of that number to one of so many intervals.
+pub(crate) fn change(alloc: Global, number: usize, intervals: usize) -> Result<Edit, Refusal> {
+    edit_of(alloc, event_line(alloc, "change", number, intervals))
+}
+
+/// The line that creates the object of a kind whose id is the number. An event has one interval.
+fn creation_line(alloc: Global, kind: Kind, number: usize) -> Result<String, AllocError> {
     let group = number / GROUP;
-    let line = match kind {
-        Kind::Program => format!(in alloc; "create program {number}")?,
-        Kind::Ven => format!(in alloc; "create ven {number}")?,
-        Kind::Resource => format!(in alloc; "create resource {number} {group}")?,
-        Kind::Event => return Ok(Edit::Create(event(alloc, number, 1)?)),
-    };
-    edit(alloc, line.as_str())
+    match kind {
+        Kind::Program => format!(in alloc; r#"create program {number} {{"programName":"P"}}"#),
+        Kind::Ven => format!(in alloc; r#"create ven {number} {{"venName":"{number}"}}"#),
+        Kind::Resource => format!(in alloc;
+            r#"create resource {number} {{"resourceName":"R","venID":"{group}"}}"#
+        ),
+        Kind::Event => event_line(alloc, "create", number, 1),
+    }
 }
 
 /// The creations of so many objects of a kind.
@@ -48,7 +51,8 @@ fn add_creations(
     count: usize,
 ) -> Result<(), Refusal> {
     for number in 0..count {
-        edits.push(creation(alloc, kind, number)?)?;
+        let creation = edit_of(alloc, creation_line(alloc, kind, number))?;
+        edits.push(creation)?;
     }
     Ok(())
 }
@@ -57,8 +61,8 @@ fn add_creations(
 pub(crate) fn changes(alloc: Global, count: usize, apart: usize) -> Result<Vec<Edit>, Refusal> {
     let mut changes = Vec::new(alloc);
     for place in 0..count {
-        let event = event(alloc, place.wrapping_mul(apart), 1)?;
-        changes.push(Edit::Change(event))?;
+        let change = change(alloc, place.wrapping_mul(apart), 1)?;
+        changes.push(change)?;
     }
     Ok(changes)
 }
@@ -112,7 +116,8 @@ pub(crate) fn book_of_many(alloc: Global, count: usize) -> Result<Book, Refusal>
 /// A book of one program with one event of so many intervals.
 pub(crate) fn book_of_event(alloc: Global, intervals: usize) -> Result<Book, Refusal> {
     let mut edits = Vec::new(alloc);
-    edits.push(creation(alloc, Kind::Program, 0)?)?;
-    edits.push(Edit::Create(event(alloc, 0, intervals)?))?;
+    add_creations(alloc, &mut edits, Kind::Program, 1)?;
+    let event = edit_of(alloc, event_line(alloc, "create", 0, intervals))?;
+    edits.push(event)?;
     made_of(alloc, edits)
 }

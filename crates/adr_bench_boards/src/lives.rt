@@ -2,10 +2,10 @@
 ghost use Rattle.std.specs.Prelude.{◌≡◌};
 
 use crate::boards::{change, fill};
-use crate::told::told;
 use adr_board::{Board, Editor, Naming, NewBoard, Reader};
 use adr_model::Tie;
 use adr_snapshot::Snapshot;
+use adr_test_values::telling::told;
 use adr_value::Refusal;
 use std::alloc::Global;
 use std::io;
@@ -58,7 +58,28 @@ fn places(alloc: Global) -> Result<Vec<Option<Arc<Snapshot>>>, Refusal> {
     Ok(held)
 }
 
-/// So many thousand edits of a board that is filled. After each thousand stands a line, for a measurement of time and memory from outside.
+/// So many thousand edits. After each thousand stands a line, for a measurement of time and memory from outside.
+fn live_with<J: Naming, R: Print + Wait>(
+    rt: &R,
+    alloc: Global,
+    editor: &mut Editor<J>,
+    reader: &mut Reader<J>,
+    held: &mut [Option<Arc<Snapshot>>],
+    thousands: u64,
+) -> io::Result<()> {
+    for _ in 0..thousands {
+        told(live(rt, alloc, editor, reader, held))?;
+        let last = editor.last();
+        println!(rt;
+            "{} publications, version {}",
+            last.number(),
+            last.version()
+        )?;
+    }
+    Ok(())
+}
+
+/// So many thousand edits of a board that is filled.
 fn live_on<J: Naming, R: Print + Wait>(
     rt: &R,
     alloc: Global,
@@ -68,16 +89,9 @@ fn live_on<J: Naming, R: Print + Wait>(
 ) -> io::Result<()> {
     told(fill(rt, alloc, editor, RESOURCES))?;
     let mut held = told(places(alloc))?;
-    for _ in 0..thousands {
-        told(live(rt, alloc, editor, reader, held.as_mut_slice()))?;
-        let last = editor.last();
-        println!(rt;
-            "{} publications, version {}",
-            last.number(),
-            last.version()
-        )?;
-    }
-    Ok(())
+    let lived = live_with(rt, alloc, editor, reader, held.as_mut_slice(), thousands);
+    drop(held);
+    lived
 }
 
 /// Opens a board with one reader and lets it live for so many thousand edits. Within is what printing answered.

@@ -14,40 +14,47 @@ mod books;
 mod lives;
 mod looking;
 mod publishing;
-mod told;
 
 use crate::board_rows::{print_boards, print_held, print_life, print_looks};
 use crate::book_rows::print_books;
+use adr_test_values::word;
+use std::io;
 use std::rt::{Clock, Env};
 use std::sync::Wait;
 use std::thread::Threads;
-use std::{env, io};
+
+/// The number that stands behind the first word, or 1.
+fn count<R: AllocGlobal + Env>(rt: &R) -> io::Result<u64> {
+    let count = word(rt, 2)?;
+    let count = count.as_deref().unwrap_or("");
+    Ok(count.parse::<u64>().unwrap_or(1))
+}
 
 /// What stands behind a word.
 fn print_part<R: AllocGlobal + Print + Clock + Threads + Wait + Sync>(
     rt: &R,
     part: &str,
-    count: &str,
+    count: u64,
 ) -> io::Result<()> {
     match part {
         "books" => print_books(rt, true),
         "boards" => print_boards(rt, true),
         "looks" => print_looks(rt),
-        "live" => print_life(rt, count.parse::<u64>().unwrap_or(1)),
-        _ => print_held(rt, count.parse::<usize>().unwrap_or(1)),
+        "live" => print_life(rt, count),
+        _ => print_held(rt, count),
     }
 }
 
+/// All by count.
+fn print_all<R: AllocGlobal + Print + Clock + Wait>(rt: &R) -> io::Result<()> {
+    print_books(rt, false)?;
+    println!(rt)?;
+    print_boards(rt, false)
+}
+
 fn main(rt: HostRuntime) -> io::Result<()> {
-    let mut words = env::args(&rt)?;
-    let _name = words.next();
-    let part = words.next();
-    let count = words.next();
-    if let Some(part) = &part {
-        let count = count.as_deref().unwrap_or("");
-        return print_part(&rt, part.as_str(), count);
+    match word(&rt, 1)? {
+        Some(part) => print_part(&rt, part.as_str(), count(&rt)?),
+        None => print_all(&rt),
     }
-    print_books(&rt, false)?;
-    println!(&rt)?;
-    print_boards(&rt, false)
 }

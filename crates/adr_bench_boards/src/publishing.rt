@@ -2,10 +2,10 @@
 ghost use Rattle.std.specs.Prelude.{◌≡◌};
 
 use crate::boards::{change, fill};
-use crate::told::{since, told};
 use adr_board::{Board, Editor, Naming, NewBoard, Reader};
 use adr_model::Tie;
 use adr_snapshot::Snapshot;
+use adr_test_values::telling::{taken, told};
 use adr_value::Refusal;
 use std::alloc::Global;
 use std::io;
@@ -26,6 +26,13 @@ pub(crate) struct Taken {
     pub(crate) nanoseconds: u128,
 }
 
+/// The nanoseconds of a publication.
+fn publish_time<J: Naming, R: Clock + Wait>(rt: &R, editor: &mut Editor<J>) -> io::Result<u128> {
+    let start = Instant::now(rt);
+    let published = editor.publish(rt);
+    taken(rt, start, published)
+}
+
 /// What publications take, each after one edit, once the board is filled.
 fn publish_again<J: Naming, R: Clock + Wait>(
     rt: &R,
@@ -37,9 +44,7 @@ fn publish_again<J: Naming, R: Clock + Wait>(
     let mut least = u128::MAX;
     for price in 0..ROUNDS {
         told(change(alloc, editor, price))?;
-        let start = Instant::now(rt);
-        told(editor.publish(rt))?;
-        least = least.min(since(rt, start)?);
+        least = least.min(publish_time(rt, editor)?);
     }
     Ok(Taken {
         last: editor.last().number(),
@@ -63,6 +68,22 @@ pub(crate) fn published<J: Naming, R: AllocGlobal + Clock + Wait>(
     Ok(taken)
 }
 
+/// Publishes a change, and keeps what is seen.
+fn keep<J: Naming, R: Wait>(
+    rt: &R,
+    alloc: Global,
+    editor: &mut Editor<J>,
+    reader: &mut Reader<J>,
+    kept: &mut Vec<Arc<Snapshot>>,
+    price: u64,
+) -> Result<(), Refusal> {
+    change(alloc, editor, price)?;
+    editor.publish(rt)?;
+    let seen = reader.look()?;
+    kept.push(seen)?;
+    Ok(())
+}
+
 /// Looks after each of so many publications, and keeps what is seen.
 fn keep_each<J: Naming, R: Wait>(
     rt: &R,
@@ -70,14 +91,10 @@ fn keep_each<J: Naming, R: Wait>(
     editor: &mut Editor<J>,
     reader: &mut Reader<J>,
     kept: &mut Vec<Arc<Snapshot>>,
-    count: usize,
+    count: u64,
 ) -> Result<(), Refusal> {
-    let mut price = 0_u64;
-    for _ in 0..count {
-        change(alloc, editor, price)?;
-        editor.publish(rt)?;
-        kept.push(reader.look()?)?;
-        price = price.wrapping_add(1);
+    for price in 0..count {
+        keep(rt, alloc, editor, reader, kept, price)?;
     }
     Ok(())
 }
@@ -88,7 +105,7 @@ fn hold<J: Naming, R: Wait>(
     alloc: Global,
     editor: &mut Editor<J>,
     reader: &mut Reader<J>,
-    count: usize,
+    count: u64,
 ) -> Result<u64, Refusal> {
     fill(rt, alloc, editor, MANY)?;
     let mut kept: Vec<Arc<Snapshot>> = Vec::new(alloc);
@@ -106,7 +123,7 @@ fn hold<J: Naming, R: Wait>(
 pub(crate) fn held<J: Naming, R: AllocGlobal + Wait>(
     rt: &R,
     board: NewBoard,
-    count: usize,
+    count: u64,
 ) -> Result<u64, Refusal>
     requires { board.diary.page.book ≡ J.history }
 {
