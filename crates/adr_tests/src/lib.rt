@@ -11,6 +11,10 @@ mod bodies;
 #[cfg(test)]
 mod fan_runs;
 #[cfg(test)]
+mod filled;
+#[cfg(test)]
+mod loaded;
+#[cfg(test)]
 mod meeting;
 #[cfg(test)]
 mod replayed;

@@ -60,16 +60,21 @@ impl<R: Clock> Gate for Meeting<R> {
 const FIRST: &[u8] = b"edit 2024-01-01T00:00:00Z create program p1 {\"programName\":\"P\"}\n\
 edit 2024-01-01T00:00:00Z create ven v1 {\"venName\":\"V\"}\n\
 edit 2024-01-01T00:00:00Z create resource r1 {\"resourceName\":\"R\",\"venID\":\"v1\"}\n\
+edit 2024-01-01T00:00:00Z create event e1 {\"programID\":\"p1\",\"intervals\":[{\"id\":0,\"intervalPeriod\":{\"start\":\"2024-01-01T00:00:00Z\",\"duration\":\"PT1H\"},\"payloads\":[{\"type\":\"PRICE\",\"values\":[0.17]}]}]}\n\
 publish\n\
 at r1 PRICE 2024-01-01T00:30:00Z\n\
-edit 2024-01-01T00:00:00Z change program p1 {\"programName\":\"Q\"}\n";
+edit 2024-01-01T00:00:00Z create ven v2 {\"venName\":\"W\"}\n";
 
-const SECOND: &[u8] = b"types r1\n";
+const SECOND: &[u8] = b"at r1 PRICE 2024-01-01T01:00:00Z\n";
 
-const EDITOR: &[u8] = b"ok 1\nok 2\nok 3\npublished 1 version 3\nok 4\n";
+const EDITOR: &[u8] = b"ok 1\nok 2\nok 3\nok 4\npublished 1 version 4\nok 5\n";
 
-const PARTS: &[u8] = b"reader 0\nversion 3 none until end\nversion 3\n.\n\
-reader 1\nversion 3 none until end\nversion 3\n.\n";
+const PARTS: &[u8] = b"reader 0\n\
+version 4 event e1 interval 0 until 2024-01-01T01:00:00Z values 0.17\n\
+version 4 none until end\n\
+reader 1\n\
+version 4 event e1 interval 0 until 2024-01-01T01:00:00Z values 0.17\n\
+version 4 none until end\n";
 
 /// Gives a first piece at once, and a second once both readers have a query.
 #[derive(Drop)]

@@ -10,14 +10,14 @@ use std::thread::Threads;
 const SCRIPT: &[u8] = b"edit 2024-01-01T00:00:00Z create program p1 {\"programName\":\"P\"}\n\
 edit 2024-01-01T00:00:00Z create ven v1 {\"venName\":\"V\"}\n\
 edit 2024-01-01T00:00:00Z create resource r1 {\"resourceName\":\"R\",\"venID\":\"v1\"}\n\
-edit 2024-01-01T00:00:00Z create event e1 {\"programID\":\"p1\",\"intervals\":[{\"id\":0,\"intervalPeriod\":{\"start\":\"2024-01-01T00:00:00Z\",\"duration\":\"PT1H\"},\"payloads\":[{\"type\":\"PRICE\",\"values\":[17]}]}]}\n\
+edit 2024-01-01T00:00:00Z create event e1 {\"programID\":\"p1\",\"intervals\":[{\"id\":0,\"intervalPeriod\":{\"start\":\"2024-01-01T00:00:00Z\",\"duration\":\"PT1H\"},\"payloads\":[{\"type\":\"PRICE\",\"values\":[0.17]}]}]}\n\
 publish\n\
 at r1 PRICE 2024-01-01T00:30:00Z\n";
 
 const PROGRAM: &[u8] = b"edit 2024-01-01T00:00:00Z create program p1 {\"programName\":\"P\"}\n";
 
 const TEXT: &[u8] = b"ok 1\nok 2\nok 3\nok 4\npublished 1 version 4\n\
-version 4 event e1 interval 0 until 2024-01-01T01:00:00Z values 17\n";
+version 4 event e1 interval 0 until 2024-01-01T01:00:00Z values 0.17\n";
 
 /// Whether the script alone has those replies.
 fn answers(
@@ -96,26 +96,44 @@ fn answers_bytes_that_no_transcript_holds(rt: HostRuntime) -> Result<(), Fail> {
     Ok(())
 }
 
-/// A script that creates an event of so many intervals.
-fn intervals(alloc: Global, count: usize) -> Result<Vec<u8>, AllocError> {
-    let mut script = Vec::new(alloc);
-    script.extend_from_slice(PROGRAM)?;
+/// Adds the line of an event of so many intervals, each with one payload, under an id of one letter.
+fn add_event(script: &mut Vec<u8>, id: u8, count: usize) -> Result<(), AllocError> {
+    script.extend_from_slice(b"edit 2024-01-01T00:00:00Z create event ")?;
+    script.push(id)?;
     script.extend_from_slice(
-        b"edit 2024-01-01T00:00:00Z create event e1 {\"programID\":\"p1\",\"intervalPeriod\":{\"start\":\"0000-00-00\"},\"intervals\":[{\"payloads\":[]}",
+        b" {\"programID\":\"p1\",\"intervalPeriod\":{\"start\":\"2024-01-01T00:00:00Z\",\"duration\":\"PT1H\"},\"intervals\":[",
     )?;
-    for _ in 1..count {
-        script.extend_from_slice(b",{\"payloads\":[]}")?;
+    for place in 0..count {
+        if place > 0 {
+            script.push(b',')?;
+        }
+        script.extend_from_slice(b"{\"payloads\":[{\"type\":\"SIMPLE\",\"values\":[1]}]}")?;
     }
     script.extend_from_slice(b"]}\n")?;
+    Ok(())
+}
+
+/// A script that creates an event of an interval too many, as many entries as there may be, one more, and an event
+/// without any.
+fn entries(alloc: Global) -> Result<Vec<u8>, AllocError> {
+    let mut script = Vec::new(alloc);
+    script.extend_from_slice(PROGRAM)?;
+    add_event(&mut script, b'a', 16_385)?;
+    for id in b'a'..b'q' {
+        add_event(&mut script, id, 16_384)?;
+    }
+    add_event(&mut script, b'q', 1)?;
+    add_event(&mut script, b'r', 0)?;
     Ok(script)
 }
 
 #[test]
-fn limits_the_intervals(rt: HostRuntime) -> Result<(), Fail> {
-    let most = intervals(rt.alloc(), 16_384)?;
-    assert!(rt; answers(&rt, &most, b"ok 1\nok 2\n")?);
-    let more = intervals(rt.alloc(), 16_385)?;
-    assert!(rt; answers(&rt, &more, b"ok 1\nrefused 18 TooMany\n")?);
+fn limits_intervals_and_entries(rt: HostRuntime) -> Result<(), Fail> {
+    let script = entries(rt.alloc())?;
+    let replies =
+        b"ok 1\nrefused 18 TooMany\nok 2\nok 3\nok 4\nok 5\nok 6\nok 7\nok 8\nok 9\nok 10\nok 11\nok 12\n\
+ok 13\nok 14\nok 15\nok 16\nok 17\nrefused 27 Full\nok 18\n";
+    assert!(rt; answers(&rt, &script, replies)?);
     Ok(())
 }
 

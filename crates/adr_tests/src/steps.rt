@@ -116,7 +116,7 @@ fn steps_of(alloc: Global, run: &str) -> Result<Vec<Step>, Refusal>
 }
 
 /// What the snapshot answers of the price of `r1` in the first half hour of the year.
-fn price(alloc: Global, snapshot: &Snapshot) -> Result<String, Refusal> {
+pub(crate) fn price(alloc: Global, snapshot: &Snapshot) -> Result<String, Refusal> {
     let moment = read_moment("2024-01-01T00:30:00Z")?;
     let id = Id::read(alloc, "r1")?;
     let answer = at(alloc, snapshot, &id, &PayloadType::Price, moment);
