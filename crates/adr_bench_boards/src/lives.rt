@@ -1,5 +1,6 @@
 //! A long life of a board: edits and publications without end, of which readers hold the last ones.
 ghost use Rattle.std.specs.Prelude.{◌≡◌};
+ghost use Rattle.adr_model.specs.declared.entry.Tie.TheVariants.{Newest};
 
 use crate::boards::{change, fill};
 use adr_board::{Board, Editor, Naming, NewBoard, Reader};
@@ -100,7 +101,8 @@ pub(crate) fn lived<J: Naming, R: AllocGlobal + Print + Wait>(
     board: NewBoard,
     thousands: u64,
 ) -> Result<io::Result<()>, Refusal>
-    requires { board.diary.page.book ≡ J.history }
+    requires history { board.diary.page.book ≡ J.history }
+    requires tie { J.tie ≡ Newest }
 {
     let alloc = rt.alloc();
     let (mut editor, mut readers) = Board::open::<J, R>(alloc, rt, board, Tie::Newest, 1)?;

@@ -1,5 +1,6 @@
 //! Looks of readers in threads of their own, beside an editor that publishes as fast as it can.
 ghost use Rattle.std.specs.Prelude.{◌≡◌, ◌<◌, ◌≤◌};
+ghost use Rattle.adr_model.specs.declared.entry.Tie.TheVariants.{Newest};
 
 use crate::boards::{change, fill};
 use adr_board::{Board, Editor, Naming, NewBoard, Reader};
@@ -151,7 +152,8 @@ pub(crate) fn looked<J: Naming + Send, R: AllocGlobal + Clock + Threads + Wait +
     board: NewBoard,
     readers: usize,
 ) -> Result<Counts, Refusal>
-    requires board { board.diary.page.book ≡ J.history }
+    requires history { board.diary.page.book ≡ J.history }
+    requires tie { J.tie ≡ Newest }
     requires readers { (0 < readers) × (readers ≤ 64) }
 {
     let alloc = rt.alloc();

@@ -1,5 +1,6 @@
 //! Publications of boards with many resources.
 ghost use Rattle.std.specs.Prelude.{◌≡◌};
+ghost use Rattle.adr_model.specs.declared.entry.Tie.TheVariants.{Newest};
 
 use crate::boards::{change, fill};
 use adr_board::{Board, Editor, Naming, NewBoard, Reader};
@@ -58,7 +59,8 @@ pub(crate) fn published<J: Naming, R: AllocGlobal + Clock + Wait>(
     board: NewBoard,
     resources: usize,
 ) -> Result<io::Result<Taken>, Refusal>
-    requires { board.diary.page.book ≡ J.history }
+    requires history { board.diary.page.book ≡ J.history }
+    requires tie { J.tie ≡ Newest }
 {
     let alloc = rt.alloc();
     let (mut editor, readers) = Board::open::<J, R>(alloc, rt, board, Tie::Newest, 1)?;
@@ -125,7 +127,8 @@ pub(crate) fn held<J: Naming, R: AllocGlobal + Wait>(
     board: NewBoard,
     count: u64,
 ) -> Result<u64, Refusal>
-    requires { board.diary.page.book ≡ J.history }
+    requires history { board.diary.page.book ≡ J.history }
+    requires tie { J.tie ≡ Newest }
 {
     let alloc = rt.alloc();
     let (mut editor, mut readers) = Board::open::<J, R>(alloc, rt, board, Tie::Newest, 1)?;

@@ -3,6 +3,7 @@ use Rattle.std.proofs.Common.{◌≡◌, ◌+◌, ◌*◌, List, [], ◌∷◌, 
 use Rattle.std.proofs.lemmas.List.{append-nil}
 use Rattle.logbook.specs.Pages.{Book as History}
 use Rattle.adr_object.specs.declared.object.Edit.{Edit}
+use Rattle.adr_model.specs.declared.entry.Tie.{Tie}
 use Rattle.adr_model.specs.Book.{Book, empty}
 use Rattle.adr_model.specs.Edits.{after_from}
 use Rattle.adr_model.specs.Machine.{Publication, opening}
@@ -47,21 +48,21 @@ same_part (Ok x) part new old same = tt
 same_part (Err e) part new old same = ap part same
 
 -- what is to be shown may follow what is shown
-pub may_follow : (history : History) (v : List Publication) (s t : Showing) (last : PublishedBook) (log : List Entry)
+pub may_follow : (tie : Tie) (history : History) (v : List Publication) (s t : Showing) (last : PublishedBook) (log : List Entry)
     → last ≡ s.snapshot → IsLast v last → t.snapshot.number ≡ last.number + 1 → (publication_in t.snapshot).book ≡ after_from last.book.objects (publication_in t.snapshot).batch
-    → t.page.book ≡ history → t.page.log ≡ log ++ begun (publication_in t.snapshot) ∷ [] → published_by log ≡ v → length log ≡ 2 * t.attempt
-    → MayFollow history v s t
-may_follow history v s t last log is ends next link same log_is says long =
+    → t.snapshot.tie ≡ tie → t.page.book ≡ history → t.page.log ≡ log ++ begun (publication_in t.snapshot) ∷ [] → published_by log ≡ v → length log ≡ 2 * t.attempt
+    → MayFollow tie history v s t
+may_follow tie history v s t last log is ends next link rule same log_is says long =
     let p = publication_in t.snapshot in
     let numbered : length (v ++ p ∷ []) ≡ t.snapshot.number + 1 = omega (arith, length-append v (p ∷ []), ends.numbered, next) in
     let at : EndsInAttempt (v ++ p ∷ []) t.page.log t.snapshot.number t.attempt p =
     record { earlier = log; log_is = log_is; long = long; list_is = ap (λ (l : List Publication). l ++ p ∷ []) (sym says); numbered = numbered } in
-    (subst (λ (x : PublishedBook). IsLast v x) is ends, next ∙ ap (λ (x : PublishedBook). x.number + 1) is, link ∙ ap (λ (x : PublishedBook). after_from x.book.objects p.batch) is, (same, at))
+    (subst (λ (x : PublishedBook). IsLast v x) is ends, next ∙ ap (λ (x : PublishedBook). x.number + 1) is, link ∙ ap (λ (x : PublishedBook). after_from x.book.objects p.batch) is, (same, at), rule)
 
 -- what is shown after a publication is the last of the longer list
-pub shown_last : (history : History) (v w : List Publication) (s t : Showing) (last : PublishedBook) → MayFollow history v s t → w ≡ v ++ publication_in t.snapshot ∷ [] → last ≡ t.snapshot → IsLast w last
-shown_last history v w s t last may more is =
-    let ends = followed history v s t may in
+pub shown_last : (tie : Tie) (history : History) (v w : List Publication) (s t : Showing) (last : PublishedBook) → MayFollow tie history v s t → w ≡ v ++ publication_in t.snapshot ∷ [] → last ≡ t.snapshot → IsLast w last
+shown_last tie history v w s t last may more is =
+    let ends = followed tie history v s t may in
     subst (λ (l : List Publication). IsLast l last) (sym more) (subst (λ (x : PublishedBook). IsLast (v ++ publication_in t.snapshot ∷ []) x) (sym is) ends)
 
 -- number 0 is carried with the history that begins with it

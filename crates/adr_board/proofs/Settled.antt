@@ -8,7 +8,7 @@ use Rattle.adr_model.specs.Machine.{Publication, opening}
 use Rattle.adr_diary.proofs.Prefixes.{prefix_length, prefix_trans, prefix_whole}
 use Rattle.adr_snapshot.specs.Published.{PublishedBook}
 use Rattle.adr_board.specs.Boards.{View, Grows}
-use Rattle.adr_board.specs.Rules.{IsLast, publication_in}
+use Rattle.adr_board.specs.Rules.{IsLast, IsLastBy, publication_in}
 use Rattle.adr_board.specs.Replay.{IsOf, reach}
 
 -- it has seen all of them, where it sees as many
@@ -27,5 +27,5 @@ seen_one publications seen s tie last begins rule =
     (within, beginning ∙ end, rule)
 
 -- and no earlier than what it knew of
-pub seen_later : (old new : View) (s : PublishedBook) → Grows old new → IsLast new.seen s → reach old ≤ s.number + 1
-seen_later old new s grown last = omega (arith, prefix_length old.seen new.seen grown.0, prefix_length old.learnt new.seen grown.1, last.numbered)
+pub seen_later : (old new : View) (s : PublishedBook) (tie : Tie) → Grows old new → IsLastBy tie new.seen s → reach old ≤ s.number + 1
+seen_later old new s tie grown last = omega (arith, prefix_length old.seen new.seen grown.0, prefix_length old.learnt new.seen grown.1, last.0.numbered)

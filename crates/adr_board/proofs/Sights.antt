@@ -8,6 +8,7 @@ use Rattle.logbook.specs.Pages.{Book as History}
 use Rattle.adr_value.specs.declared.refusal.Refusal.{Refusal}
 use Rattle.adr_value.specs.declared.refusal.Refusal.TheVariants.{NoMemory, NoRuntime}
 use Rattle.adr_value.specs.Answer.{OnlyNoMemory}
+use Rattle.adr_model.specs.declared.entry.Tie.{Tie}
 use Rattle.adr_model.specs.Machine.{Publication}
 use Rattle.adr_diary.specs.declared.diary.Entry.{Entry}
 use Rattle.adr_diary.specs.History.{seen_by, EndsInAttempt}
@@ -16,7 +17,7 @@ use Rattle.adr_diary.proofs.Histories.{seen_at}
 use Rattle.adr_board.specs.declared.shown.Showing.{Showing}
 use Rattle.adr_board.specs.Boards.{View, Grows}
 use Rattle.adr_snapshot.specs.Published.{PublishedBook}
-use Rattle.adr_board.specs.Rules.{IsLast, IsCarried, IsSight, IsTaken, publication_in}
+use Rattle.adr_board.specs.Rules.{IsLastBy, IsCarried, IsSight, IsTaken, publication_in}
 
 abbrev Publications : Type 0
 Publications = List Publication
@@ -29,30 +30,30 @@ sighted history v w s longer carried =
     (longer, is, carried.0, (publication_in s.snapshot, subst (λ (p : Publications). EndsInAttempt p s.page.log s.snapshot.number s.attempt (publication_in s.snapshot)) (sym is) carried.1))
 
 -- a snapshot of the last of the publications seen before is that of the last one now where it has the number of what is seen
-pub still_last : (old new : Publications) (log : List Entry) (number attempt : ℕ) (s : PublishedBook) → IsPrefix old new → IsSight new log number attempt
-    → s.number ≡ number → IsLast old s → IsLast new s
-still_last old new log number attempt s longer sight is last =
-    let same : old ≡ new = prefix_whole old new longer (omega (arith, last.numbered, sight.1.numbered)) in
-    subst (λ (l : Publications). IsLast l s) same last
+pub still_last : (tie : Tie) (old new : Publications) (log : List Entry) (number attempt : ℕ) (s : PublishedBook) → IsPrefix old new → IsSight new log number attempt
+    → s.number ≡ number → IsLastBy tie old s → IsLastBy tie new s
+still_last tie old new log number attempt s longer sight is last =
+    let same : old ≡ new = prefix_whole old new longer (omega (arith, last.0.numbered, sight.1.numbered)) in
+    subst (λ (l : Publications). IsLastBy tie l s) same last
 
 -- what a look takes, of a fresh copy or of the snapshot that its reader has, is the last of what is seen now
-pub taken : {Z : Type 0} (old new known : Publications) (log : List Entry) (number attempt : ℕ) (fresh : Option (Result PublishedBook Refusal)) (own : Option (Arc PublishedBook Z))
-    → IsPrefix old new → IsSight new log number attempt → new ≡ known → IfSome own (λ s. IsLast old (arc_value s))
-    → IfSome fresh (λ copy. IfOk copy (IsLast known) × OnlyNoMemory copy) → (fresh ≡ None → option_map (λ s. (arc_value {X = PublishedBook} s).number) own ≡ Some number)
-    → IsTaken new fresh own
-taken old new known log number attempt None None longer sight is last copies had = tt
-taken old new known log number attempt None (Some s) longer sight is last copies had =
+pub taken : {Z : Type 0} (tie : Tie) (old new known : Publications) (log : List Entry) (number attempt : ℕ) (fresh : Option (Result PublishedBook Refusal)) (own : Option (Arc PublishedBook Z))
+    → IsPrefix old new → IsSight new log number attempt → new ≡ known → IfSome own (λ s. IsLastBy tie old (arc_value s))
+    → IfSome fresh (λ copy. IfOk copy (IsLastBy tie known) × OnlyNoMemory copy) → (fresh ≡ None → option_map (λ s. (arc_value {X = PublishedBook} s).number) own ≡ Some number)
+    → IsTaken tie new fresh own
+taken tie old new known log number attempt None None longer sight is last copies had = tt
+taken tie old new known log number attempt None (Some s) longer sight is last copies had =
     let e : Some (arc_value s).number ≡ Some number = had refl in
     let same : (arc_value s).number ≡ number = cc (e) in
-    still_last old new log number attempt (arc_value s) longer sight same last
-taken old new known log number attempt (Some (Ok s)) own longer sight is last copies had = subst (λ (l : Publications). IsLast l s) (sym is) copies.0
-taken old new known log number attempt (Some (Err e)) own longer sight is last copies had = tt
+    still_last tie old new log number attempt (arc_value s) longer sight same last
+taken tie old new known log number attempt (Some (Ok s)) own longer sight is last copies had = subst (λ (l : Publications). IsLastBy tie l s) (sym is) copies.0
+taken tie old new known log number attempt (Some (Err e)) own longer sight is last copies had = tt
 
 -- one more share of a snapshot shows what it shows
-pub shared_last : {Z : Type 0} (r : Result (Arc PublishedBook Z) Refusal) (own : Arc PublishedBook Z) (seen : Publications)
-    → IfOk r (λ s. arc_value s ≡ arc_value own) → IsLast seen (arc_value own) → IfOk r (λ s. IsLast seen (arc_value s))
-shared_last (Ok s) own seen same last = subst (λ (x : PublishedBook). IsLast seen x) (sym same) last
-shared_last (Err e) own seen same last = tt
+pub shared_last : {Z : Type 0} (tie : Tie) (r : Result (Arc PublishedBook Z) Refusal) (own : Arc PublishedBook Z) (seen : Publications)
+    → IfOk r (λ s. arc_value s ≡ arc_value own) → IsLastBy tie seen (arc_value own) → IfOk r (λ s. IsLastBy tie seen (arc_value s))
+shared_last tie (Ok s) own seen same last = subst (λ (x : PublishedBook). IsLastBy tie seen x) (sym same) last
+shared_last tie (Err e) own seen same last = tt
 
 pub either_way : {X : Type 0} (r : Result X Refusal) (P : Type 0) → P → IfOk r (λ _. P)
 either_way (Ok x) P p = p

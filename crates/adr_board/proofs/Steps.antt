@@ -6,24 +6,25 @@ use lib.ListN.{get_elem?}
 use Rattle.crossbeam_utils.specs.Register.{Admits, TurnsAt}
 use Rattle.atomic_table.proofs.Lists.{at_set, at_snoc}
 use Rattle.logbook.specs.Pages.{Book as History}
+use Rattle.adr_model.specs.declared.entry.Tie.{Tie}
 use Rattle.adr_model.specs.Machine.{Publication, opening}
 use Rattle.adr_diary.specs.Publications.{EndsWith}
 use Rattle.adr_diary.proofs.Prefixes.{prefix_self, prefix_trans, prefix_whole}
 use Rattle.adr_diary.proofs.Linked.{ends_snoc, ends_opened}
 use Rattle.adr_board.specs.declared.shown.Shown.{Shown}
 use Rattle.adr_board.specs.declared.shown.Showing.{Showing}
-use Rattle.adr_board.specs.Rules.{IsLast, IsCarried, Keeps, Looks, Adds, MayFollow, publication_in, showing}
+use Rattle.adr_board.specs.Rules.{IsLast, IsLastBy, IsCarried, Keeps, Looks, Adds, MayFollow, publication_in, showing}
 
 abbrev Publications : Type 0
 Publications = List Publication
 
 -- a reader that has seen publication 0 alone may come at any time
-pub admits : (history : History) → Admits (Keeps history) (opening ∷ [])
-admits history x views h = (
+pub admits : (tie : Tie) (history : History) → Admits (Keeps tie history) (opening ∷ [])
+admits tie history x views h = (
   h.0,
   h.1,
   h.2,
-  (λ seat v at. ⊎_elim (h.3 seat v) (λ (e : opening ∷ [] ≡ v). subst (λ (z : Publications). IsPrefix z h.0) e h.1.opens) (at_snoc views (opening ∷ []) v seat at)),
+  (λ seat v at. ⊎_elim (h.3 seat v) (λ (e : opening ∷ [] ≡ v). subst (λ (z : Publications). IsPrefix z h.0) e h.1.0.opens) (at_snoc views (opening ∷ []) v seat at)),
 )
 
 -- the views begin the list where one of them becomes w
@@ -33,28 +34,28 @@ set_within views seat w p q all longer own j u at =
     ⊎_elim (λ (t : (j ≡ seat) × (w ≡ u)). subst (λ (z : Publications). IsPrefix z q) t.1 own) (λ (t : (j ≢ seat) × (get_elem? views j ≡ some u)). prefix_trans u p q (all j u t.1) longer)
     (at_set views seat j w u at)
 
-pub looks : (history : History) (seat : ℕ) (v : Publications) (x : Shown) → TurnsAt (Keeps history) seat v x x (Looks history)
-looks history seat v x views h at =
+pub looks : (tie : Tie) (history : History) (seat : ℕ) (v : Publications) (x : Shown) → TurnsAt (Keeps tie history) seat v x x (Looks tie history)
+looks tie history seat v x views h at =
     let P = h.0 in
     (P, (P, h.1, h.2, set_within views seat P P P h.3 (prefix_self P) (prefix_self P)), (h.3 seat v at, h.1, h.2))
 
 -- the list with what may follow ends with it
-pub followed : (history : History) (v : Publications) (s t : Showing) → MayFollow history v s t → IsLast (v ++ publication_in t.snapshot ∷ []) t.snapshot
-followed history v s t may =
+pub followed : (tie : Tie) (history : History) (v : Publications) (s t : Showing) → MayFollow tie history v s t → IsLast (v ++ publication_in t.snapshot ∷ []) t.snapshot
+followed tie history v s t may =
     subst (λ (n : ℕ). EndsWith (v ++ publication_in t.snapshot ∷ []) n (publication_in t.snapshot)) (sym may.1)
     (ends_snoc v s.snapshot.number (publication_in s.snapshot) (publication_in t.snapshot) may.0 may.2)
 
 -- the editor has seen as many publications as there are, so it has seen the whole list
-pub adds : (history : History) (seat : ℕ) (v : Publications) (x y : Shown) (t : Showing) → MayFollow history v (showing x) t → showing y ≡ t → TurnsAt (Keeps history) seat v x y Adds
-adds history seat v x y t may is views h at =
+pub adds : (tie : Tie) (history : History) (seat : ℕ) (v : Publications) (x y : Shown) (t : Showing) → MayFollow tie history v (showing x) t → showing y ≡ t → TurnsAt (Keeps tie history) seat v x y Adds
+adds tie history seat v x y t may is views h at =
     let s = showing x in
     let P = h.0 in
     let Q : Publications = v ++ publication_in t.snapshot ∷ [] in
-    let whole : v ≡ P = prefix_whole v P (h.3 seat v at) (omega (arith, may.0.numbered, h.1.numbered)) in
+    let whole : v ≡ P = prefix_whole v P (h.3 seat v at) (omega (arith, may.0.numbered, h.1.0.numbered)) in
     let longer : IsPrefix P Q = subst (λ (z : Publications). IsPrefix z Q) whole (publication_in t.snapshot ∷ [], refl) in
-    let ends : IsLast Q t.snapshot = followed history v s t may in (
+    let ends : IsLastBy tie Q t.snapshot = (followed tie history v s t may, may.4) in (
       Q,
-      (Q, subst (λ (z : Showing). IsLast Q z.snapshot) (sym is) ends, subst (λ (z : Showing). IsCarried history Q z) (sym is) may.3, set_within views seat Q P Q h.3 longer (prefix_self Q)),
+      (Q, subst (λ (z : Showing). IsLastBy tie Q z.snapshot) (sym is) ends, subst (λ (z : Showing). IsCarried history Q z) (sym is) may.3, set_within views seat Q P Q h.3 longer (prefix_self Q)),
       ap (λ (z : Showing). v ++ publication_in z.snapshot ∷ []) (sym is),
     )
 
@@ -64,10 +65,10 @@ absorbed s [] x = refl
 absorbed s (y ∷ ys) x = absorbed (showing y) ys x
 
 -- the rule holds of a new board
-pub starts : (history : History) (x : Shown) → (showing x).snapshot.number ≡ 0 → publication_in (showing x).snapshot ≡ opening → IsCarried history (opening ∷ []) (showing x) → Keeps history x ((opening ∷ []) ∷ [])
-starts history x number publication carried = (
+pub starts : (tie : Tie) (history : History) (x : Shown) → (showing x).snapshot.number ≡ 0 → (showing x).snapshot.tie ≡ tie → publication_in (showing x).snapshot ≡ opening → IsCarried history (opening ∷ []) (showing x) → Keeps tie history x ((opening ∷ []) ∷ [])
+starts tie history x number rule publication carried = (
   opening ∷ [],
-  rw (number, publication) ends_opened,
+  (rw (number, publication) ends_opened, rule),
   carried,
   (λ seat v at. ⊎_elim (λ (e : get_elem? {A = Publications} [] seat ≡ some v). absurd (some-ne-none v (sym e))) (λ (e : opening ∷ [] ≡ v). subst (λ (z : Publications). IsPrefix z (opening ∷ [])) e ([], refl))
       (at_snoc [] (opening ∷ []) v seat at)),

@@ -14,6 +14,7 @@ use mathlib.Core.List.{IsPrefix}
 use lib.ListN.{get_elem?}
 use Rattle.logbook.specs.Pages.{Book as History}
 use Rattle.adr_value.specs.declared.refusal.Refusal.{Refusal}
+use Rattle.adr_model.specs.declared.entry.Tie.{Tie}
 use Rattle.adr_model.specs.Edits.{after_from}
 use Rattle.adr_model.specs.Machine.{Publication}
 use Rattle.adr_diary.specs.declared.diary.Entry.{Entry}
@@ -31,6 +32,10 @@ publication_in s = record { book = s.book.objects; batch = last_batch s.book.clo
 abbrev pub IsLast : List Publication → PublishedBook → Type 0
 IsLast published s = EndsWith published s.number (publication_in s)
 
+-- the snapshot is that of the last of these publications, and goes by this rule for ties
+abbrev pub IsLastBy : Tie → List Publication → PublishedBook → Type 0
+IsLastBy tie published s = IsLast published s × (s.tie ≡ tie)
+
 -- these are the publications that the history says which is shown beside the snapshot, and it is that of this board
 abbrev pub IsCarried : History → List Publication → Showing → Type 0
 IsCarried history published s = (s.page.book ≡ history) × EndsInAttempt published s.page.log s.snapshot.number s.attempt (publication_in s.snapshot)
@@ -39,32 +44,32 @@ IsCarried history published s = (s.page.book ≡ history) × EndsInAttempt publi
 abbrev pub showing : Shown → Showing
 showing x = record { snapshot = arc_value x.snapshot; attempt = x.attempt; page = x.page }
 
--- The rule: there is one list of publications, each of which follows from the one before. Its last is shown, with its history, and what each
--- thread has seen begins it
-abbrev pub Keeps : History → Shown → List (List Publication) → Type 0
-Keeps history x views =
-    (published : List Publication) × IsLast published (showing x).snapshot × IsCarried history published (showing x)
+-- The rule: there is one list of publications, each of which follows from the one before. Its last is shown, under one rule for ties, with its
+-- history, and what each thread has seen begins it
+abbrev pub Keeps : Tie → History → Shown → List (List Publication) → Type 0
+Keeps tie history x views =
+    (published : List Publication) × IsLastBy tie published (showing x).snapshot × IsCarried history published (showing x)
     × ((seat : ℕ) (v : List Publication) → get_elem? views seat ≡ some v → IsPrefix v published)
 
 -- A look: what is seen becomes a list whose last publication is the one shown. It begins with all that was seen
-abbrev pub Looks : History → List Publication → Shown → Shown → List Publication → Type 0
-Looks history v x y w = IsPrefix v w × IsLast w (showing y).snapshot × IsCarried history w (showing y)
+abbrev pub Looks : Tie → History → List Publication → Shown → Shown → List Publication → Type 0
+Looks tie history v x y w = IsPrefix v w × IsLastBy tie w (showing y).snapshot × IsCarried history w (showing y)
 
 -- A publication: what was seen, which is the whole list, gets what is shown now
 abbrev pub Adds : List Publication → Shown → Shown → List Publication → Type 0
 Adds v x y w = w ≡ v ++ publication_in (showing y).snapshot ∷ []
 
--- the list is that of all publications, of which s is the last, and t may be the next
-abbrev pub MayFollow : History → List Publication → Showing → Showing → Type 0
-MayFollow history published s t =
+-- the list is that of all publications, of which s is the last, and t may be the next, under this rule for ties
+abbrev pub MayFollow : Tie → History → List Publication → Showing → Showing → Type 0
+MayFollow tie history published s t =
     IsLast published s.snapshot × (t.snapshot.number ≡ s.snapshot.number + 1)
     × (t.snapshot.book.objects ≡ after_from s.snapshot.book.objects (last_batch t.snapshot.book.closed))
-    × IsCarried history (published ++ publication_in t.snapshot ∷ []) t
+    × IsCarried history (published ++ publication_in t.snapshot ∷ []) t × (t.snapshot.tie ≡ tie)
 
 -- a look at the last of these publications: the history, the number and the place of its attempt
 abbrev pub IsSight : List Publication → List Entry → ℕ → ℕ → Type 0
 IsSight published log number attempt = (p : Publication) × EndsInAttempt published log number attempt p
 
 -- what a look takes is the last of these publications: the fresh copy of it, or where there is none the snapshot that its reader has
-abbrev pub IsTaken : {Z : Type 0} → List Publication → Option (Result PublishedBook Refusal) → Option (Arc PublishedBook Z) → Type 0
-IsTaken published fresh own = MatchOption fresh (IfSome own (λ s. IsLast published (arc_value s))) (λ copy. IfOk copy (IsLast published))
+abbrev pub IsTaken : {Z : Type 0} → Tie → List Publication → Option (Result PublishedBook Refusal) → Option (Arc PublishedBook Z) → Type 0
+IsTaken tie published fresh own = MatchOption fresh (IfSome own (λ s. IsLastBy tie published (arc_value s))) (λ copy. IfOk copy (IsLastBy tie published))

@@ -7,6 +7,7 @@ ghost use Rattle.left_right.specs.Sides.{view as known};
 ghost use Rattle.adr_value.specs.Answer.{Answers, OnlyNoMemory, result_map};
 ghost use Rattle.adr_value.specs.Copy.{IsCopyOf};
 ghost use Rattle.adr_value.specs.declared.refusal.Refusal.TheVariants.{NoRuntime, NoMemory, Full};
+ghost use Rattle.adr_model.specs.declared.entry.Tie.{Tie};
 ghost use Rattle.adr_model.specs.Book.{empty};
 ghost use Rattle.adr_model.specs.Edits.{full_at, made as made_book, step_to};
 ghost use Rattle.adr_model.specs.Machine.{Publication, opening};
@@ -18,7 +19,7 @@ ghost use Rattle.adr_snapshot.specs.Types.{ArePrivate, edit_names, HasPrivateNam
 ghost use Rattle.adr_diary.specs.History.{HasLast, begun, published_by, seen_by};
 ghost use Rattle.adr_diary.specs.Publications.{publication_of};
 ghost use Rattle.adr_board.specs.Boards.{Grows, last_of, newcomer, with_published};
-ghost use Rattle.adr_board.specs.Rules.{IsCarried, IsLast, IsSight, IsTaken, MayFollow, publication_in, showing};
+ghost use Rattle.adr_board.specs.Rules.{IsCarried, IsLast, IsLastBy, IsSight, IsTaken, MayFollow, publication_in, showing};
 
 use crate::rule::{Add, Look, Naming, RuledReader, RuledWriter};
 use crate::shown::Shown;
@@ -139,11 +140,11 @@ impl<J: Naming> Model for Reader<J> {
     ghost use mathlib.Core.List.{IsPrefix};
     ghost use Rattle.left_right.specs.Sides.{view as known};
     ghost use Rattle.adr_diary.specs.History.{seen_by};
-    ghost use Rattle.adr_board.specs.Rules.{IsLast};
+    ghost use Rattle.adr_board.specs.Rules.{IsLastBy};
 
     ghost view = { λ r. record { seen = seen_by r.page.log; learnt = r.told } };
 
-    ghost invariant = { λ r. IsPrefix (seen_by r.page.log) (known r.raw.place) × IfSome r.own (λ s. IsLast (seen_by r.page.log) (arc_value s)) };
+    ghost invariant = { λ r. IsPrefix (seen_by r.page.log) (known r.raw.place) × IfSome r.own (λ s. IsLastBy J.tie (seen_by r.page.log) (arc_value s)) };
 }
 
 // What a look finds: the history of the last publication, its number and the place of its attempt, and a copy of it
@@ -159,7 +160,7 @@ struct Sight {
 // Enters, copies what is shown unless it has the number that the reader has, and leaves.
 fn enter<J: Naming>(reader: RuledReader<J>, had: Option<u64>) -> (RuledReader<J>, Option<Sight>)
     ensures sight { IfSome result.1 (λ g. IsPrefix (known reader.place) (known result.0.place) × (seen_by g.page.log ≡ known result.0.place) × (g.page.book ≡ J.history) × IsSight (seen_by g.page.log) g.page.log g.number g.attempt) }
-    ensures fresh { IfSome result.1 (λ g. IfSome g.fresh (λ copy. IfOk copy (IsLast (known result.0.place)) × OnlyNoMemory copy)) }
+    ensures fresh { IfSome result.1 (λ g. IfSome g.fresh (λ copy. IfOk copy (IsLastBy J.tie (known result.0.place)) × OnlyNoMemory copy)) }
     ensures had { IfSome result.1 (λ g. g.fresh ≡ None → had ≡ Some g.number) }
     ensures none { IfNone result.1 (known result.0.place ≡ known reader.place) }
 {
@@ -190,7 +191,7 @@ fn copy_unless(snapshot: &Snapshot, is_had: bool) -> Option<Result<Snapshot, Ref
 // The same in place.
 fn glance<J: Naming>(reader: &mut RuledReader<J>, had: Option<u64>) -> Option<Sight>
     ensures sight { IfSome result (λ g. IsPrefix (known reader.old.place) (known reader.new.place) × (seen_by g.page.log ≡ known reader.new.place) × (g.page.book ≡ J.history) × IsSight (seen_by g.page.log) g.page.log g.number g.attempt) }
-    ensures fresh { IfSome result (λ g. IfSome g.fresh (λ copy. IfOk copy (IsLast (known reader.new.place)) × OnlyNoMemory copy)) }
+    ensures fresh { IfSome result (λ g. IfSome g.fresh (λ copy. IfOk copy (IsLastBy J.tie (known reader.new.place)) × OnlyNoMemory copy)) }
     ensures had { IfSome result (λ g. g.fresh ≡ None → had ≡ Some g.number) }
     ensures none { IfNone result (known reader.new.place ≡ known reader.old.place) }
 {
@@ -215,7 +216,7 @@ fn renewed(
 ) -> Result<Arc<Snapshot>, Refusal>
     requires has { fresh ≡ None → is_some own ≡ true }
     requires copy { IfSome fresh (λ copy. OnlyNoMemory copy) }
-    ensures last { (published : List Publication) → IsTaken published fresh own → IfOk result (λ s. IsLast published (arc_value s)) }
+    ensures last { (tie : Tie) (published : List Publication) → IsTaken tie published fresh own → IfOk result (λ s. IsLastBy tie published (arc_value s)) }
     ensures refusal { OnlyNoMemory result }
 {
     match (fresh, own) {
@@ -237,13 +238,13 @@ fn shared(own: &Arc<Snapshot>) -> Result<Arc<Snapshot>, Refusal>
 }
 
 impl<J: Naming> Reader<J> {
-    /// The last publication. It waits for nobody.
+    /// The last publication, under the board's rule for ties. It waits for nobody.
     ///
     /// `NoMemory` where there is no room for a share of it; `NoRuntime` once the editor has closed the board. Cost: one
     /// more share of the snapshot that the reader has, which takes no memory; at the first look at a publication a copy
     /// of its snapshot, which shares all.
     pub fn look(&mut self) -> Result<Arc<Snapshot>, Refusal>
-        ensures last { IfOk result (λ s. IsLast self.new.seen (arc_value s)) }
+        ensures last { IfOk result (λ s. IsLastBy J.tie self.new.seen (arc_value s)) }
         ensures grows { IfOk result (λ _. Grows self.old self.new) }
         ensures refused { IfErr result (λ e. ((e ≡ NoMemory) × Grows self.old self.new) ⊎ ((e ≡ NoRuntime) × (self.new ≡ self.old))) }
     {
@@ -283,7 +284,7 @@ fn show<J: Naming, R: Wait>(
     rt: &R,
     shown: Shown,
 ) -> (RuledWriter<J>, Result<(), Refusal>)
-    requires { MayFollow J.history (known writer.desk.place) (showing writer.desk.shown.value) (showing shown) }
+    requires { MayFollow J.tie J.history (known writer.desk.place) (showing writer.desk.shown.value) (showing shown) }
     ensures ok { IfOk result.1 (λ _. (showing result.0.desk.shown.value ≡ showing shown) × (known result.0.desk.place ≡ known writer.desk.place ++ publication_in (showing shown).snapshot ∷ [])) }
     ensures err { IfErr result.1 (λ e. (e ≡ NoMemory) × (result.0.desk.shown.value ≡ writer.desk.shown.value) × (known result.0.desk.place ≡ known writer.desk.place)) }
 {
@@ -303,7 +304,7 @@ fn show_next<J: Naming, R: Wait>(
     rt: &R,
     shown: Shown,
 ) -> Result<(), Refusal>
-    requires { MayFollow J.history (known writer.old.desk.place) (showing writer.old.desk.shown.value) (showing shown) }
+    requires { MayFollow J.tie J.history (known writer.old.desk.place) (showing writer.old.desk.shown.value) (showing shown) }
     ensures ok { IfOk result (λ _. (showing writer.new.desk.shown.value ≡ showing shown) × (known writer.new.desk.place ≡ known writer.old.desk.place ++ publication_in (showing shown).snapshot ∷ [])) }
     ensures err { IfErr result (λ e. (e ≡ NoMemory) × (writer.new.desk.shown.value ≡ writer.old.desk.shown.value) × (known writer.new.desk.place ≡ known writer.old.desk.place)) }
 {
@@ -378,7 +379,7 @@ impl<J: Naming> Model for Editor<J> {
 
     ghost view = { λ e. record { tie = e.desk.tie; book = e.desk.book; published = known e.writer.desk.place } };
 
-    ghost invariant = { λ e. (arc_value e.last ≡ (showing e.writer.desk.shown.value).snapshot) × IsLast (known e.writer.desk.place) (arc_value e.last) × ((arc_value e.last).book.objects ≡ sealed_of e.desk.book) × ((arc_value e.last).tie ≡ e.desk.tie) × ((arc_value e.last).number ≤ 1000000) × (e.diary.page.book ≡ J.history) × (published_by e.diary.page.log ≡ known e.writer.desk.place) × HasLast e.diary.page.log (arc_value e.last).number e.attempt × HasPrivateNames e.desk.book.objects };
+    ghost invariant = { λ e. (arc_value e.last ≡ (showing e.writer.desk.shown.value).snapshot) × IsLast (known e.writer.desk.place) (arc_value e.last) × ((arc_value e.last).book.objects ≡ sealed_of e.desk.book) × ((arc_value e.last).tie ≡ e.desk.tie) × (e.desk.tie ≡ J.tie) × ((arc_value e.last).number ≤ 1000000) × (e.diary.page.book ≡ J.history) × (published_by e.diary.page.log ≡ known e.writer.desk.place) × HasLast e.diary.page.log (arc_value e.last).number e.attempt × HasPrivateNames e.desk.book.objects };
 }
 
 impl<J: Naming> Editor<J> {
@@ -435,6 +436,13 @@ impl<J: Naming> Editor<J> {
         ensures book { result.now.book ≡ self.now.book }
     {
         &self.desk
+    }
+
+    /// The rule for ties of the board's name is that of its desk.
+    pub fn editor_laws(&self)
+        ensures tie { self.now.tie ≡ J.tie }
+    {
+        let _ = &self.desk;
     }
 
     /// The last publication.
@@ -577,6 +585,7 @@ fn start<J: Naming>(
     readers: usize,
 ) -> Result<Started<J>, Refusal>
     requires history { board.diary.page.book ≡ J.history }
+    requires tie { tie ≡ J.tie }
     requires readers { (0 < readers) × (readers ≤ 64) }
     ensures shown { IfOk result (λ t. arc_value t.last ≡ (showing t.writer.desk.shown.value).snapshot) }
     ensures number { IfOk result (λ t. (arc_value t.last).number ≡ 0) }
@@ -694,6 +703,7 @@ impl Board {
         readers: usize,
     ) -> Result<(Editor<J>, Vec<Reader<J>>), Refusal>
         requires history { board.diary.page.book ≡ J.history }
+        requires tie { tie ≡ J.tie }
         requires readers { (0 < readers) × (readers ≤ 64) }
         ensures tie { IfOk result (λ b. b.0.tie ≡ tie) }
         ensures base { IfOk result (λ b. b.0.book.base ≡ empty) }
@@ -718,6 +728,7 @@ impl Board {
         readers: usize,
     ) -> Result<(Editor<J>, Vec<Reader<J>>), Refusal>
         requires history { board.diary.page.book ≡ J.history }
+        requires tie { desk.tie ≡ J.tie }
         requires readers { (0 < readers) × (readers ≤ 64) }
         requires base { desk.book.base ≡ empty }
         requires closed { desk.book.closed ≡ [] }

@@ -7,16 +7,23 @@ use left_right::writer::Writer;
 use std::collections::LinkedList;
 use std::marker::{Brand, PhantomData};
 
-/// Names a board in types: which history its snapshots carry. A call that opens a board picks it, and an editor, its
-/// readers and what it told go together by it.
+/// Names a board in types: which history its snapshots carry, and which rule for ties they go by. A call that opens a
+/// board picks it, and an editor, its readers and what it told go together by it.
 pub trait Naming {
     ghost use Rattle.logbook.specs.Pages.{Book};
+    ghost use Rattle.adr_model.specs.declared.entry.Tie.{Tie};
 
     ghost history: { Book };
+
+    ghost tie: { Tie };
 }
 
 impl Naming for Brand {
+    ghost use Rattle.adr_model.specs.declared.entry.Tie.TheVariants.{Newest};
+
     ghost history = { record { number = 0; log_name = 0; cells_name = 0 } };
+
+    ghost tie = { Newest };
 }
 
 /// What a thread knows: the publications that it has seen. No value of it is made.
@@ -32,7 +39,7 @@ impl<J: Naming> Protocol<Shown, View> for OneList<J> {
     ghost use Rattle.adr_model.specs.Machine.{opening};
     ghost use Rattle.adr_board.specs.Rules.{Keeps};
 
-    ghost holds = { Keeps J.history };
+    ghost holds = { Keeps J.tie J.history };
 
     ghost first = { opening ∷ [] };
 }
@@ -45,7 +52,7 @@ pub struct Look<J: Naming> {
 impl<J: Naming> Outcome<Shown, View> for Look<J> {
     ghost use Rattle.adr_board.specs.Rules.{Looks};
 
-    ghost then = { Looks J.history };
+    ghost then = { Looks J.tie J.history };
 }
 
 /// What a publication tells.

@@ -110,11 +110,9 @@ fn seen_by<J: Naming>(editor: &Editor<J>, reader: &mut Reader<J>) -> Result<Arc<
     ensures known { IfOk result (λ s. (arc_value s).number < reach reader.new) }
     ensures want { OnlyWant result }
 {
+    editor.editor_laws();
     let seen = reader.look()?;
     settle(editor, reader)?;
-    if seen.tie() != editor.desk().tie() {
-        return Err(Refusal::NoRuntime);
-    }
     Ok(seen)
 }
 
@@ -183,6 +181,7 @@ fn replay_as<J: Naming, R: Wait>(
     steps: Vec<Step>,
 ) -> Result<Vec<Shown>, Refusal>
     requires history { board.diary.page.book ≡ J.history }
+    requires tie { tie ≡ J.tie }
     requires readers { (0 < readers) × (readers ≤ 64) }
     requires named { All (NamesReader readers) steps.items }
     ensures run { IfOk result (λ shown. (end : State) × IsRun (start tie readers) steps.items shown.items end) }

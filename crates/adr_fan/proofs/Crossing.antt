@@ -11,7 +11,6 @@ use denote.Enum.Declared as E
 use denote.Param.Send.{IsSend, IsSync, enum_send, recorded_send, sendable, struct_send}
 use Rattle.std.proofs.Crossing as std
 use Rattle.adr_time.specs.contracts.moment.Moment as Moment
-use Rattle.adr_model.specs.contracts.entry.Tie as Tie
 use Rattle.adr_value.specs.contracts.payload.PayloadType as PayloadType
 use Rattle.adr_board.specs.declared.rule.Naming.{Ghosts as Names}
 use Rattle.adr_value.proofs.Crossing.{name_send}
@@ -51,16 +50,13 @@ pub part_send : (J : RattleType) (g : Names J.Denot) → IsSend J → IsSend (Pa
 part_send J g s =
     let T = Part.the_type J g in
     recorded_send (Struct (S.shape T)) T.D T.to T.to_one
-    (struct_send (S.shape T) (reader_send J g s, (search sendable, (std.Vec-send Reply.the_row reply_send, (search sendable, tt)))))
-
-tie_send : IsSend Tie.the_row
-tie_send = search sendable depth 60 fits 60000
+    (struct_send (S.shape T) (reader_send J g s, (std.Vec-send Reply.the_row reply_send, (search sendable, tt))))
 
 number_send : IsSend u64-field.row
 number_send = search sendable depth 60 fits 60000
 
--- what a reader's thread takes: its runtime, allocator, gate, mailbox and reader, the rule for ties and the seat
-pub taken_send : (name : Sym) {R A G M V : RattleType} → IsSend R → IsSend A → IsSend G → IsSend M → IsSend V → IsSend (TupleAt name (R ∷ A ∷ G ∷ M ∷ V ∷ Tie.the_row ∷ u64-field.row ∷ []))
+-- what a reader's thread takes: its runtime, allocator, gate, mailbox and reader, and the seat
+pub taken_send : (name : Sym) {R A G M V : RattleType} → IsSend R → IsSend A → IsSend G → IsSend M → IsSend V → IsSend (TupleAt name (R ∷ A ∷ G ∷ M ∷ V ∷ u64-field.row ∷ []))
 taken_send name {R} {A} {G} {M} {V} rt alloc gate mailbox reader =
-    let T = type_at name (R ∷ A ∷ G ∷ M ∷ V ∷ Tie.the_row ∷ u64-field.row ∷ []) in
-    recorded_send (Struct (S.shape T)) T.D T.to T.to_one (struct_send (S.shape T) (rt, (alloc, (gate, (mailbox, (reader, (tie_send, (number_send, tt))))))))
+    let T = type_at name (R ∷ A ∷ G ∷ M ∷ V ∷ u64-field.row ∷ []) in
+    recorded_send (Struct (S.shape T)) T.D T.to T.to_one (struct_send (S.shape T) (rt, (alloc, (gate, (mailbox, (reader, (number_send, tt)))))))

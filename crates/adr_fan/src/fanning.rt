@@ -41,6 +41,7 @@ fn open<J: Naming, R: Wait>(
 ) -> Option<(FanDesk<J>, Vec<Reader<J>>)>
     requires readers { (1 ≤ readers) × (readers ≤ 64) }
     requires book { board.diary.page.book ≡ J.history }
+    requires tie { tie ≡ J.tie }
     ensures { IfSome result (λ o. (o.0 ≡ fan_start tie) × (length o.1.items ≡ readers)) }
 {
     let boxes = mailboxes(alloc, readers).ok()?;
@@ -72,6 +73,7 @@ fn fan_as<
 ) -> Result<(), Fault>
     requires readers { (1 ≤ readers) × (readers ≤ 64) }
     requires book { board.diary.page.book ≡ J.history }
+    requires tie { tie ≡ J.tie }
     requires made { reads_made reads.old ≡ 0 }
     requires no_read { has_read_failed reads.old ≡ false }
     requires no_write { has_write_failed writes.old ≡ false }

@@ -95,7 +95,7 @@ fn start_seat<
     seat: usize,
 ) -> Option<PromisedHandle<Part<J>, Answers<J>>> {
     let mailbox = desk.boxes.get(seat)?;
-    start(rt, gate, mailbox, seated, desk.editor.desk().tie(), seat)
+    start(rt, gate, mailbox, seated, seat)
 }
 
 /// Starts a thread for the last of these readers, and goes on with the others. The innermost level answers the lines.

@@ -4,6 +4,7 @@
 mod answering;
 mod checking;
 mod fanning;
+mod laws;
 mod levels;
 mod mailbox;
 mod queries;
@@ -13,3 +14,4 @@ mod writing;
 
 pub use adr_gate::{Gate, NoGate};
 pub use fanning::{fan, fan_logged};
+pub use laws::reader_laws;

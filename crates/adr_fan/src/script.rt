@@ -1,5 +1,5 @@
 //! The editor's side: what answers the lines.
-ghost use Rattle.std.specs.Prelude.{◌≡◌, ◌≤◌, [], OnOk, OnErr, IfSome, IsTrue, vec_capacity};
+ghost use Rattle.std.specs.Prelude.{◌≡◌, ◌≤◌, [], OnOk, OnErr, IfSome, vec_capacity};
 ghost use Rattle.adr_server.specs.declared.command.Command.TheVariants.{Edit as EditCommand, Publish as PublishCommand, Condense as CondenseCommand};
 ghost use Rattle.adr_model.specs.Machine.{last_number};
 ghost use Rattle.adr_server.specs.Fan.{editor_reply, editor_next, sent_reply, with_query};
@@ -11,7 +11,6 @@ use crate::mailbox::Mailbox;
 use crate::queries::{Query, Sent};
 use crate::reading::{Part, Reply};
 use adr_board::{Editor, Naming};
-use adr_model::Tie;
 use adr_object::Edit;
 use adr_script::{Machine, Unanswered};
 use adr_server::{Command, parse_line, put_condensed, put_ok, put_published, put_refusal};
@@ -145,16 +144,16 @@ impl<J: Naming> FanDesk<J> {
 
     /// A reader's replies, if they are one of its parts. The reader learns of all publications and looks once more.
     pub(crate) fn check(&self, part: Part<J>) -> Option<Vec<Reply>>
-        requires { AreTrue part.tie part.reader.seen part.replies.items }
+        requires { AreTrue J.tie part.reader.seen part.replies.items }
         ensures { IfSome result (IsPart self.now) }
     {
         let Part {
             mut reader,
-            tie,
             replies,
             whole,
         } = part;
-        if !whole || !self.goes_by(tie) || !settle(&self.editor, &mut reader) {
+        self.editor.editor_laws();
+        if !whole || !settle(&self.editor, &mut reader) {
             return None;
         }
         let last = self.last_number();
@@ -163,13 +162,6 @@ impl<J: Naming> FanDesk<J> {
         } else {
             None
         }
-    }
-
-    /// Whether this is the board's rule for ties.
-    fn goes_by(&self, tie: Tie) -> bool
-        ensures { IsTrue result → self.now.machine.tie ≡ tie }
-    {
-        tie == self.editor.desk().tie()
     }
 
     /// The number of the last publication.

@@ -3,7 +3,9 @@ use Rattle.std.proofs.Common.{◌≡◌, ◌⊎◌, inl, inr, ℕ, ◌==◌, ◌
 use Rattle.std.specs.Prelude.{MatchOption}
 use Rattle.std.specs.Option.{option_or}
 use Rattle.adr_shared.specs.Map.{put}
+use Rattle.adr_group.specs.Group.{Lines}
 use Rattle.adr_schedule.specs.Moves.{is_among, AreMadeFor, AreMoved}
+use Rattle.adr_schedule.specs.Seating.{Seating}
 use Rattle.adr_schedule.specs.Slots.{in_slot, is_taken, value_at, AreSeated}
 use Rattle.adr_schedule.specs.Tally.{AreAllOf}
 use Rattle.adr_schedule.proofs.Numbered.{one_or_other, put_elsewhere, put_here}
@@ -92,3 +94,11 @@ module _ {G : Type 0} where
           (λ e. subst (λ x. MatchOption x (P g g) (λ h. P g h)) k (are p s m at g here)),
           (λ e. absurd (cc)),
         )
+
+-- the same of a schedule that contracts see so
+pub moved_as : (P : Lines → Lines → Type 0) (s seen : Seating) → seen ≡ s → (places slots : List ℕ) (made after : List (List ℕ × Lines))
+    → ((slot : ℕ) → in_slot after slot ≡ then_in slots made s.groups slot)
+    → AreAllOf seen.seats places slots → AreMadeFor P places seen.seats seen.groups made → AreMoved P (is_among places) s.seats s.groups s.seats after
+moved_as P s seen is places slots made after exchanged all are =
+    all_moved s.seats slots s.groups made after exchanged P places
+    (subst (λ (x : Seating). AreAllOf x.seats places slots) is all) (subst (λ (x : Seating). AreMadeFor P places x.seats x.groups made) is are)

@@ -1,5 +1,5 @@
 -- The laws of `fan`'s text.
-use Rattle.std.proofs.Common.{◌≡◌, ℕ, zero, suc, ◌+◌, ◌-◌, ◌≤◌, Bool, true, false, List, [], ◌∷◌, ◌++◌, length, nat_lt, refl, arith, inl, if◌then◌else◌}
+use Rattle.std.proofs.Common.{◌≡◌, ℕ, zero, suc, ◌+◌, ◌-◌, ◌≤◌, Bool, true, false, List, [], ◌∷◌, ◌++◌, length, nat_lt, refl, ap, ◌∙◌, arith, inl, if◌then◌else◌}
 use Rattle.std.specs.Prelude.{Result, Ok, Err}
 use Rattle.std.specs.List.{AllByRecursion}
 use Rattle.std.specs.Io.BufRead.{strip_last}
@@ -16,8 +16,8 @@ use Rattle.adr_script.specs.Text.{state_but, after_line}
 use Rattle.adr_server.specs.declared.command.Command.{Command}
 use Rattle.adr_server.specs.declared.command.Command.TheVariants.{Edit, Publish, Condense, At, List as Listed, Roll, Types}
 use Rattle.adr_server.specs.Line.{line_named}
-use Rattle.adr_server.specs.Text.{command_next, next_or}
-use Rattle.adr_server.specs.Fan.{Sent, Fan, fan_start, most_queries, editor_next, fan_next, answer_from, IsReaderPart, AreReaderParts, part_from_last, parts_from_last, parts_after, FanRunsTheScript, ReadersMayAnswerAtTheEnd}
+use Rattle.adr_server.specs.Text.{command_next, next_or, script_next, script_start}
+use Rattle.adr_server.specs.Fan.{Sent, Fan, fan_start, most_queries, editor_next, fan_next, answer_from, IsReaderPart, AreReaderParts, part_from_last, parts_from_last, parts_after, FanLeavesTheState, FanRunsTheScript, ReadersMayAnswerAtTheEnd}
 
 -- ---- the editor's machine
 
@@ -37,6 +37,22 @@ next_machine fan (Ok (Types id)) = unsent fan (types_query id) (nat_lt (length f
 
 pub fan_runs_the_script : FanRunsTheScript
 fan_runs_the_script fan line = next_machine fan (line_named line)
+
+next_left : (fan : Fan) (s : State) (line : List ℕ) → fan.machine ≡ s → (after_line fan_next fan line).machine ≡ after_line script_next s line
+next_left fan s line is = by (nat_lt 4194304 (length line))
+  where
+    by : (b : Bool) → (if b then fan else fan_next fan (strip_last 13 line)).machine ≡ (if b then s else script_next s (strip_last 13 line))
+    by true = is
+    by false = fan_runs_the_script fan (strip_last 13 line) ∙ ap (λ (m : State). script_next m (strip_last 13 line)) is
+
+left_alike : (marks : List Bool) (fan : Fan) (s : State) (lines : List (List ℕ)) → fan.machine ≡ s → (state_but fan_next marks fan lines).machine ≡ state_but script_next marks s lines
+left_alike marks fan s [] is = is
+left_alike [] fan s (line ∷ lines) is = left_alike [] (after_line fan_next fan line) (after_line script_next s line) lines (next_left fan s line is)
+left_alike (true ∷ marks) fan s (line ∷ lines) is = left_alike marks fan s lines is
+left_alike (false ∷ marks) fan s (line ∷ lines) is = left_alike marks (after_line fan_next fan line) (after_line script_next s line) lines (next_left fan s line is)
+
+pub fan_leaves_the_state : FanLeavesTheState
+fan_leaves_the_state tie marks lines = left_alike marks (fan_start tie) (script_start tie) lines refl
 
 -- ---- a query was sent when no later publication than the last was there
 

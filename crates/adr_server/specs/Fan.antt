@@ -11,6 +11,7 @@ use Rattle.adr_script.specs.Script.{no_memory}
 use Rattle.adr_script.specs.Text.{text_but, state_but}
 use Rattle.adr_server.specs.declared.command.Command.{Command}
 use Rattle.adr_server.specs.Line.{line_named}
+use Rattle.adr_server.specs.Reached.{state_after}
 use Rattle.adr_server.specs.Text.{answer_line, refusal_line, command_reply, command_next, query_of, reply_or, next_or, script_start}
 
 -- a query that was sent, and the number of the publication that was the last one then
@@ -108,6 +109,11 @@ IsFanned tie bytes readers out = IsFannedOf tie (all_lines bytes) readers out
 -- the editor's edits and publications are those of a script without readers
 abbrev pub FanRunsTheScript : Type 0
 FanRunsTheScript = (fan : Fan) (line : List ℕ) → (fan_next fan line).machine ≡ next_or fan.machine (command_next fan.machine) (line_named line)
+
+-- and after any lines, of which any may be refused for want of memory, its state is what such a script leaves
+abbrev pub FanLeavesTheState : Type 0
+FanLeavesTheState =
+    (tie : Tie) (marks : List Bool) (lines : List (List ℕ)) → (state_but fan_next marks (fan_start tie) lines).machine ≡ state_after tie marks lines
 
 -- one reader's replies where it answers all from the last publication
 abbrev pub part_from_last : State → List Sent → List ℕ

@@ -45,6 +45,7 @@ impl<J: Naming, C: Hands> Edited<J, C> {
     ) -> Result<Edited<J, C>, Refusal>
         requires ready { C.ready }
         requires history { board.diary.page.book ≡ J.history }
+        requires tie { tie ≡ J.tie }
         ensures { IfOk result (λ edited. edited ≡ kept_start tie) }
     {
         let (editor, readers) = Board::open::<J, H>(alloc, rt, board, tie, 1)?;

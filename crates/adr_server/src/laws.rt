@@ -1,5 +1,5 @@
 //! The laws of the script's text.
-ghost use Rattle.adr_server.specs.Fan.{FanRunsTheScript, ReadersMayAnswerAtTheEnd};
+ghost use Rattle.adr_server.specs.Fan.{FanLeavesTheState, FanRunsTheScript, ReadersMayAnswerAtTheEnd};
 ghost use Rattle.adr_server.specs.Larger.{LargerLimitsTellTheSame, LimitsGrew};
 ghost use Rattle.adr_server.specs.Laws.{LinesTellTheLeastMatching, GovernsTheLeastMatching, PublishedStatesTellTheLeastMatching, PublishedTimelinesGiveTheLeastMatching, LinesAreSteps, AcceptedEditsLeaveTheState, TextsGoOn, RefusalsChangeNothing, RefusedEditsChangeNothing, AcceptedEditsAreKept, QueriesChangeNothing};
 
@@ -28,10 +28,13 @@ pub fn least_matching_interval_governs()
 {}
 
 /// What the text of many readers promises. Its editor's edits and publications are those of a script without readers,
-/// and readers that answer each query from the last publication of all, at the end, do what they may.
-#[tactic(auto, using(crate::proofs::Fans::fan_runs_the_script, crate::proofs::Fans::readers_may_answer_at_the_end))]
+/// line by line, and so is its state after any lines, of which any may be refused for want of memory: what
+/// [`least_matching_interval_governs`] says of the state after lines holds of the editor's. Readers that answer each query
+/// from the last publication of all, at the end, do what they may.
+#[tactic(auto, using(crate::proofs::Fans::fan_runs_the_script, crate::proofs::Fans::fan_leaves_the_state, crate::proofs::Fans::readers_may_answer_at_the_end))]
 pub fn fan_laws()
     ensures script { FanRunsTheScript }
+    ensures state { FanLeavesTheState }
     ensures end { ReadersMayAnswerAtTheEnd }
 {}
 

@@ -136,6 +136,7 @@ fn run_on<J: Naming, C: Hands, H: AllocGlobal + Threads + Wait, R: Read, W: Writ
 ) -> Result<(), Fault>
     requires ready { C.ready }
     requires history { board.diary.page.book ≡ J.history }
+    requires tie { tie ≡ J.tie }
     requires made { reads_made reads.old ≡ 0 }
     requires no_read { has_read_failed reads.old ≡ false }
     requires no_write { has_write_failed writes.old ≡ false }

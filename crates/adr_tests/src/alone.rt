@@ -1,5 +1,6 @@
 //! Readers and the editor in one thread.
 ghost use Rattle.std.specs.Prelude.{◌≡◌};
+ghost use Rattle.adr_model.specs.declared.entry.Tie.TheVariants.{Newest};
 
 use crate::replayed::is_replayed;
 use adr_board::{Board, Editor, Naming, NewBoard, Reader};
@@ -156,7 +157,8 @@ struct Told {
 }
 
 fn asked<J: Naming, R: AllocGlobal + Wait>(rt: &R, board: NewBoard) -> Result<Told, Refusal>
-    requires { board.diary.page.book ≡ J.history }
+    requires history { board.diary.page.book ≡ J.history }
+    requires tie { J.tie ≡ Newest }
 {
     let alloc = rt.alloc();
     let (mut editor, mut readers) = Board::open::<J, R>(alloc, rt, board, Tie::Newest, READERS)?;

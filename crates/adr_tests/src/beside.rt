@@ -1,5 +1,6 @@
 //! Readers in threads of their own, beside an editor that publishes as fast as it can.
 ghost use Rattle.std.specs.Prelude.{◌≡◌};
+ghost use Rattle.adr_model.specs.declared.entry.Tie.TheVariants.{Newest};
 
 use crate::alone::{apply_each, make};
 use crate::replayed::is_replayed;
@@ -188,7 +189,8 @@ fn on_board<J: Naming + Send, R: AllocGlobal + Threads + Wait + Sync>(
     rt: &R,
     board: NewBoard,
 ) -> Result<(u64, usize), Refusal>
-    requires { board.diary.page.book ≡ J.history }
+    requires history { board.diary.page.book ≡ J.history }
+    requires tie { J.tie ≡ Newest }
 {
     let alloc = rt.alloc();
     let (mut editor, readers) = Board::open::<J, R>(alloc, rt, board, Tie::Newest, READERS)?;

@@ -1,5 +1,6 @@
 //! An editor of as many edits as there may be, before and after they are condensed.
 ghost use Rattle.std.specs.Prelude.{◌≡◌};
+ghost use Rattle.adr_model.specs.declared.entry.Tie.TheVariants.{Newest};
 
 use adr_board::{Board, Editor, Naming, NewBoard};
 use adr_model::Tie;
@@ -78,7 +79,8 @@ fn on_board<J: Naming, R: AllocGlobal + Wait>(
     rt: &R,
     board: NewBoard,
 ) -> Result<Option<&'static str>, Refusal>
-    requires { board.diary.page.book ≡ J.history }
+    requires history { board.diary.page.book ≡ J.history }
+    requires tie { J.tie ≡ Newest }
 {
     let (mut editor, readers) = Board::open::<J, R>(rt.alloc(), rt, board, Tie::Newest, 1)?;
     drop(readers);

@@ -1,5 +1,6 @@
 //! A board over a desk that was loaded.
 ghost use Rattle.std.specs.Prelude.{◌≡◌};
+ghost use Rattle.adr_model.specs.declared.entry.Tie.TheVariants.{Newest};
 
 use crate::steps::price;
 use adr_board::{Board, Desk, Editor, Naming, NewBoard};
@@ -47,7 +48,8 @@ fn on_board<J: Naming, R: AllocGlobal + Threads + Wait + Sync>(
     rt: &R,
     board: NewBoard,
 ) -> Result<(bool, String), Refusal>
-    requires { board.diary.page.book ≡ J.history }
+    requires history { board.diary.page.book ≡ J.history }
+    requires tie { J.tie ≡ Newest }
 {
     let alloc = rt.alloc();
     let (desk, answers) = Desk::load(rt, alloc, edits(alloc)?, Tie::Newest)?;

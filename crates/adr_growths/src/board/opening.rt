@@ -1,6 +1,7 @@
 //! Boards that are opened and closed.
 ghost use Rattle.std.specs.Prelude.{◌≡◌, [], IfOk};
 ghost use Rattle.adr_model.specs.Book.{empty};
+ghost use Rattle.adr_model.specs.declared.entry.Tie.TheVariants.{Newest};
 
 use adr_board::{Board, Desk, Editor, Naming, NewBoard, Reader};
 use adr_model::Tie;
@@ -36,7 +37,8 @@ fn end<J: Naming, R: Wait>(rt: &R, editor: Editor<J>, readers: Vec<Reader<J>>) -
 }
 
 fn open<J: Naming, R: AllocGlobal + Wait>(rt: &R, board: NewBoard) -> Result<u64, Refusal>
-    requires { board.diary.page.book ≡ J.history }
+    requires history { board.diary.page.book ≡ J.history }
+    requires tie { J.tie ≡ Newest }
 {
     let (editor, readers) = Board::open::<J, R>(rt.alloc(), rt, board, Tie::Newest, READERS)?;
     Ok(end(rt, editor, readers))
@@ -63,6 +65,7 @@ fn over<J: Naming, R: AllocGlobal + Wait>(
     desk: Desk,
 ) -> Result<u64, Refusal>
     requires history { board.diary.page.book ≡ J.history }
+    requires tie { desk.tie ≡ J.tie }
     requires base { desk.book.base ≡ empty }
     requires closed { desk.book.closed ≡ [] }
 {

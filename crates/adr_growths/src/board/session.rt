@@ -1,5 +1,6 @@
 //! Lines, on one board.
 ghost use Rattle.std.specs.Prelude.{◌≡◌};
+ghost use Rattle.adr_model.specs.declared.entry.Tie.TheVariants.{Newest};
 
 use crate::board::asking::try_ask;
 use crate::board::editing::try_edit;
@@ -69,7 +70,8 @@ fn on_board<J: Naming, R: AllocGlobal + Print + Wait + Threads + Sync>(
     board: NewBoard,
     lines: String,
 ) -> Result<io::Result<()>, Refusal>
-    requires { board.diary.page.book ≡ J.history }
+    requires history { board.diary.page.book ≡ J.history }
+    requires tie { J.tie ≡ Newest }
 {
     let (mut editor, mut readers) = Board::open::<J, R>(
         rt.alloc(),

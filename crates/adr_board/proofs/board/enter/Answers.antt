@@ -4,7 +4,7 @@ use Rattle.adr_board.proofs.Sights.{sighted}
 use Rattle.adr_board.proofs.board.enter.Goals as goal
 
 pub enter_as-requires : goal.enter_as-requires
-enter_as-requires g c x = looks _ _ _ x
+enter_as-requires g c x = looks _ _ _ _ x
 
 pub returns-in-Ok-clause-sight : goal.returns-in-Ok-clause-sight
 returns-in-Ok-clause-sight g c =

@@ -17,4 +17,4 @@ new-requires-2-clause-rule g c =
     let x : Shown = c.of-first.result in
     let number : (showing x).snapshot.number ≡ 0 = search rules in
     let publication : publication_in (showing x).snapshot ≡ opening = search rules in
-    starts _ x number publication (first_carried _ (showing x) number publication (search rules) (ap (λ p. p.log) c.of-first.ensures.page ∙ (ap (λ p. p.log) c.again-page.ensures ∙ log)) (c.of-first.ensures.attempt ∙ place))
+    starts _ _ x number (search rules) publication (first_carried _ (showing x) number publication (search rules) (ap (λ p. p.log) c.of-first.ensures.page ∙ (ap (λ p. p.log) c.again-page.ensures ∙ log)) (c.of-first.ensures.attempt ∙ place))

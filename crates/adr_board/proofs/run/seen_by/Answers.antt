@@ -1,4 +1,4 @@
-use Rattle.std.proofs.Common.{rules, ◌≡◌, List, subst, arith}
+use Rattle.std.proofs.Common.{◌∙◌, List, sym, subst, arith}
 use Rattle.std.specs.Arc.{arc_value}
 use mathlib.Core.List.{IsPrefix}
 use Rattle.adr_model.specs.Machine.{Publication}
@@ -11,8 +11,8 @@ returns-clause-shown g c =
     let settled = c.in_ok-settle.ensures in
     let seen = c.look.new.self.seen in
     let snapshot = arc_value c.in_ok-seen.seen in
-    let tie : snapshot.tie ≡ c.args.editor.now.tie = search rules in
-    seen_one c.args.editor.now.published seen snapshot c.args.editor.now.tie c.in_ok-seen.ensures.last (subst (λ (l : List Publication). IsPrefix seen l) settled.seen settled.kept) tie
+    let last = c.in_ok-seen.ensures.last in
+    seen_one c.args.editor.now.published seen snapshot c.args.editor.now.tie last.0 (subst (λ (l : List Publication). IsPrefix seen l) settled.seen settled.kept) (last.1 ∙ sym c.editor_laws.ensures.tie)
 
 pub returns-clause-known : goal.returns-clause-known
-returns-clause-known g c = omega (arith, c.in_ok-seen.ensures.last.numbered, prefix_length c.look.new.self.seen c.settle.new.reader.seen c.in_ok-settle.ensures.kept)
+returns-clause-known g c = omega (arith, c.in_ok-seen.ensures.last.0.numbered, prefix_length c.look.new.self.seen c.settle.new.reader.seen c.in_ok-settle.ensures.kept)

@@ -1,5 +1,5 @@
 use Rattle.adr_fan.proofs.fanning.fan_logged.Given as goal
 
--- the history of the board that is opened
+-- the history of the board that is opened, and its rule for ties
 abbrev pub ghosts-fan_as : goal.ghosts-fan_as
-ghosts-fan_as g a = record { history = a.board.diary.page.book }
+ghosts-fan_as g a = record { history = a.board.diary.page.book; tie = a.tie }

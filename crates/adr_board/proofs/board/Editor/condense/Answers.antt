@@ -12,7 +12,7 @@ pub invariant_of-self : goal.invariant_of-self
 invariant_of-self g c = let kept = c.self.invariant in
     let same : c.book.result.now.objects ≡ (arc_value c.self.inside.last).book.objects = search rules in
     let still = condensed c.condense.result _ _ c.self.inside.desk.book c.condense.new.self.book same kept.2 c.condense.ensures.base c.condense.ensures.closed (same_part c.condense.result (λ d. d.book) _ _ c.condense.ensures.unchanged) in
-    (kept.0, kept.1, still, kept.3 ∙ sym c.condense.ensures.tie, kept.4, kept.5, kept.6, kept.7, subst HasPrivateNames (sym c.condense.ensures.objects) kept.8)
+    (kept.0, kept.1, still, kept.3 ∙ sym c.condense.ensures.tie, c.condense.ensures.tie ∙ kept.4, kept.5, kept.6, kept.7, kept.8, subst HasPrivateNames (sym c.condense.ensures.objects) kept.9)
 
 pub returns-clause-base : goal.returns-clause-base
 returns-clause-base g c =

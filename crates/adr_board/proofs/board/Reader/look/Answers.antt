@@ -25,10 +25,10 @@ invariant_of-self-2 g c =
     let saw = c.in-Some.ensures.sight in
     let seen = seen_by c.in-Some.sight.page.log in
     let more = longer (seen_by c.self.inside.page.log) seen (known c.self.inside.raw.place) (known c.glance.new.reader.place) c.self.invariant.0 saw.0 saw.1 in
-    let takes = taken (seen_by c.self.inside.page.log) seen (known c.glance.new.reader.place) c.in-Some.sight.page.log _ _ c.in-Some.sight.fresh c.self.inside.own more saw.3 saw.1 c.self.invariant.1
+    let takes = taken _ (seen_by c.self.inside.page.log) seen (known c.glance.new.reader.place) c.in-Some.sight.page.log _ _ c.in-Some.sight.fresh c.self.inside.own more saw.3 saw.1 c.self.invariant.1
     c.in-Some.ensures.fresh (λ none. sym c.number_of.ensures ∙ c.in-Some.ensures.had none) in (
       subst (λ (l : List Publication). IsPrefix seen l) saw.1 (prefix_self seen),
-      c.in_ok-own.ensures.last seen (rw (c.take.ensures.value) takes),
+      c.in_ok-own.ensures.last _ seen (rw (c.take.ensures.value) takes),
     )
 
 pub returns-clause-last : goal.returns-clause-last
@@ -36,9 +36,9 @@ returns-clause-last g c =
     let saw = c.in-Some.ensures.sight in
     let seen = seen_by c.in-Some.sight.page.log in
     let more = longer (seen_by c.self.inside.page.log) seen (known c.self.inside.raw.place) (known c.glance.new.reader.place) c.self.invariant.0 saw.0 saw.1 in
-    let takes = taken (seen_by c.self.inside.page.log) seen (known c.glance.new.reader.place) c.in-Some.sight.page.log _ _ c.in-Some.sight.fresh c.self.inside.own more saw.3 saw.1 c.self.invariant.1
+    let takes = taken _ (seen_by c.self.inside.page.log) seen (known c.glance.new.reader.place) c.in-Some.sight.page.log _ _ c.in-Some.sight.fresh c.self.inside.own more saw.3 saw.1 c.self.invariant.1
     c.in-Some.ensures.fresh (λ none. sym c.number_of.ensures ∙ c.in-Some.ensures.had none) in
-    shared_last c.shared-share.result c.in_ok-own.own seen c.shared-share.ensures.same (c.in_ok-own.ensures.last seen (rw (c.take.ensures.value) takes))
+    shared_last _ c.shared-share.result c.in_ok-own.own seen c.shared-share.ensures.same (c.in_ok-own.ensures.last _ seen (rw (c.take.ensures.value) takes))
 
 pub returns-clause-grows : goal.returns-clause-grows
 returns-clause-grows g c =
