@@ -1,19 +1,14 @@
--- Numbers in order, the events that have them, and the instants that are covered.
-use Rattle.std.proofs.Common.{◌≡◌, ℕ, ℤ, zero, suc, ◌+◌, ◌<◌, ◌⊎◌, inl, inr, ◌==◌, ◌||◌, Bool, true, false, List, [], ◌∷◌, ◌++◌, map, length, slice_index, slice_get, take, if◌then◌else◌, Option, Some, None, refl, ap, sym, subst, ◌∙◌, arith, eqb-true, eq-eqb}
+-- Numbers in order, and the events that have them.
+use Rattle.std.proofs.Common.{◌≡◌, ℕ, zero, suc, ◌+◌, ◌<◌, ◌⊎◌, inl, inr, ◌==◌, ◌||◌, Bool, true, false, List, [], ◌∷◌, ◌++◌, map, length, slice_index, slice_get, take, if◌then◌else◌, Option, Some, None, refl, ap, sym, subst, ◌∙◌, arith, eqb-true, eq-eqb}
 use Rattle.std.specs.List.Sorted.{IsStrictlyIncreasing}
 use Rattle.std.specs.Option.{option_map}
 use Rattle.std.proofs.lemmas.Bool.{both_ways}
-use Rattle.std.proofs.lemmas.List.Folds.{list_any-append}
-use Rattle.adr_time.specs.Spans.{covers}
 use Rattle.adr_object.specs.declared.event.Event.{Event}
 use Rattle.adr_store.specs.Numbers.{by_number}
-use Rattle.adr_model.specs.declared.entry.Entry.{Entry}
-use Rattle.adr_model.specs.declared.entry.Tie.{Tie}
 use Rattle.adr_model.specs.declared.written.Written.{Written}
 use Rattle.adr_model.specs.Lists.{In}
-use Rattle.adr_model.specs.Rank.{ranked}
 use Rattle.adr_model.proofs.Lists.{filter_all}
-use Rattle.adr_stretch.specs.Grouped.{any_covers_at, written_event}
+use Rattle.adr_stretch.specs.Grouped.{written_event}
 use Rattle.adr_stretch.specs.Right.{has_number}
 use Rattle.adr_regroup.proofs.PartyWindows.{found_event, found_number}
 use Rattle.adr_bulk.specs.Bulk.{chosen}
@@ -52,22 +47,6 @@ none_found (x ∷ xs) n h w m e = by (x.written == n) refl h m (λ f k. none_fou
     by true k found m later = absurd (cc found)
     by false k found (inl same) later = both_ways (x.written == n) k (own same)
     by false k found (inr m) later = later found m
-
--- ---- covered instants
-
-pub any_ranked : (tie : Tie) (es : List Entry) (t : ℤ) → any_covers_at (map (ranked tie) es) t ≡ any_covers_at es t
-any_ranked tie [] t = refl
-any_ranked tie (e ∷ es) t = ap (λ b. covers e.span t || b) (any_ranked tie es t)
-
-pub any_left : (xs ys : List Entry) (t : ℤ) → any_covers_at xs t ≡ true → any_covers_at (xs ++ ys) t ≡ true
-any_left xs ys t h = list_any-append (λ (e : Entry). covers e.span t) xs ys ∙ ap (λ b. b || any_covers_at ys t) h
-
-pub any_right : (xs ys : List Entry) (t : ℤ) → any_covers_at ys t ≡ true → any_covers_at (xs ++ ys) t ≡ true
-any_right xs ys t h = list_any-append (λ (e : Entry). covers e.span t) xs ys ∙ by (any_covers_at xs t) h
-  where
-    by : (b : Bool) → any_covers_at ys t ≡ true → (b || any_covers_at ys t) ≡ true
-    by true k = refl
-    by false k = k
 
 -- the event that is found by a number, from what was found of it
 pub event_of : (events : List Written) (n : ℕ) (e : Event) → Some e ≡ option_map (λ (w : Written). w.event) (by_number events n) → by_number events n ≡ Some (written_event e n)

@@ -13,10 +13,10 @@ use Rattle.adr_model.proofs.Lists.{bytes_eq_self}
 use Rattle.adr_stretch.specs.declared.grouped.TypeEntries.{TypeEntries}
 use Rattle.adr_stretch.specs.Counted.{entries_in_groups}
 use Rattle.adr_stretch.specs.Grouped.{any_covers_at, entries_under}
+use Rattle.adr_stretch.proofs.Covered.{any_left, any_right}
 use Rattle.adr_stretch.proofs.Groups.{same_as_each}
 use Rattle.adr_lines.specs.Indexes.{has_type, own_entries}
 use Rattle.adr_bulk.specs.Bulk.{AreFrom, IsFrom}
-use Rattle.adr_bulk.proofs.Choosing.{any_left, any_right}
 
 le_from : (a b : ℤ) → int_le a b ≡ true → a ≤ℤ b
 le_from a b h = grind (arith, ints)

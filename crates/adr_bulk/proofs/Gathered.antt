@@ -21,13 +21,14 @@ use Rattle.adr_model.proofs.Lists.{each_from_In, none_in_part, passing_in, In-fi
 use Rattle.adr_stretch.specs.declared.grouped.TypeEntries.{TypeEntries}
 use Rattle.adr_stretch.specs.Grouped.{any_covers_at, entries_under, HaveOwnTypes}
 use Rattle.adr_stretch.specs.Right.{all_of, has_number}
+use Rattle.adr_stretch.proofs.Covered.{any_ranked}
 use Rattle.adr_stretch.proofs.Groups.{none_under, same_as_each}
 use Rattle.adr_lines.specs.Exchange.{AreEntriesOf, HaveOwnNumbers}
 use Rattle.adr_lines.specs.Indexes.{own_entries}
 use Rattle.adr_group.specs.Group.{AreWindowsOf}
 use Rattle.adr_regroup.proofs.PartyWindows.{found_number}
 use Rattle.adr_bulk.specs.Bulk.{chosen, in_turn, numbered}
-use Rattle.adr_bulk.proofs.Choosing.{any_ranked, ascend_tail, first_below, none_found}
+use Rattle.adr_bulk.proofs.Choosing.{ascend_tail, first_below, none_found}
 
 -- ---- a group that is added
 

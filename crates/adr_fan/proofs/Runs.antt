@@ -17,7 +17,7 @@ use Rattle.adr_server.specs.Fan.{Fan, fan_start, AreReaderParts, IsFannedOf}
 use Rattle.adr_fan.specs.Levels.{lines_told, HasTold, HasToldInPart, WritesPart, IsFannedInPart, IsCutShort, ended_as, HasWritten}
 use Rattle.adr_fan.specs.Parts.{AreParts, all_texts}
 use Rattle.adr_fan.proofs.Parts.{parts_are}
-use Rattle.adr_fan.proofs.Timely.{Answers, fanned, fanned_in_part, told_in_part}
+use Rattle.adr_fan.proofs.CutShort.{Answers, fanned, fanned_in_part, told_in_part}
 
 abbrev Known : Type 0
 Known = Option (List ℕ)

@@ -6,7 +6,6 @@ use Rattle.std.proofs.lemmas.List.{map-append}
 use Rattle.std.proofs.lemmas.List.Sums.{sum_by-cons}
 use Rattle.std.specs.Option.{option_map, option_map_or}
 use Rattle.adr_value.specs.declared.payload.PayloadType.{PayloadType}
-use Rattle.adr_time.specs.Spans.{covers}
 use Rattle.adr_object.specs.declared.event.Event.{Event}
 use Rattle.adr_store.specs.Numbers.{by_number}
 use Rattle.adr_model.specs.declared.entry.Entry.{Entry}
@@ -18,6 +17,7 @@ use Rattle.adr_model.specs.Rank.{ranked}
 use Rattle.adr_stretch.specs.declared.grouped.TypeEntries.{TypeEntries}
 use Rattle.adr_stretch.specs.Grouped.{any_covers_at, entries_under, written_event, HaveOwnTypes}
 use Rattle.adr_stretch.specs.Right.{has_number}
+use Rattle.adr_stretch.proofs.Covered.{any_left, any_ranked, any_right}
 use Rattle.adr_lines.specs.declared.indexes.Indexes.{Indexes}
 use Rattle.adr_group.specs.Group.{AreWindowsOf}
 use Rattle.adr_group.specs.Repair.{most_possible, most_repaired}
@@ -114,26 +114,6 @@ module _ (tie : Tie) (events : List Written) (others : List ℕ) (now after : Li
       omega (arith, parts, h, before)
 
 -- ---- what the windows hold then
-
-any_ranked : (tie : Tie) (es : List Entry) (t : ℤ) → any_covers_at (map (ranked tie) es) t ≡ any_covers_at es t
-any_ranked tie [] t = refl
-any_ranked tie (e ∷ es) t = ap (λ b. covers e.span t || b) (any_ranked tie es t)
-
-any_left : (xs ys : List Entry) (t : ℤ) → any_covers_at xs t ≡ true → any_covers_at (xs ++ ys) t ≡ true
-any_left [] ys t h = absurd (cc)
-any_left (x ∷ xs) ys t h = by (covers x.span t) h (any_left xs ys t)
-  where
-    by : (b : Bool) → (b || any_covers_at xs t) ≡ true → (any_covers_at xs t ≡ true → any_covers_at (xs ++ ys) t ≡ true) → (b || any_covers_at (xs ++ ys) t) ≡ true
-    by true k later = refl
-    by false k later = later k
-
-any_right : (xs ys : List Entry) (t : ℤ) → any_covers_at ys t ≡ true → any_covers_at (xs ++ ys) t ≡ true
-any_right [] ys t h = h
-any_right (x ∷ xs) ys t h = by (covers x.span t) (any_right xs ys t h)
-  where
-    by : (b : Bool) → any_covers_at (xs ++ ys) t ≡ true → (b || any_covers_at (xs ++ ys) t) ≡ true
-    by true k = refl
-    by false k = k
 
 module _ (events : List Written) (one : (w v : Written) → In w events → In v events → w.written ≡ v.written → w ≡ v) where
   number_finds : (es : List Written) (n : ℕ) (w : Written) → In w es → w.written ≡ n → (v : Written) × (by_number es n ≡ Some v)

@@ -31,11 +31,11 @@ module _ (x f : Entry) (xs : List Entry) (least : IsLeast xs f) where
   chosen false t = (inl refl, none_over_new t)
 
 -- the first of a list, where it has one
-abbrev IsFirst : List Entry → Option Entry → Type 0
+abbrev pub IsFirst : List Entry → Option Entry → Type 0
 IsFirst es None = es ≡ []
 IsFirst es (Some e) = IsLeast es e
 
-first_is_least : (es : List Entry) → IsFirst es (first_of es)
+pub first_is_least : (es : List Entry) → IsFirst es (first_of es)
 first_is_least [] = refl
 first_is_least (x ∷ xs) = by (first_of xs) (first_is_least xs)
   where

@@ -1,17 +1,15 @@
 -- What becomes of a group.
-use Rattle.std.proofs.Common.{◌≡◌, ℕ, ℤ, ◌+◌, ◌≤◌, ◌==◌, ◌||◌, ◌⊎◌, inl, inr, Bool, true, false, if◌then◌else◌, List, [], ◌∷◌, ◌++◌, map, Option, Some, None, refl, ap, sym, subst, ◌∙◌, arith, eqb-true}
+use Rattle.std.proofs.Common.{◌≡◌, ℕ, ℤ, ◌+◌, ◌≤◌, ◌==◌, ◌⊎◌, inl, inr, Bool, true, false, if◌then◌else◌, List, ◌++◌, Option, Some, None, refl, ap, sym, subst, ◌∙◌, arith, eqb-true}
 use Rattle.std.proofs.lemmas.Bool.{both_ways}
 use Rattle.std.proofs.lemmas.Grind.{flat_map-append}
 use Rattle.adr_value.specs.declared.payload.PayloadType.{PayloadType}
-use Rattle.adr_time.specs.Spans.{covers}
-use Rattle.adr_model.specs.declared.entry.Entry.{Entry}
 use Rattle.adr_model.specs.declared.entry.Tie.{Tie}
 use Rattle.adr_model.specs.declared.written.Written.{Written}
 use Rattle.adr_model.specs.Governor.{entries_of}
-use Rattle.adr_model.specs.Rank.{ranked}
 use Rattle.adr_stretch.specs.declared.grouped.TypeEntries.{TypeEntries}
 use Rattle.adr_stretch.specs.Grouped.{any_covers_at, entries_under}
 use Rattle.adr_stretch.specs.Right.{has_number}
+use Rattle.adr_stretch.proofs.Covered.{any_left, any_ranked, any_right}
 use Rattle.adr_lines.specs.declared.indexes.Indexes.{Indexes}
 use Rattle.adr_lines.specs.Exchange.{IsIndexOf}
 use Rattle.adr_group.specs.Group.{Lines, AreWindowsOf, IsRightOf}
@@ -128,26 +126,6 @@ changed_shifted change writes two n = by (is_number (number_in change.come) n) r
     by false c false g b h = rw (c, g, not_kept writes n false change.come c, not_kept writes n true change.gone g) refl
 
 -- ---- the windows
-
-any_ranked : (tie : Tie) (es : List Entry) (t : ℤ) → any_covers_at (map (ranked tie) es) t ≡ any_covers_at es t
-any_ranked tie [] t = refl
-any_ranked tie (e ∷ es) t = ap (λ b. covers e.span t || b) (any_ranked tie es t)
-
-any_left : (xs ys : List Entry) (t : ℤ) → any_covers_at xs t ≡ true → any_covers_at (xs ++ ys) t ≡ true
-any_left [] ys t h = absurd (cc)
-any_left (x ∷ xs) ys t h = by (covers x.span t) h (any_left xs ys t)
-  where
-    by : (b : Bool) → (b || any_covers_at xs t) ≡ true → (any_covers_at xs t ≡ true → any_covers_at (xs ++ ys) t ≡ true) → (b || any_covers_at (xs ++ ys) t) ≡ true
-    by true k later = refl
-    by false k later = later k
-
-any_right : (xs ys : List Entry) (t : ℤ) → any_covers_at ys t ≡ true → any_covers_at (xs ++ ys) t ≡ true
-any_right [] ys t h = h
-any_right (x ∷ xs) ys t h = by (covers x.span t) (any_right xs ys t h)
-  where
-    by : (b : Bool) → any_covers_at (xs ++ ys) t ≡ true → (b || any_covers_at (xs ++ ys) t) ≡ true
-    by true k = refl
-    by false k = k
 
 module _ (k : PayloadType) (t : ℤ) where
   under_left : (xs ys : List TypeEntries) → any_covers_at (entries_under xs k) t ≡ true → any_covers_at (entries_under (xs ++ ys) k) t ≡ true

@@ -1,23 +1,17 @@
 -- The laws of `fan`'s text.
-use Rattle.std.proofs.Common.{◌≡◌, ℕ, zero, suc, ◌+◌, ◌-◌, ◌≤◌, Bool, true, false, List, [], ◌∷◌, ◌++◌, length, nat_lt, refl, ap, ◌∙◌, arith, inl, if◌then◌else◌}
+use Rattle.std.proofs.Common.{◌≡◌, ℕ, zero, suc, ◌+◌, ◌≤◌, Bool, true, false, List, [], ◌∷◌, ◌++◌, length, nat_lt, refl, ap, ◌∙◌, arith, inl, if◌then◌else◌}
 use Rattle.std.specs.Prelude.{Result, Ok, Err}
-use Rattle.std.specs.List.{AllByRecursion}
 use Rattle.std.specs.Io.BufRead.{strip_last}
-use Rattle.std.proofs.lemmas.List.{length_push}
 use Rattle.adr_value.specs.declared.refusal.Refusal.{Refusal}
-use Rattle.adr_model.specs.Book.{Book}
-use Rattle.adr_value.specs.declared.limits.TheConstants.{MOST_PUBLICATIONS}
-use Rattle.adr_model.specs.Edits.{full_at, step_to}
-use Rattle.adr_model.specs.Machine.{Publication, State, Reply, refused, published as published_as, last_number, after_edit}
+use Rattle.adr_model.specs.Machine.{State, last_number}
 use Rattle.adr_model.specs.Queries.{Query, at_query, list_query, roll_query, types_query}
-use Rattle.adr_value.specs.declared.refusal.Refusal.TheVariants.{Full}
-use Rattle.adr_object.specs.declared.object.Edit.{Edit as Change}
 use Rattle.adr_script.specs.Text.{state_but, after_line}
 use Rattle.adr_server.specs.declared.command.Command.{Command}
 use Rattle.adr_server.specs.declared.command.Command.TheVariants.{Edit, Publish, Condense, At, List as Listed, Roll, Types}
 use Rattle.adr_server.specs.Line.{line_named}
 use Rattle.adr_server.specs.Text.{command_next, next_or, script_next, script_start}
 use Rattle.adr_server.specs.Fan.{Sent, Fan, fan_start, most_queries, editor_next, fan_next, answer_from, IsReaderPart, AreReaderParts, part_from_last, parts_from_last, parts_after, FanLeavesTheState, FanRunsTheScript, ReadersMayAnswerAtTheEnd}
+use Rattle.adr_server.proofs.Timely.{timely_after, IsSentBy}
 
 -- ---- the editor's machine
 
@@ -54,57 +48,6 @@ left_alike (false ∷ marks) fan s (line ∷ lines) is = left_alike marks (after
 pub fan_leaves_the_state : FanLeavesTheState
 fan_leaves_the_state tie marks lines = left_alike marks (fan_start tie) (script_start tie) lines refl
 
--- ---- a query was sent when no later publication than the last was there
-
-abbrev IsSentBy : ℕ → List Sent → Type 0
-IsSentBy number sent = AllByRecursion (λ q. q.number ≤ number) sent
-
-later : (a b : ℕ) (sent : List Sent) → a ≤ b → IsSentBy a sent → IsSentBy b sent
-later a b [] h all = all
-later a b (q ∷ sent) h all = (grind arith, later a b sent h all.1)
-
-pushed : (a : ℕ) (sent : List Sent) (q : Sent) → q.number ≤ a → IsSentBy a sent → IsSentBy a (sent ++ q ∷ [])
-pushed a [] q h all = (h, tt)
-pushed a (p ∷ sent) q h all = (all.0, pushed a sent q h all.1)
-
-abbrev IsTimely : Fan → Type 0
-IsTimely fan = IsSentBy (last_number fan.machine) fan.sent
-
-edited : (fan : Fan) (x : Change) (r : Result Book Refusal) → IsTimely fan → IsTimely (record fan { machine = (after_edit fan.machine x r).1 })
-edited fan x (Ok book) h = h
-edited fan x (Err f) h = h
-
-published : (fan : Fan) (b : Bool) (reply full : Reply) → IsTimely fan
-    → IsTimely (record fan { machine = (if◌then◌else◌ {A = Reply × State} b (reply, record fan.machine { published = fan.machine.published ++ record { book = fan.machine.current; batch = fan.machine.pending } ∷ []; pending = [] }) (full, fan.machine)).1 })
-published fan true reply full h =
-    let one : Publication = record { book = fan.machine.current; batch = fan.machine.pending } in
-    later (last_number fan.machine) (length (fan.machine.published ++ one ∷ []) - 1) fan.sent (rw (length_push fan.machine.published one) grind arith) h
-published fan false reply full h = h
-
-sent_on : (fan : Fan) (query : Query) (b : Bool) → IsTimely fan → IsTimely (if b then record fan { sent = fan.sent ++ (record { query = query; number = last_number fan.machine }) ∷ [] } else fan)
-sent_on fan query true h = pushed (last_number fan.machine) fan.sent (record { query = query; number = last_number fan.machine }) (grind arith) h
-sent_on fan query false h = h
-
-timely_next : (fan : Fan) (r : Result Command Refusal) → IsTimely fan → IsTimely (next_or fan (editor_next fan) r)
-timely_next fan (Err f) h = h
-timely_next fan (Ok (Edit x)) h = edited fan x (step_to (full_at fan.machine.base) fan.machine.current x) h
-timely_next fan (Ok Publish) h = published fan (nat_lt (last_number fan.machine) MOST_PUBLICATIONS) (published_as (length fan.machine.published) fan.machine.current.version) (refused Full) h
-timely_next fan (Ok Condense) h = h
-timely_next fan (Ok (At id payload_type moment)) h = sent_on fan (at_query id payload_type moment) (nat_lt (length fan.sent) most_queries) h
-timely_next fan (Ok (Listed id payload_type from to)) h = sent_on fan (list_query id payload_type from to) (nat_lt (length fan.sent) most_queries) h
-timely_next fan (Ok (Roll payload_type moment)) h = sent_on fan (roll_query payload_type moment) (nat_lt (length fan.sent) most_queries) h
-timely_next fan (Ok (Types id)) h = sent_on fan (types_query id) (nat_lt (length fan.sent) most_queries) h
-
-timely_if : (b : Bool) (fan next : Fan) → IsTimely fan → IsTimely next → IsTimely (if b then fan else next)
-timely_if true fan next h k = h
-timely_if false fan next h k = k
-
-timely_after : (lines : List (List ℕ)) (fan : Fan) → IsTimely fan → IsTimely (state_but fan_next [] fan lines)
-timely_after [] fan h = h
-timely_after (line ∷ lines) fan h =
-    timely_after lines (after_line fan_next fan line)
-    (timely_if (nat_lt 4194304 (length line)) fan (fan_next fan (strip_last 13 line)) h (timely_next fan (line_named (strip_last 13 line)) h))
-
 -- ---- the readers' replies
 
 part_is : (s : State) (sent : List Sent) (seen : ℕ) → seen ≤ last_number s → IsSentBy (last_number s) sent → IsReaderPart s seen sent (part_from_last s sent)
@@ -120,4 +63,4 @@ parts_are s sent reader (suc count) all =
 pub readers_may_answer_at_the_end : ReadersMayAnswerAtTheEnd
 readers_may_answer_at_the_end tie lines readers =
     let end : Fan = state_but fan_next [] (fan_start tie) lines in
-    ([], parts_after end readers, parts_are end.machine end.sent 0 readers (timely_after lines (fan_start tie) tt), refl)
+    ([], parts_after end readers, parts_are end.machine end.sent 0 readers (timely_after [] lines (fan_start tie) tt), refl)

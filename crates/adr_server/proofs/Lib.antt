@@ -7,4 +7,5 @@ mod Larger
 mod Parts
 mod Printed
 mod Reached
+pub mod Timely
 mod Words

@@ -1,4 +1,5 @@
 pub mod Counted
+pub mod Covered
 pub mod Groups
 pub mod Intervals
 pub mod Right

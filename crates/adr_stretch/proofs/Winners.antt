@@ -1,52 +1,17 @@
 -- What wins doesn't see the order of the entries, nor how often one stands, nor those that cover other instants.
-use Rattle.std.proofs.Common.{◌≡◌, ℤ, Bool, true, false, List, [], ◌∷◌, Option, Some, None, if◌then◌else◌, map, filter, refl, ap, subst, ◌∙◌, inl, inr, ◌⊎◌}
-use Rattle.std.specs.Option.{option_map, option_map_or}
+use Rattle.std.proofs.Common.{◌≡◌, ℤ, Bool, true, List, [], Option, Some, None, map, filter, refl, ap, subst, ◌∙◌}
+use Rattle.std.specs.Option.{option_map}
 use Rattle.adr_time.specs.Spans.{covers}
 use Rattle.adr_model.specs.declared.entry.Entry.{Entry}
 use Rattle.adr_model.specs.declared.entry.Rank.{Rank}
 use Rattle.adr_model.specs.declared.entry.Tie.{Tie}
 use Rattle.adr_model.specs.Governor.{first_of, winner_at, winner_of}
 use Rattle.adr_model.specs.Lists.{In}
-use Rattle.adr_model.specs.Rank.{goes_before, ranked}
+use Rattle.adr_model.specs.Rank.{ranked}
 use Rattle.adr_model.proofs.Lists.{In-filter, In-from_filter, In-from_map, In-map}
-use Rattle.adr_model.proofs.Order.{none_goes_before_itself, not_both_ways, not_going_before_passes_on, one_of_two_goes_before}
-use Rattle.adr_repair.specs.Ranks.{IsLeast}
+use Rattle.adr_model.proofs.Order.{one_of_two_goes_before}
+use Rattle.adr_repair.proofs.Least.{first_is_least, IsFirst}
 use Rattle.adr_stretch.specs.Right.{winner_under}
-
--- ---- the first of a list is a least one
-
-none_over_itself : (x g : Entry) → x ≡ g → goes_before g.rank x.rank ≡ false
-none_over_itself x g e = subst (λ (z : Entry). goes_before z.rank x.rank ≡ false) e (none_goes_before_itself x.rank)
-
-module _ (x f : Entry) (xs : List Entry) (least : IsLeast xs f) where
-  none_over_old : goes_before f.rank x.rank ≡ true → (g : Entry) → (x ≡ g) ⊎ In g xs → goes_before g.rank f.rank ≡ false
-  none_over_old t g (inl e) = subst (λ (z : Entry). goes_before z.rank f.rank ≡ false) e (not_both_ways f.rank x.rank t)
-  none_over_old t g (inr m) = least.1 g m
-
-  none_over_new : goes_before f.rank x.rank ≡ false → (g : Entry) → (x ≡ g) ⊎ In g xs → goes_before g.rank x.rank ≡ false
-  none_over_new t g (inl e) = none_over_itself x g e
-  none_over_new t g (inr m) = not_going_before_passes_on g.rank f.rank x.rank (least.1 g m) t
-
-  chosen : (b : Bool) → goes_before f.rank x.rank ≡ b → IsLeast (x ∷ xs) (if b then f else x)
-  chosen true t = (inr least.0, none_over_old t)
-  chosen false t = (inl refl, none_over_new t)
-
--- the first of a list, where it has one
-abbrev IsFirst : List Entry → Option Entry → Type 0
-IsFirst es None = es ≡ []
-IsFirst es (Some e) = IsLeast es e
-
-first_is_least : (es : List Entry) → IsFirst es (first_of es)
-first_is_least [] = refl
-first_is_least (x ∷ xs) = by (first_of xs) (first_is_least xs)
-  where
-    by : (o : Option Entry) → IsFirst xs o → IsLeast (x ∷ xs) (option_map_or (λ f. if goes_before f.rank x.rank then f else x) o x)
-    by None none = rw none (inl refl, λ g m. alone g m)
-      where
-        alone : (g : Entry) → (x ≡ g) ⊎ ⊥ → goes_before g.rank x.rank ≡ false
-        alone g (inl e) = none_over_itself x g e
-        alone g (inr m) = absurd m
-    by (Some f) least = chosen x f xs least (goes_before f.rank x.rank) refl
 
 -- ---- winners
 
