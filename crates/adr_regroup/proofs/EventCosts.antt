@@ -1,5 +1,5 @@
 -- What repair inside the entries of one event compares at most.
-use Rattle.std.proofs.Common.{◌≡◌, ℕ, suc, inl, inr, ◌+◌, ◌*◌, ◌<◌, ◌≤◌, ◌^◌, ◌||◌, Bool, true, false, cond, not, if◌then◌else◌, List, [], ◌∷◌, length, filter, refl, ap, sym, ◌∙◌, arith}
+use Rattle.std.proofs.Common.{◌≡◌, ℕ, suc, inl, inr, ◌+◌, ◌*◌, ◌≤◌, ◌||◌, Bool, true, false, cond, not, if◌then◌else◌, List, [], ◌∷◌, length, filter, refl, ap, sym, ◌∙◌, arith}
 use Rattle.std.specs.List.{list_any}
 use Rattle.std.specs.Prelude.{sum_by}
 use Rattle.std.specs.Str.{bytes_eq}
@@ -18,7 +18,7 @@ use Rattle.adr_model.specs.declared.written.Written.{Written}
 use Rattle.adr_model.specs.Book.{Book}
 use Rattle.adr_model.specs.Edits.{distinct_types, entry_count}
 use Rattle.adr_model.specs.Touches.{types_of}
-use Rattle.adr_model.specs.Within.{entries_in_all, IsWithin}
+use Rattle.adr_model.specs.Within.{IsWithin}
 use Rattle.adr_model.specs.Lists.{In}
 use Rattle.adr_model.proofs.Counted.{entries_are_counted}
 use Rattle.adr_model.proofs.Lists.{bytes_eq_self, same_bytes}

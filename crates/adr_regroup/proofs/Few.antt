@@ -1,26 +1,21 @@
 -- That a meter has room for a place that gets other writes.
-use Rattle.std.proofs.Common.{◌≡◌, ℕ, zero, suc, ◌+◌, ◌*◌, ◌≤◌, ◌<◌, ◌^◌, ◌||◌, ◌==◌, Bool, true, false, List, [], ◌∷◌, length, map, slice_index, Some, refl, ap, sym, ◌∙◌, arith, eq-eqb}
+use Rattle.std.proofs.Common.{◌≡◌, ℕ, zero, suc, ◌+◌, ◌*◌, ◌≤◌, ◌<◌, ◌||◌, ◌==◌, Bool, true, false, List, [], ◌∷◌, length, slice_index, Some, refl, ap, sym, ◌∙◌, arith, eq-eqb}
 use Rattle.std.proofs.lemmas.Nat.{mul-le}
 use Rattle.std.specs.List.Sorted.{IsStrictlyIncreasing}
 use Rattle.adr_value.specs.Limits.{limits}
 use Rattle.adr_value.specs.declared.limits.TheConstants.{MOST_ENTRIES, MOST_VERSION}
-use Rattle.adr_value.specs.declared.payload.PayloadType.{PayloadType}
 use Rattle.adr_model.specs.declared.entry.Tie.{Tie}
 use Rattle.adr_model.specs.declared.written.Written.{Written}
 use Rattle.adr_model.specs.Book.{Book}
 use Rattle.adr_model.specs.Edits.{entry_count}
-use Rattle.adr_model.specs.Governor.{entries_of}
 use Rattle.adr_model.specs.Lists.{In}
-use Rattle.adr_model.specs.Rank.{ranked}
 use Rattle.adr_model.specs.Whole.{IsSound}
 use Rattle.adr_model.specs.Within.{IsWithin}
-use Rattle.adr_stretch.specs.declared.grouped.TypeEntries.{TypeEntries}
-use Rattle.adr_stretch.specs.Grouped.{entries_under, HaveOwnTypes}
 use Rattle.adr_stretch.specs.Right.{has_number}
 use Rattle.adr_lines.specs.declared.indexes.Indexes.{Indexes}
 use Rattle.adr_lines.specs.Exchange.{HoldsNoMore, IsIndexOf}
 use Rattle.adr_group.specs.Group.{Lines}
-use Rattle.adr_schedule.specs.Seating.{group_at, has_at, Seating}
+use Rattle.adr_schedule.specs.Seating.{group_at, Seating}
 use Rattle.adr_regroup.specs.Party.{most_by_event, most_reseated, most_writes, AreSeatedBut, AreWritesAt, IsMostOf}
 use Rattle.adr_regroup.proofs.Placing.{number_at}
 use Rattle.adr_regroup.proofs.Possible.{possible_in}

@@ -1,5 +1,5 @@
 -- Places that get the writes of the events that apply to their resources.
-use Rattle.std.proofs.Common.{◌≡◌, ℕ, zero, suc, ◌<◌, ◌⊎◌, inl, inr, is_some, ◌==◌, ◌||◌, Bool, true, false, if◌then◌else◌, List, [], ◌∷◌, length, slice_get, find, Option, Some, None, refl, ap, ap₂, sym, subst, ◌∙◌, eqb-true, eq-eqb}
+use Rattle.std.proofs.Common.{◌≡◌, ℕ, zero, suc, ◌<◌, inl, inr, is_some, ◌==◌, ◌||◌, Bool, true, false, if◌then◌else◌, List, [], ◌∷◌, length, slice_get, find, Option, Some, None, refl, ap, ap₂, sym, subst, ◌∙◌, eqb-true, eq-eqb}
 use Rattle.std.proofs.lemmas.Bool.{both_ways, false_from_ne_true}
 use Rattle.std.proofs.lemmas.Option.{slice_get_within}
 use Rattle.std.specs.Option.{option_and_then, option_map_or}
@@ -16,10 +16,9 @@ use Rattle.adr_model.specs.Matching.{applies}
 use Rattle.adr_model.specs.Whole.{IsWhole}
 use Rattle.adr_audience.specs.Asks.{applies_with}
 use Rattle.adr_stretch.specs.Right.{has_number}
-use Rattle.adr_group.specs.Group.{Lines}
 use Rattle.adr_schedule.specs.Moves.{is_among}
 use Rattle.adr_schedule.specs.Place.{IsRewritten}
-use Rattle.adr_schedule.specs.Seating.{group_at, has_at, AreRight, AreSeatedFor, Seating}
+use Rattle.adr_schedule.specs.Seating.{has_at, AreRight, AreSeatedFor, Seating}
 use Rattle.adr_regroup.specs.Party.{AreSeatedBut, AreWritesAt, AreWritesWith, KeepsEvents}
 use Rattle.adr_regroup.proofs.Applying.{scenes}
 use Rattle.adr_regroup.proofs.Placing.{has_group, has_place}

@@ -1,14 +1,15 @@
 //! What an edit of a ven or of a resource does to the schedule.
-ghost use Rattle.std.specs.Prelude.{◌≡◌, ◌≤◌, ◌<◌, ◌∷◌, [], ℕ, true, length, is_some, slice_get, IfOk, OnOk};
+ghost use Rattle.std.specs.Prelude.{◌≡◌, ◌≤◌, ◌<◌, ◌+◌, ◌*◌, ◌^◌, ◌∷◌, [], ℕ, true, length, is_some, slice_get, sum_by, IfOk, OnOk};
 ghost use Rattle.adr_value.specs.Answer.{OnlyNoMemory};
 ghost use Rattle.adr_model.specs.Book.{resource_by};
 ghost use Rattle.adr_model.specs.Touches.{touches};
 ghost use Rattle.adr_group.specs.Jobs.{IsCrew};
+ghost use Rattle.adr_schedule.specs.Moves.{is_among};
 ghost use Rattle.adr_schedule.specs.Place.{LacksPlace, StaysRight};
 ghost use Rattle.adr_schedule.specs.Seating.{AreSeatedFor};
 ghost use Rattle.adr_regroup.specs.Compared.{most_compared_in, most_reseated_at};
 ghost use Rattle.adr_regroup.specs.Edited.{IsEdited};
-ghost use Rattle.adr_regroup.specs.Party.{is_of_resource, is_of_ven, AreSeatedBut};
+ghost use Rattle.adr_regroup.specs.Party.{is_of_resource, is_of_ven, most_reseated, AreSeatedBut, KeepsEvents};
 
 use crate::basis::Basis;
 use crate::edited::Edited;
@@ -22,6 +23,36 @@ use adr_rule::Meter;
 use adr_schedule::Schedule;
 use adr_value::Refusal;
 use std::alloc::Global;
+
+/// The schedule where each of the places has the writes of the events that apply to its resource, after an edit that leaves
+/// the programs and the events.
+fn reseated_in<C: Fn(&Indexes, &[Job]) -> Result<Vec<Done>, Refusal>>(
+    alloc: Global,
+    crew: &C,
+    edited: &Edited<'_>,
+    schedule: Schedule,
+    places: &[usize],
+    meter: &mut Meter,
+) -> Result<Schedule, Refusal>
+    requires crew { IsCrew (λ v. v.items) (C.pre crew.now) (C.post crew.now) }
+    requires edited { IsEdited edited.now }
+    requires kept { KeepsEvents edited.now.old.now.objects edited.now.new.now.objects }
+    requires places { (p : ℕ) → is_among places.now p ≡ true → p < length edited.now.new.now.objects.resources }
+    requires seated { AreSeatedBut edited.now.tie edited.now.new.now.objects places.now schedule }
+    requires room { meter.old + length places.now * most_reseated < 2 ^ 128 }
+    ensures seated { IfOk result (AreSeatedFor edited.now.tie edited.now.new.now.objects) }
+    ensures least { OnOk result (meter.new ≤ meter.old + sum_by (most_reseated_at edited.now.new.now.objects schedule) places.now) }
+    ensures refusal { OnlyNoMemory result }
+{
+    let basis = Basis {
+        tie: edited.tie,
+        old: edited.old,
+        new: edited.new,
+        keys: edited.keys,
+        indexes: edited.indexes,
+    };
+    reseated_all(alloc, crew, &basis, schedule, places, meter)
+}
 
 /// The schedule after an edit of a ven. One that comes or goes has no resources. One that changes may have other events
 /// apply to each of its resources: see `Schedule::rewritten`.
@@ -46,14 +77,7 @@ pub fn after_ven<C: Fn(&Indexes, &[Job]) -> Result<Vec<Done>, Refusal>>(
     edited.new.book_laws();
     let places = places_for(alloc, edited.old, edited.edit)?;
     let same = edited.schedule.copy()?;
-    let basis = Basis {
-        tie: edited.tie,
-        old: edited.old,
-        new: edited.new,
-        keys: edited.keys,
-        indexes: edited.indexes,
-    };
-    let after = reseated_all(alloc, crew, &basis, same, &places, meter)?;
+    let after = reseated_in(alloc, crew, edited, same, &places, meter)?;
     Ok(after)
 }
 
@@ -78,14 +102,7 @@ fn reseated_at<C: Fn(&Indexes, &[Job]) -> Result<Vec<Done>, Refusal>>(
 {
     let mut places = Vec::new(alloc);
     places.push(place)?;
-    let basis = Basis {
-        tie: edited.tie,
-        old: edited.old,
-        new: edited.new,
-        keys: edited.keys,
-        indexes: edited.indexes,
-    };
-    let after = reseated_all(alloc, crew, &basis, schedule, &places, meter)?;
+    let after = reseated_in(alloc, crew, edited, schedule, &places, meter)?;
     Ok(after)
 }
 

@@ -2,8 +2,6 @@ use Rattle.std.proofs.Common.{◌≡◌, ◌+◌, ◌*◌, ◌<◌, ◌≤◌, �
 use Rattle.std.proofs.lemmas.Nat.{mul-le}
 use Rattle.adr_value.specs.declared.limits.TheConstants.{MOST_RESOURCES}
 use Rattle.adr_object.specs.declared.party.Resource.{Resource}
-use Rattle.adr_model.specs.declared.written.Written.{Written}
-use Rattle.adr_lines.specs.Exchange.{IsIndexOf}
 use Rattle.adr_schedule.specs.Moves.{is_among}
 use Rattle.adr_schedule.specs.Seating.{Seating}
 use Rattle.adr_regroup.specs.Compared.{most_reseated_at, StandOnce}
@@ -17,32 +15,27 @@ fits meter n count e h l =
     let few = mul-le n most_reseated MOST_RESOURCES most_reseated (omega (arith, h, l)) (omega arith) in
     omega (arith, e, few)
 
-pub reseated_all-requires-clause-places : goal.reseated_all-requires-clause-places
-reseated_all-requires-clause-places g c =
+pub reseated_in-requires-clause-places : goal.reseated_in-requires-clause-places
+reseated_in-requires-clause-places g c =
     let edited = c.args.edited.now in
     subst (λ (ps : List ℕ). (p : ℕ) → is_among ps p ≡ true → p < length edited.new.now.objects.resources) (sym c.deref.ensures.value)
     (ven_places edited.old.now.objects edited.new.now.objects edited.edit.now c.in_ok-places.places.items c.requires.ven c.requires.edited.accepted c.in_ok-places.ensures.places)
 
-pub reseated_all-requires-clause-basis : goal.reseated_all-requires-clause-basis
-reseated_all-requires-clause-basis g c =
+pub reseated_in-requires-clause-kept : goal.reseated_in-requires-clause-kept
+reseated_in-requires-clause-kept g c =
     let edited = c.args.edited.now in
-    let kept = ven_keeps edited.old.now.objects edited.new.now.objects edited.edit.now c.requires.ven c.requires.edited.accepted in
-    record {
-      keys = c.requires.edited.keys;
-      kept = kept;
-      indexed = subst (λ (es : List Written). IsIndexOf edited.tie es edited.indexes.now) (sym kept.events) c.requires.edited.indexed;
-    }
+    ven_keeps edited.old.now.objects edited.new.now.objects edited.edit.now c.requires.ven c.requires.edited.accepted
 
-pub reseated_all-requires-clause-seated : goal.reseated_all-requires-clause-seated
-reseated_all-requires-clause-seated g c =
+pub reseated_in-requires-clause-seated : goal.reseated_in-requires-clause-seated
+reseated_in-requires-clause-seated g c =
     let edited = c.args.edited.now in
     let new = edited.new.now.objects in
     subst (λ (ps : List ℕ). AreSeatedBut edited.tie new ps c.in_ok-same.same) (sym c.deref.ensures.value)
     (subst (λ (s : Seating). AreSeatedBut edited.tie new c.in_ok-places.places.items s) (sym c.in_ok-same.ensures)
     (ven_starts edited.tie edited.old.now.objects new edited.edit.now c.in_ok-places.places.items edited.schedule.now c.requires.ven c.requires.edited.accepted c.in_ok-places.ensures.places c.requires.edited.seated))
 
-pub reseated_all-requires-clause-room : goal.reseated_all-requires-clause-room
-reseated_all-requires-clause-room g c =
+pub reseated_in-requires-clause-room : goal.reseated_in-requires-clause-room
+reseated_in-requires-clause-room g c =
     let edited = c.args.edited.now in
     subst (λ (ps : List ℕ). c.args.meter.now + length ps * most_reseated < 2 ^ 128) (sym c.deref.ensures.value)
     (fits c.args.meter.now (length c.in_ok-places.places.items) (length edited.old.now.objects.resources) c.requires.begun c.in_ok-places.ensures.places.few c.book_laws.ensures.within.resources)

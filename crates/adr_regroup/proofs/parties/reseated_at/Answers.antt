@@ -1,20 +1,13 @@
-use Rattle.std.proofs.Common.{List, [], ◌∷◌, ◌++◌, ℕ, sum_by, ap, ◌∙◌, arith, subst, sym}
+use Rattle.std.proofs.Common.{[], ◌∷◌, ◌++◌, ℕ, sum_by, ap, ◌∙◌, arith}
 use Rattle.std.proofs.lemmas.List.Sums.{sum_by-cons}
-use Rattle.adr_model.specs.declared.written.Written.{Written}
-use Rattle.adr_lines.specs.Exchange.{IsIndexOf}
 use Rattle.adr_regroup.specs.Compared.{most_reseated_at}
 use Rattle.adr_regroup.proofs.PartyEdits.{resource_keeps}
 use Rattle.adr_regroup.proofs.parties.reseated_at.Goals as goal
 
-pub reseated_all-requires-clause-basis : goal.reseated_all-requires-clause-basis
-reseated_all-requires-clause-basis g c =
+pub reseated_in-requires-clause-kept : goal.reseated_in-requires-clause-kept
+reseated_in-requires-clause-kept g c =
     let edited = c.args.edited.now in
-    let kept = resource_keeps edited.old.now.objects edited.new.now.objects edited.edit.now c.requires.resource c.requires.edited.accepted in
-    record {
-      keys = c.requires.edited.keys;
-      kept = kept;
-      indexed = subst (λ (es : List Written). IsIndexOf edited.tie es edited.indexes.now) (sym kept.events) c.requires.edited.indexed;
-    }
+    resource_keeps edited.old.now.objects edited.new.now.objects edited.edit.now c.requires.resource c.requires.edited.accepted
 
 pub returns-clause-least : goal.returns-clause-least
 returns-clause-least g c =
