@@ -15,7 +15,7 @@ use crate::writing::write_parts;
 use adr_board::{Board, Naming, NewBoard, Reader};
 use adr_gate::Gate;
 use adr_model::Tie;
-use adr_script::{Fault, ReadLog, WriteLog};
+use adr_script::{Fault, Logs, WriteLog};
 use std::alloc::{AllocError, Global};
 use std::io::{Read, Write};
 use std::marker::Brand;
@@ -63,9 +63,8 @@ fn fan_as<
 >(
     rt: &H,
     reader: &mut I,
-    reads: &mut ReadLog,
     writer: &mut W,
-    writes: &mut WriteLog,
+    logs: &mut Logs,
     readers: usize,
     tie: Tie,
     gate: &Arc<G>,
@@ -74,9 +73,9 @@ fn fan_as<
     requires readers { (1 ≤ readers) × (readers ≤ 64) }
     requires book { board.diary.page.book ≡ J.history }
     requires tie { tie ≡ J.tie }
-    requires made { reads_made reads.old ≡ 0 }
-    requires no_read { has_read_failed reads.old ≡ false }
-    requires no_write { has_write_failed writes.old ≡ false }
+    requires made { reads_made logs.old.reads ≡ 0 }
+    requires no_read { has_read_failed logs.old.reads ≡ false }
+    requires no_write { has_write_failed logs.old.writes ≡ false }
     ensures ok { OnOk result (Moves (I.remaining reader.old) (I.remaining reader.new) (W.contents writer.old) (W.contents writer.new)
         (λ bytes out. IsFanned tie bytes readers out)) }
     ensures end { OnOk result (IsAtEnd (I.remaining reader.new)) }
@@ -88,21 +87,21 @@ fn fan_as<
         (λ bytes out. IsCutShort tie bytes readers out) }
     ensures runtime { IsErrOf result Fault.Runtime → Moves (I.remaining reader.old) (I.remaining reader.new) (W.contents writer.old) (W.contents writer.new)
         (λ bytes out. IsCutShort tie bytes readers out) }
-    ensures bound { reads_made reads.new ≤ 2 ^ 32 }
-    ensures ended { OnOk result (has_ended reads.new ≡ true) }
-    ensures read_ends { OnOk result (has_read_failed reads.new ≡ false) }
-    ensures write_ends { has_write_failed writes.new ≡ true → result ≡ Err Fault.Writing }
-    ensures read_failed { IsErrOf result Fault.Reading → has_read_failed reads.new ≡ true }
-    ensures no_more_reads { IsErrOf result Fault.Reads → reads_made reads.new ≡ 2 ^ 32 }
-    ensures write_failed { IsErrOf result Fault.Writing → has_write_failed writes.new ≡ true }
+    ensures bound { reads_made logs.new.reads ≤ 2 ^ 32 }
+    ensures ended { OnOk result (has_ended logs.new.reads ≡ true) }
+    ensures read_ends { OnOk result (has_read_failed logs.new.reads ≡ false) }
+    ensures write_ends { has_write_failed logs.new.writes ≡ true → result ≡ Err Fault.Writing }
+    ensures read_failed { IsErrOf result Fault.Reading → has_read_failed logs.new.reads ≡ true }
+    ensures no_more_reads { IsErrOf result Fault.Reads → reads_made logs.new.reads ≡ 2 ^ 32 }
+    ensures write_failed { IsErrOf result Fault.Writing → has_write_failed logs.new.writes ≡ true }
 {
     let Some((mut desk, seats)) = open::<J, H>(rt, rt.alloc(), readers, tie, board) else {
         return Err(Fault::Runtime);
     };
-    let collected = level(rt, gate, reader, reads, writer, writes, &mut desk, seats);
+    let collected = level(rt, gate, reader, writer, logs, &mut desk, seats);
     close(rt, desk);
     match collected {
-        Ok(collected) => write_all(writes, writer, collected),
+        Ok(collected) => write_all(&mut logs.writes, writer, collected),
         Err(Stop::WriteFailed) => Err(Fault::Writing),
         Err(Stop::NoRuntime) => Err(Fault::Runtime),
     }
@@ -179,17 +178,8 @@ pub fn fan<
     ensures runtime { IsErrOf result Fault.Runtime → Moves (I.remaining reader.old) (I.remaining reader.new) (W.contents writer.old) (W.contents writer.new)
         (λ bytes out. IsCutShort tie bytes readers out) }
 {
-    let (mut reads, mut writes) = (ReadLog::new(), WriteLog::new());
-    fan_logged(
-        rt,
-        reader,
-        &mut reads,
-        writer,
-        &mut writes,
-        readers,
-        tie,
-        gate,
-    )
+    let mut logs = Logs::new();
+    fan_logged(rt, reader, writer, &mut logs, readers, tie, gate)
 }
 
 /// Does what [`fan`] does, and notes what its reads and writes met: a fault of reading or writing comes only where a read
@@ -206,17 +196,16 @@ pub fn fan_logged<
 >(
     rt: &H,
     reader: &mut I,
-    reads: &mut ReadLog,
     writer: &mut W,
-    writes: &mut WriteLog,
+    logs: &mut Logs,
     readers: usize,
     tie: Tie,
     gate: &Arc<G>,
 ) -> Result<(), Fault>
     requires readers { (1 ≤ readers) × (readers ≤ 64) }
-    requires made { reads_made reads.old ≡ 0 }
-    requires no_read { has_read_failed reads.old ≡ false }
-    requires no_write { has_write_failed writes.old ≡ false }
+    requires made { reads_made logs.old.reads ≡ 0 }
+    requires no_read { has_read_failed logs.old.reads ≡ false }
+    requires no_write { has_write_failed logs.old.writes ≡ false }
 
     // All was read, and what was written is a text of many readers.
     ensures ok { OnOk result (Moves (I.remaining reader.old) (I.remaining reader.new) (W.contents writer.old) (W.contents writer.new)
@@ -236,20 +225,19 @@ pub fn fan_logged<
         (λ bytes out. IsCutShort tie bytes readers out) }
 
     // What the reads and writes met.
-    ensures bound { reads_made reads.new ≤ 2 ^ 32 }
-    ensures ended { OnOk result (has_ended reads.new ≡ true) }
-    ensures read_ends { OnOk result (has_read_failed reads.new ≡ false) }
-    ensures write_ends { has_write_failed writes.new ≡ true → result ≡ Err Fault.Writing }
-    ensures read_failed { IsErrOf result Fault.Reading → has_read_failed reads.new ≡ true }
-    ensures no_more_reads { IsErrOf result Fault.Reads → reads_made reads.new ≡ 2 ^ 32 }
-    ensures write_failed { IsErrOf result Fault.Writing → has_write_failed writes.new ≡ true }
+    ensures bound { reads_made logs.new.reads ≤ 2 ^ 32 }
+    ensures ended { OnOk result (has_ended logs.new.reads ≡ true) }
+    ensures read_ends { OnOk result (has_read_failed logs.new.reads ≡ false) }
+    ensures write_ends { has_write_failed logs.new.writes ≡ true → result ≡ Err Fault.Writing }
+    ensures read_failed { IsErrOf result Fault.Reading → has_read_failed logs.new.reads ≡ true }
+    ensures no_more_reads { IsErrOf result Fault.Reads → reads_made logs.new.reads ≡ 2 ^ 32 }
+    ensures write_failed { IsErrOf result Fault.Writing → has_write_failed logs.new.writes ≡ true }
 {
     fan_as::<Brand, H, I, W, G>(
         rt,
         reader,
-        reads,
         writer,
-        writes,
+        logs,
         readers,
         tie,
         gate,

@@ -10,7 +10,7 @@ use crate::reading::{Answers, Part, Reply, start};
 use crate::script::FanDesk;
 use adr_board::{Naming, Reader};
 use adr_gate::Gate;
-use adr_script::{Fault, ReadLog, WriteLog, serve};
+use adr_script::{Fault, Logs, serve};
 use std::io::{Read, Write};
 use std::sync::{Arc, Wait};
 use std::thread::{PromisedHandle, Threads};
@@ -41,28 +41,27 @@ pub(crate) struct Collected {
 fn serve_all<J: Naming, H: AllocGlobal + Threads + Wait, I: Read, W: Write>(
     rt: &H,
     reader: &mut I,
-    reads: &mut ReadLog,
     writer: &mut W,
-    writes: &mut WriteLog,
+    logs: &mut Logs,
     desk: &mut FanDesk<J>,
 ) -> Result<Collected, Stop>
-    requires made { reads_made reads.old ≡ 0 }
-    requires no_read { has_read_failed reads.old ≡ false }
-    requires no_write { has_write_failed writes.old ≡ false }
+    requires made { reads_made logs.old.reads ≡ 0 }
+    requires no_read { has_read_failed logs.old.reads ≡ false }
+    requires no_write { has_write_failed logs.old.writes ≡ false }
     ensures told { IfOk result (λ c. HasTold c.ending desk.old (I.remaining reader.old) (I.remaining reader.new) (W.contents writer.old) (W.contents writer.new) desk.new) }
     ensures end { IfOk result (λ c. c.ending ≡ All → IsAtEnd (I.remaining reader.new)) }
     ensures parts { IfOk result (λ c. c.parts.items ≡ []) }
     ensures err { OnErr result (HasToldInPart desk.old (I.remaining reader.old) (I.remaining reader.new) (W.contents writer.old) (W.contents writer.new) desk.new) }
-    ensures bound { reads_made reads.new ≤ 2 ^ 32 }
-    ensures ended { IfOk result (λ c. c.ending ≡ All → has_ended reads.new ≡ true) }
-    ensures read_ends { IfOk result (λ c. c.ending ≡ All → has_read_failed reads.new ≡ false) }
-    ensures write_ends { has_write_failed writes.new ≡ true → result ≡ Err Stop.WriteFailed }
-    ensures read_failed { IfOk result (λ c. c.ending ≡ ReadFailed → has_read_failed reads.new ≡ true) }
-    ensures no_more_reads { IfOk result (λ c. c.ending ≡ NoMoreReads → reads_made reads.new ≡ 2 ^ 32) }
-    ensures write_failed { IsErrOf result Stop.WriteFailed → has_write_failed writes.new ≡ true }
+    ensures bound { reads_made logs.new.reads ≤ 2 ^ 32 }
+    ensures ended { IfOk result (λ c. c.ending ≡ All → has_ended logs.new.reads ≡ true) }
+    ensures read_ends { IfOk result (λ c. c.ending ≡ All → has_read_failed logs.new.reads ≡ false) }
+    ensures write_ends { has_write_failed logs.new.writes ≡ true → result ≡ Err Stop.WriteFailed }
+    ensures read_failed { IfOk result (λ c. c.ending ≡ ReadFailed → has_read_failed logs.new.reads ≡ true) }
+    ensures no_more_reads { IfOk result (λ c. c.ending ≡ NoMoreReads → reads_made logs.new.reads ≡ 2 ^ 32) }
+    ensures write_failed { IsErrOf result Stop.WriteFailed → has_write_failed logs.new.writes ≡ true }
 {
     let parts = Vec::new(rt.alloc());
-    let served = serve(rt, reader, reads, writer, writes, desk);
+    let served = serve(rt, reader, writer, logs, desk);
     desk.close_boxes(rt);
     match served {
         Ok(()) => Ok(Collected {
@@ -110,37 +109,36 @@ pub(crate) fn level<
     rt: &H,
     gate: &Arc<G>,
     reader: &mut I,
-    reads: &mut ReadLog,
     writer: &mut W,
-    writes: &mut WriteLog,
+    logs: &mut Logs,
     desk: &mut FanDesk<J>,
     seats: Vec<Reader<J>>,
 ) -> Result<Collected, Stop>
-    requires made { reads_made reads.old ≡ 0 }
-    requires no_read { has_read_failed reads.old ≡ false }
-    requires no_write { has_write_failed writes.old ≡ false }
+    requires made { reads_made logs.old.reads ≡ 0 }
+    requires no_read { has_read_failed logs.old.reads ≡ false }
+    requires no_write { has_write_failed logs.old.writes ≡ false }
     ensures told { IfOk result (λ c. HasTold c.ending desk.old (I.remaining reader.old) (I.remaining reader.new) (W.contents writer.old) (W.contents writer.new) desk.new) }
     ensures end { IfOk result (λ c. c.ending ≡ All → IsAtEnd (I.remaining reader.new)) }
     ensures count { IfOk result (λ c. length c.parts.items ≡ length seats.items) }
     ensures parts { IfOk result (λ c. AreParts desk.new c.parts.items) }
     ensures err { OnErr result (HasToldInPart desk.old (I.remaining reader.old) (I.remaining reader.new) (W.contents writer.old) (W.contents writer.new) desk.new) }
-    ensures bound { reads_made reads.new ≤ 2 ^ 32 }
-    ensures ended { IfOk result (λ c. c.ending ≡ All → has_ended reads.new ≡ true) }
-    ensures read_ends { IfOk result (λ c. c.ending ≡ All → has_read_failed reads.new ≡ false) }
-    ensures write_ends { has_write_failed writes.new ≡ true → result ≡ Err Stop.WriteFailed }
-    ensures read_failed { IfOk result (λ c. c.ending ≡ ReadFailed → has_read_failed reads.new ≡ true) }
-    ensures no_more_reads { IfOk result (λ c. c.ending ≡ NoMoreReads → reads_made reads.new ≡ 2 ^ 32) }
-    ensures write_failed { IsErrOf result Stop.WriteFailed → has_write_failed writes.new ≡ true }
+    ensures bound { reads_made logs.new.reads ≤ 2 ^ 32 }
+    ensures ended { IfOk result (λ c. c.ending ≡ All → has_ended logs.new.reads ≡ true) }
+    ensures read_ends { IfOk result (λ c. c.ending ≡ All → has_read_failed logs.new.reads ≡ false) }
+    ensures write_ends { has_write_failed logs.new.writes ≡ true → result ≡ Err Stop.WriteFailed }
+    ensures read_failed { IfOk result (λ c. c.ending ≡ ReadFailed → has_read_failed logs.new.reads ≡ true) }
+    ensures no_more_reads { IfOk result (λ c. c.ending ≡ NoMoreReads → reads_made logs.new.reads ≡ 2 ^ 32) }
+    ensures write_failed { IsErrOf result Stop.WriteFailed → has_write_failed logs.new.writes ≡ true }
 {
     let mut seats = seats;
     let Some(seated) = seats.pop() else {
-        return serve_all(rt, reader, reads, writer, writes, desk);
+        return serve_all(rt, reader, writer, logs, desk);
     };
     let Some(child) = start_seat(rt, gate, desk, seated, seats.len()) else {
         desk.close_boxes(rt);
         return Err(Stop::NoRuntime);
     };
-    let collected = level(rt, gate, reader, reads, writer, writes, desk, seats);
+    let collected = level(rt, gate, reader, writer, logs, desk, seats);
     let part = child.join(rt);
     let Collected { mut parts, ending } = collected?;
     let Some(replies) = desk.check(part) else {

@@ -20,7 +20,7 @@ pub use laws::{
     like_machines_tell_one_text, lines_make_up_the_bytes, no_mark_is_the_text, no_other_lines_do,
 };
 pub use line::MAX_LINE;
-pub use log::{ReadLog, WriteLog};
+pub use log::{Logs, ReadLog, WriteLog};
 pub use machine::{Machine, Unanswered};
 pub use output::write_fully;
 pub use reading::serve;

@@ -21,6 +21,27 @@ pub(crate) enum Given {
     Nothing,
 }
 
+/// What a run's reads and its writes met.
+#[derive(Drop)]
+pub struct Logs {
+    pub reads: ReadLog,
+    pub writes: WriteLog,
+}
+
+impl Logs {
+    /// The logs before any read and any write.
+    pub fn new() -> Logs
+        ensures made { reads_made result.reads ≡ 0 }
+        ensures no_read { has_read_failed result.reads ≡ false }
+        ensures no_write { has_write_failed result.writes ≡ false }
+    {
+        Logs {
+            reads: ReadLog::new(),
+            writes: WriteLog::new(),
+        }
+    }
+}
+
 /// How many reads were made, whether one of them failed, and whether one gave the end.
 #[derive(Drop)]
 pub struct ReadLog {

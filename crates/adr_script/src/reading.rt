@@ -10,7 +10,7 @@ ghost use Rattle.adr_script.specs.Waiting.{IsFresh};
 
 use crate::answering::{Session, answer_line};
 use crate::log::Given;
-use crate::{Fault, Machine, ReadLog, WriteLog};
+use crate::{Fault, Logs, Machine, WriteLog};
 use std::alloc::{AllocError, Global};
 use std::io::{Read, Write};
 use std::sync::Wait;
@@ -32,14 +32,13 @@ const MAX_READS: u64 = 4_294_967_296;
 pub fn serve<H: AllocGlobal + Threads + Wait, R: Read, W: Write, M: Machine>(
     rt: &H,
     reader: &mut R,
-    reads: &mut ReadLog,
     writer: &mut W,
-    writes: &mut WriteLog,
+    logs: &mut Logs,
     machine: &mut M,
 ) -> Result<(), Fault>
-    requires made { reads_made reads.old ≡ 0 }
-    requires no_read { has_read_failed reads.old ≡ false }
-    requires no_write { has_write_failed writes.old ≡ false }
+    requires made { reads_made logs.old.reads ≡ 0 }
+    requires no_read { has_read_failed logs.old.reads ≡ false }
+    requires no_write { has_write_failed logs.old.writes ≡ false }
 
     // All was read, and each line was answered.
     ensures ok { OnOk result (Moves (R.remaining reader.old)
@@ -71,16 +70,16 @@ pub fn serve<H: AllocGlobal + Threads + Wait, R: Read, W: Write, M: Machine>(
 
     // A fault has a cause: a read or a write that failed, or all the reads that there are; and
     // `Ok` has the end.
-    ensures bound { reads_made reads.new ≤ 2 ^ 32 }
-    ensures ended { OnOk result (has_ended reads.new ≡ true) }
-    ensures read_ends { has_read_failed reads.new ≡ true → result ≡ Err Fault.Reading }
-    ensures write_ends { has_write_failed writes.new ≡ true → result ≡ Err Fault.Writing }
-    ensures read_failed { IsErrOf result Fault.Reading → has_read_failed reads.new ≡ true }
-    ensures no_more_reads { IsErrOf result Fault.Reads → reads_made reads.new ≡ 2 ^ 32 }
-    ensures write_failed { IsErrOf result Fault.Writing → has_write_failed writes.new ≡ true }
+    ensures bound { reads_made logs.new.reads ≤ 2 ^ 32 }
+    ensures ended { OnOk result (has_ended logs.new.reads ≡ true) }
+    ensures read_ends { has_read_failed logs.new.reads ≡ true → result ≡ Err Fault.Reading }
+    ensures write_ends { has_write_failed logs.new.writes ≡ true → result ≡ Err Fault.Writing }
+    ensures read_failed { IsErrOf result Fault.Reading → has_read_failed logs.new.reads ≡ true }
+    ensures no_more_reads { IsErrOf result Fault.Reads → reads_made logs.new.reads ≡ 2 ^ 32 }
+    ensures write_failed { IsErrOf result Fault.Writing → has_write_failed logs.new.writes ≡ true }
 {
     match Buffers::new(rt.alloc()) {
-        Ok(mut buffers) => serve_reads(rt, reader, reads, writer, writes, machine, &mut buffers),
+        Ok(mut buffers) => serve_reads(rt, reader, writer, logs, machine, &mut buffers),
         Err(_) => Err(Fault::Runtime),
     }
 }
@@ -108,22 +107,22 @@ impl Buffers {
 fn serve_reads<H: AllocGlobal + Threads + Wait, R: Read, W: Write, M: Machine>(
     rt: &H,
     reader: &mut R,
-    reads: &mut ReadLog,
     writer: &mut W,
-    writes: &mut WriteLog,
+    logs: &mut Logs,
     machine: &mut M,
     buffers: &mut Buffers,
 ) -> Result<(), Fault>
     requires piece { 0 < vec_len buffers.old.piece }
     requires session { IsFresh buffers.old.session }
-    requires made { reads_made reads.old ≡ 0 }
-    requires no_read { has_read_failed reads.old ≡ false }
-    requires no_write { has_write_failed writes.old ≡ false }
-    ensures bound { reads_made reads.new ≤ 2 ^ 32 }
+    requires made { reads_made logs.old.reads ≡ 0 }
+    requires no_read { has_read_failed logs.old.reads ≡ false }
+    requires no_write { has_write_failed logs.old.writes ≡ false }
+    ensures bound { reads_made logs.new.reads ≤ 2 ^ 32 }
     ensures ends { Ends M.answers M.halts (R.remaining reader.old) (R.remaining reader.new)
         (W.contents writer.old) (W.contents writer.new) machine.old machine.new
-        reads.new writes.new result }
+        logs.new.reads logs.new.writes result }
 {
+    let (reads, writes) = (&mut logs.reads, &mut logs.writes);
     let piece = buffers.piece.as_mut_slice();
     let session = &mut buffers.session;
     for _ in 0..MAX_READS {

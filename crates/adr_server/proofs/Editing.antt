@@ -1,10 +1,9 @@
 -- What a publication of the editor shows of the machine.
-use Rattle.std.proofs.Common.{◌≡◌, ℕ, ◌+◌, ◌-◌, ◌<◌, ◌≤◌, List, [], ◌∷◌, ◌++◌, length, refl, ap, ap₂, sym, subst, ◌∙◌, arith}
+use Rattle.std.proofs.Common.{◌≡◌, ℕ, ◌+◌, ◌-◌, ◌<◌, ◌≤◌, List, [], ◌∷◌, ◌++◌, length, refl, ap, ap₂, ◌∙◌, arith}
 use Rattle.std.proofs.lemmas.List.{length_push}
 use Rattle.adr_value.specs.declared.limits.TheConstants.{MOST_PUBLICATIONS}
 use Rattle.adr_model.specs.Book.{Book}
 use Rattle.adr_model.specs.Machine.{Publication}
-use Rattle.adr_plain.specs.Kept.{Kept}
 use Rattle.adr_board.specs.Boards.{Board, last_of, with_published}
 use Rattle.adr_server.specs.Shown.{kept_of}
 

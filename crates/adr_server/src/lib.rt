@@ -14,7 +14,7 @@ mod resolver;
 
 pub use adr_model::Tie;
 pub use adr_options::{Job, job};
-pub use adr_script::{Fault, ReadLog, WriteLog, status};
+pub use adr_script::{Fault, Logs, ReadLog, WriteLog, status};
 pub use command::Command;
 pub use laws::{fan_laws, least_matching_interval_governs, limit_laws};
 pub use line::parse_line;

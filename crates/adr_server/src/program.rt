@@ -12,7 +12,7 @@ use crate::hands::{Hands, Workers};
 use crate::machine::ScriptOf;
 use adr_board::{Naming, NewBoard};
 use adr_model::Tie;
-use adr_script::{Fault, ReadLog, WriteLog, serve};
+use adr_script::{Fault, Logs, serve};
 use std::io::{Read, Write};
 use std::marker::Brand;
 use std::sync::Wait;
@@ -58,8 +58,8 @@ pub fn run<R: Read, W: Write>(
     ensures runtime { IsErrOf result Fault.Runtime → Keeps (R.remaining reader.old) (R.remaining reader.new)
         × Keeps (W.contents writer.old) (W.contents writer.new) }
 {
-    let (mut reads, mut writes) = (ReadLog::new(), WriteLog::new());
-    run_logged(rt, reader, &mut reads, writer, &mut writes, workers, tie)
+    let mut logs = Logs::new();
+    run_logged(rt, reader, writer, &mut logs, workers, tie)
 }
 
 /// Does what [`run`] does, and notes what its reads and writes met: a fault of reading or writing comes only where a
@@ -71,16 +71,15 @@ pub fn run<R: Read, W: Write>(
 pub fn run_logged<R: Read, W: Write>(
     rt: &(impl AllocGlobal + Threads + Wait + Sync),
     reader: &mut R,
-    reads: &mut ReadLog,
     writer: &mut W,
-    writes: &mut WriteLog,
+    logs: &mut Logs,
     workers: usize,
     tie: Tie,
 ) -> Result<(), Fault>
     requires workers { (1 ≤ workers) × (workers ≤ 64) }
-    requires made { reads_made reads.old ≡ 0 }
-    requires no_read { has_read_failed reads.old ≡ false }
-    requires no_write { has_write_failed writes.old ≡ false }
+    requires made { reads_made logs.old.reads ≡ 0 }
+    requires no_read { has_read_failed logs.old.reads ≡ false }
+    requires no_write { has_write_failed logs.old.writes ≡ false }
 
     // All was read, and what was written is the text of it.
     ensures ok { OnOk result (Moves (R.remaining reader.old) (R.remaining reader.new) (W.contents writer.old) (W.contents writer.new)
@@ -102,25 +101,16 @@ pub fn run_logged<R: Read, W: Write>(
         × Keeps (W.contents writer.old) (W.contents writer.new) }
 
     // What the reads and writes met.
-    ensures bound { reads_made reads.new ≤ 2 ^ 32 }
-    ensures ended { OnOk result (has_ended reads.new ≡ true) }
-    ensures read_ends { has_read_failed reads.new ≡ true → result ≡ Err Fault.Reading }
-    ensures write_ends { has_write_failed writes.new ≡ true → result ≡ Err Fault.Writing }
-    ensures read_failed { IsErrOf result Fault.Reading → has_read_failed reads.new ≡ true }
-    ensures no_more_reads { IsErrOf result Fault.Reads → reads_made reads.new ≡ 2 ^ 32 }
-    ensures write_failed { IsErrOf result Fault.Writing → has_write_failed writes.new ≡ true }
+    ensures bound { reads_made logs.new.reads ≤ 2 ^ 32 }
+    ensures ended { OnOk result (has_ended logs.new.reads ≡ true) }
+    ensures read_ends { has_read_failed logs.new.reads ≡ true → result ≡ Err Fault.Reading }
+    ensures write_ends { has_write_failed logs.new.writes ≡ true → result ≡ Err Fault.Writing }
+    ensures read_failed { IsErrOf result Fault.Reading → has_read_failed logs.new.reads ≡ true }
+    ensures no_more_reads { IsErrOf result Fault.Reads → reads_made logs.new.reads ≡ 2 ^ 32 }
+    ensures write_failed { IsErrOf result Fault.Writing → has_write_failed logs.new.writes ≡ true }
 {
     let hands = Workers { rt, count: workers };
-    run_on::<Brand, _, _, R, W>(
-        rt,
-        hands,
-        NewBoard::new(),
-        reader,
-        reads,
-        writer,
-        writes,
-        tie,
-    )
+    run_on::<Brand, _, _, R, W>(rt, hands, NewBoard::new(), reader, writer, logs, tie)
 }
 
 /// The same by these hands on this board, which is ended before it answers.
@@ -129,17 +119,16 @@ fn run_on<J: Naming, C: Hands, H: AllocGlobal + Threads + Wait, R: Read, W: Writ
     hands: C,
     board: NewBoard,
     reader: &mut R,
-    reads: &mut ReadLog,
     writer: &mut W,
-    writes: &mut WriteLog,
+    logs: &mut Logs,
     tie: Tie,
 ) -> Result<(), Fault>
     requires ready { C.ready }
     requires history { board.diary.page.book ≡ J.history }
     requires tie { tie ≡ J.tie }
-    requires made { reads_made reads.old ≡ 0 }
-    requires no_read { has_read_failed reads.old ≡ false }
-    requires no_write { has_write_failed writes.old ≡ false }
+    requires made { reads_made logs.old.reads ≡ 0 }
+    requires no_read { has_read_failed logs.old.reads ≡ false }
+    requires no_write { has_write_failed logs.old.writes ≡ false }
 
     // All was read, and what was written is the text of it.
     ensures ok { OnOk result (Moves (R.remaining reader.old) (R.remaining reader.new) (W.contents writer.old) (W.contents writer.new)
@@ -161,19 +150,19 @@ fn run_on<J: Naming, C: Hands, H: AllocGlobal + Threads + Wait, R: Read, W: Writ
         × Keeps (W.contents writer.old) (W.contents writer.new) }
 
     // What the reads and writes met.
-    ensures bound { reads_made reads.new ≤ 2 ^ 32 }
-    ensures ended { OnOk result (has_ended reads.new ≡ true) }
-    ensures read_ends { has_read_failed reads.new ≡ true → result ≡ Err Fault.Reading }
-    ensures write_ends { has_write_failed writes.new ≡ true → result ≡ Err Fault.Writing }
-    ensures read_failed { IsErrOf result Fault.Reading → has_read_failed reads.new ≡ true }
-    ensures no_more_reads { IsErrOf result Fault.Reads → reads_made reads.new ≡ 2 ^ 32 }
-    ensures write_failed { IsErrOf result Fault.Writing → has_write_failed writes.new ≡ true }
+    ensures bound { reads_made logs.new.reads ≤ 2 ^ 32 }
+    ensures ended { OnOk result (has_ended logs.new.reads ≡ true) }
+    ensures read_ends { has_read_failed logs.new.reads ≡ true → result ≡ Err Fault.Reading }
+    ensures write_ends { has_write_failed logs.new.writes ≡ true → result ≡ Err Fault.Writing }
+    ensures read_failed { IsErrOf result Fault.Reading → has_read_failed logs.new.reads ≡ true }
+    ensures no_more_reads { IsErrOf result Fault.Reads → reads_made logs.new.reads ≡ 2 ^ 32 }
+    ensures write_failed { IsErrOf result Fault.Writing → has_write_failed logs.new.writes ≡ true }
 {
     let Ok(edited) = Edited::<J, C>::open(rt.alloc(), rt, hands, board, tie) else {
         return Err(Fault::Runtime);
     };
     let mut machine = ScriptOf::new(edited);
-    let served = serve(rt, reader, reads, writer, writes, &mut machine);
+    let served = serve(rt, reader, writer, logs, &mut machine);
     machine.into_resolver().close(rt);
     served
 }

@@ -6,7 +6,7 @@ ghost use Rattle.adr_script.specs.Script.{Moves};
 ghost use Rattle.adr_script.specs.Text.{AnswersBy, IsText};
 
 use crate::streams::{Pieces, Sink};
-use adr_script::{Fault, Machine, ReadLog, Unanswered, WriteLog, serve, status};
+use adr_script::{Fault, Logs, Machine, Unanswered, serve, status};
 use std::io::{Read, Write};
 use std::marker::Model;
 use std::sync::Wait;
@@ -65,9 +65,8 @@ fn tell_signs<R: Read, W: Write>(
         × Keeps (W.contents writer.old) (W.contents writer.new) }
 {
     let mut signs = Signs { plus: true };
-    let mut reads = ReadLog::new();
-    let mut writes = WriteLog::new();
-    serve(rt, reader, &mut reads, writer, &mut writes, &mut signs)
+    let mut logs = Logs::new();
+    serve(rt, reader, writer, &mut logs, &mut signs)
 }
 
 /// Gives a line back, and finds no runtime for the line `gone`.
@@ -175,16 +174,8 @@ fn refuses_long_lines(rt: HostRuntime) -> Result<(), Fail> {
 fn ends_with_the_runtime(rt: HostRuntime) -> Result<(), Fail> {
     let mut reader = Pieces::new(b"a\nb\ngone\nc\n", 65_536);
     let mut writer = Sink::new(&rt, 100, 1000, false);
-    let mut reads = ReadLog::new();
-    let mut writes = WriteLog::new();
-    let outcome = serve(
-        &rt,
-        &mut reader,
-        &mut reads,
-        &mut writer,
-        &mut writes,
-        &mut Halting,
-    );
+    let mut logs = Logs::new();
+    let outcome = serve(&rt, &mut reader, &mut writer, &mut logs, &mut Halting);
     assert!(rt; outcome == Err(Fault::Runtime));
     assert!(rt; writer.taken.as_slice() == b"a\nb\n".as_slice());
     Ok(())

@@ -1,5 +1,4 @@
-use Rattle.std.proofs.Common.{rules, ◌≡◌, map, string_bytes, ap, ap₂, ◌∙◌, sym, true, refl, subst, arith, unwrap_or}
-use Rattle.std.specs.Str.Parse.{digits_value, without_leading_plus}
+use Rattle.std.proofs.Common.{rules, ◌≡◌, map, string_bytes, ap, ap₂, ◌∙◌, sym, true, refl, subst}
 use Rattle.std.proofs.lemmas.Result.{IfOk-from_err, err_from_is_err_and}
 use Rattle.clap.specs.Words.{HasKind, app_of, fault_of, is_simple, is_simple_and_free, subcommand_of}
 use Rattle.clap.proofs.OnLiterals.{clap_on_literals}
@@ -43,10 +42,7 @@ returns-clause-asked c =
     let words_are = ap (map string_bytes) c.as_slice.ensures.value in
     let entered = (c.in_ok-matches.ensures.matches (ap is_simple is ∙ simple places)).1 ∙ ap₂ subcommand_of is words_are in
     let count : HasTheCount (adr_grammar places) (map string_bytes c.args.words.items) c.job_with.result = λ text written numeral low high.
-    let found = c.count_of.ensures text (ap count_in entered ∙ written) numeral (omega arith) in
-    let number = digits_value 10 (without_leading_plus text) in
-    let held : c.unwrap_or.result ≡ number = c.unwrap_or.ensures ∙ ap (λ o. unwrap_or o 1) found in
-    let same : c.clamp-count.result ≡ number = omega arith in c.job_with.ensures.count ∙ same
+    c.job_with.ensures.count ∙ c.count_asked-count.ensures.asked text (ap count_in entered ∙ written) numeral low high
     in (
       places,
       (

@@ -1,7 +1,7 @@
 use Rattle.std.proofs.Common.{[], ◌∷◌, ◌++◌, sym, subst}
 use Rattle.std.proofs.lemmas.Result.{err_from_is_err_and, on_ok_weaker, on_err_weaker}
 use Rattle.adr_script.specs.Begun.{Holds}
-use Rattle.adr_script.specs.Script.{Told, IsToldInPart}
+use Rattle.adr_script.specs.Script.{Told}
 use Rattle.adr_script.proofs.Pieces.{plain, split_more, rest_more, told_more, told_short, lines_none, rest_none}
 use Rattle.adr_script.proofs.Sending.{sends-as, sends-all, sends-part, sends-told, sends-trans}
 use Rattle.adr_script.proofs.reading.serve_piece.Goals as goal

@@ -1,8 +1,5 @@
-use Rattle.std.proofs.Common.{◌≡◌, ◌∙◌, ◌⊎◌, inl, inr, List, ℕ}
+use Rattle.std.proofs.Common.{◌∙◌, ◌⊎◌, inl, inr}
 use Rattle.std.proofs.lemmas.Result.{on_ok_weaker}
-use Rattle.adr_script.specs.Lines.{all_lines, complete_lines}
-use Rattle.adr_script.specs.Script.{Told, IsToldInPart}
-use Rattle.adr_script.specs.Text.{AnswersBy, IsText, IsTextInPart}
 use Rattle.adr_script.proofs.TextLemmas.{moves_weaker}
 use Rattle.adr_server.proofs.Journals.{told_text, told_text_in_part}
 use Rattle.adr_server.proofs.program.run_on.Goals as goal
