@@ -1,8 +1,7 @@
 //! Edits that look random, whose objects have targets, periods and payloads.
-use crate::edits::pick;
 use adr_object::Edit;
 use adr_test_values::bodies::edit;
-use adr_test_values::next;
+use adr_test_values::{next, pick};
 use adr_value::{PayloadType, Refusal};
 use std::alloc::Global;
 

@@ -1,9 +1,9 @@
 //! What competes for a resource and a payload type, found by going through all events.
-use crate::scan::is_for;
 use adr_layout::{Placed, lay_out};
 use adr_model::{Entry, Rank, Tie};
 use adr_object::{Event, Kind, Resource};
 use adr_store::Store;
+use adr_test_values::is_for;
 use adr_time::{Moment, covers};
 use adr_value::{PayloadType, Refusal};
 use std::alloc::Global;

@@ -1,15 +1,6 @@
 //! Lines that name calls: each stands before its call, by which the test knows where to count growths.
+use adr_test_values::telling::name_edit;
 use std::io;
-
-/// A call of a book or a desk of that version.
-pub(crate) fn name_call(rt: &impl Print, call: &str, version: u64) -> io::Result<()> {
-    println!(rt; "{call}: version {version}")
-}
-
-/// A call that makes or judges the edit of the line.
-pub(crate) fn name_edit(rt: &impl Print, call: &str, version: u64, line: &str) -> io::Result<()> {
-    println!(rt; "{call}: version {version}, {line}")
-}
 
 /// An edit by so many workers, or by `apply` where there are none.
 pub(crate) fn name_apply(

@@ -1,13 +1,16 @@
 #![tactic(auto)]
 //! What tests and measurements share: edits from short lines and from lines with bodies, rows of targets and touches,
-//! whether two values are the same by all that their look-ups tell, what is told of a call, and the words of a program.
+//! whom an event is for by the rule alone, whether two values are the same by all that their look-ups tell, what is told
+//! of a call, and the words of a program.
 
 pub mod bodies;
 pub mod lines;
+mod matching;
 mod random;
 pub mod same;
 pub mod telling;
 mod words;
 
-pub use random::next;
+pub use matching::is_for;
+pub use random::{next, pick};
 pub use words::word;

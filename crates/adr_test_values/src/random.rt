@@ -11,3 +11,17 @@ pub fn next(seed: &mut u64, limit: u64) -> u64
         .wrapping_add(1_442_695_040_888_963_407);
     (*seed >> 33) % limit
 }
+
+/// One of the first lines of a table, at random.
+pub fn pick<'a>(seed: &mut u64, lines: &'a str, count: u64) -> &'a str
+    requires { 0 < count }
+{
+    let mut left = next(seed, count);
+    for line in lines.lines() {
+        if left == 0 {
+            return line;
+        }
+        left -= 1;
+    }
+    ""
+}

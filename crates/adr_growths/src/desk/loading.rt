@@ -1,10 +1,9 @@
 //! A desk that is filled at once.
-use crate::calls::name_call;
 use crate::desk::desks::{Desks, same_desk};
 use adr_desk::Desk;
 use adr_model::Tie;
 use adr_object::Edit;
-use adr_test_values::telling::{tell_ordinary, tell_refused, tell_same, told};
+use adr_test_values::telling::{name_call, tell_ordinary, tell_refused, tell_same, told};
 use adr_value::Refusal;
 use std::alloc::Global;
 use std::io;

@@ -2,11 +2,10 @@
 ghost use Rattle.std.specs.Prelude.{◌≡◌, [], OnErr, OnOk};
 ghost use Rattle.adr_book.specs.Ledger.{sealed_of};
 
-use crate::calls::name_call;
 use crate::desk::desks::{Desks, same_desk};
 use adr_book::Book;
 use adr_desk::Desk;
-use adr_test_values::telling::{tell_ordinary, tell_refused, tell_same, told};
+use adr_test_values::telling::{name_call, tell_ordinary, tell_refused, tell_same, told};
 use adr_value::Refusal;
 use std::io;
 

@@ -3,6 +3,7 @@ use crate::kept::Kept;
 use adr_object::{Event, Kind, Program, Resource, Ven};
 use adr_rule::{Scene, applies};
 use adr_store::Store;
+use adr_test_values::is_for;
 use adr_value::Refusal;
 
 /// Whether what is found for each event and each resource is what a scan finds.
@@ -100,19 +101,4 @@ fn are_the_events(store: &Store, resource: &Resource, ven: &Ven, places: &[usize
         }
     }
     found == places.len()
-}
-
-pub(crate) fn is_for(store: &Store, resource: &Resource, ven: &Ven, place: usize) -> bool {
-    let Some(event) = store.event_at(place) else {
-        return false;
-    };
-    let Some(program) = store.program(&event.program_id) else {
-        return false;
-    };
-    applies(&Scene {
-        program,
-        event,
-        ven,
-        resource,
-    })
 }

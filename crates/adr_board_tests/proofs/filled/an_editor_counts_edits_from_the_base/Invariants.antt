@@ -1,5 +1,5 @@
 use Rattle.adr_model.specs.declared.entry.Tie.TheVariants.{Newest}
-use Rattle.adr_tests.proofs.filled.an_editor_counts_edits_from_the_base.Given as goal
+use Rattle.adr_board_tests.proofs.filled.an_editor_counts_edits_from_the_base.Given as goal
 
 -- the history of the board that is opened, and its rule for ties
 abbrev pub ghosts-on_board : goal.ghosts-on_board

@@ -3,8 +3,8 @@ use denote.Param.{param}
 use denote.Param.Send.{param_send, arg_send, sendable}
 use denote.Param.SendFields.{declared_send}
 use Rattle.adr_board.proofs.Crossing.{reader_send}
-use Rattle.adr_tests.specs.contracts.beside.Looker as Looker
-use Rattle.adr_tests.proofs.beside.look_all.Goals as goal
+use Rattle.adr_board_tests.specs.contracts.beside.Looker as Looker
+use Rattle.adr_board_tests.proofs.beside.look_all.Goals as goal
 
 pub for_each_mut-requires-send-T : goal.for_each_mut-requires-send-T
 for_each_mut-requires-send-T g c κs _ = param_send 1 _ (arg_send _ no _ (declared_send (Looker.the_type (param 0 g.row.J) g.J.Naming) (reader_send (param 0 g.row.J) g.J.Naming (search sendable), (search sendable, (search sendable, tt)))))

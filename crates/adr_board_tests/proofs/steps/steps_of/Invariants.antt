@@ -1,7 +1,7 @@
 use Rattle.std.proofs.Common.{All}
 use Rattle.adr_board.specs.Replay.{NamesReader}
-use Rattle.adr_tests.specs.declared.steps.TheConstants.{READERS}
-use Rattle.adr_tests.proofs.steps.steps_of.Given as goal
+use Rattle.adr_board_tests.specs.declared.steps.TheConstants.{READERS}
+use Rattle.adr_board_tests.proofs.steps.steps_of.Given as goal
 
 -- no step so far is of another reader
 abbrev pub invariant-loop-line : goal.invariant-loop-line

@@ -5,7 +5,7 @@ use crate::kept::Kept;
 use crate::scan::is_as_scanned;
 use adr_object::Kind;
 use adr_test_values::bodies::edit;
-use adr_test_values::next;
+use adr_test_values::{next, pick};
 use adr_value::Refusal;
 use std::alloc::Global;
 use std::test::Fail;
@@ -60,20 +60,6 @@ const TARGETS: &str = r#"[]
 [{"type":"EVENT_NAME","values":["E3"]},{"type":"GROUP","values":["A","B"]}]
 [{"type":"PROGRAM_NAME","values":["P1","P2"]}]
 [{"type":"PROGRAM_NAME","values":["P1"]},{"type":"VEN_NAME","values":["V1","V2"]}]"#;
-
-/// One of the first lines of a table, at random.
-pub(crate) fn pick<'a>(seed: &mut u64, lines: &'a str, count: u64) -> &'a str
-    requires { 0 < count }
-{
-    let mut left = next(seed, count);
-    for line in lines.lines() {
-        if left == 0 {
-            return line;
-        }
-        left -= 1;
-    }
-    ""
-}
 
 /// How many ids there are of a kind, by its letter.
 fn id_count(kind: &str) -> u64

@@ -5,8 +5,8 @@ use denote.Param.Send.{param_send, arg_send, shr_send, mut_slice_send, sendable}
 use denote.Param.SendFields.{declared_send}
 use Rattle.std.proofs.Crossing as std
 use Rattle.adr_board.proofs.Crossing.{captures_send, reader_send}
-use Rattle.adr_tests.specs.contracts.beside.Looker as Looker
-use Rattle.adr_tests.proofs.beside.look_beside.Goals as goal
+use Rattle.adr_board_tests.specs.contracts.beside.Looker as Looker
+use Rattle.adr_board_tests.proofs.beside.look_beside.Goals as goal
 
 pub join-published-requires-send-F : goal.join-published-requires-send-F
 join-published-requires-send-F g c κs _ =
