@@ -1,7 +1,6 @@
 //! What is found by keys, compared with a scan of all objects.
 use crate::kept::Kept;
-use adr_object::{Event, Kind, Program, Resource, Ven};
-use adr_rule::{Scene, applies};
+use adr_object::{Kind, Resource, Ven};
 use adr_store::Store;
 use adr_test_values::is_for;
 use adr_value::Refusal;
@@ -29,7 +28,7 @@ fn is_audience_at(kept: &Kept, place: usize) -> Result<bool, Refusal> {
         return Ok(false);
     };
     let places = kept.audience.audience(event, program)?;
-    Ok(are_resources(kept.store(), event, program, places.as_slice()))
+    Ok(are_resources(kept.store(), place, places.as_slice()))
 }
 
 fn is_at(places: &[usize], at: usize, place: usize) -> bool {
@@ -39,11 +38,11 @@ fn is_at(places: &[usize], at: usize, place: usize) -> bool {
     }
 }
 
-/// Whether the places are those of the resources that the event applies to, in order.
-fn are_resources(store: &Store, event: &Event, program: &Program, places: &[usize]) -> bool {
+/// Whether the places are those of the resources that the event at a place applies to, in order.
+fn are_resources(store: &Store, event: usize, places: &[usize]) -> bool {
     let mut found = 0_usize;
     for place in 0..store.count(Kind::Resource) {
-        if applies_to(store, event, program, place) {
+        if is_for_at(store, event, place) {
             if !is_at(places, found, place) {
                 return false;
             }
@@ -53,19 +52,14 @@ fn are_resources(store: &Store, event: &Event, program: &Program, places: &[usiz
     found == places.len()
 }
 
-fn applies_to(store: &Store, event: &Event, program: &Program, place: usize) -> bool {
+fn is_for_at(store: &Store, event: usize, place: usize) -> bool {
     let Some(resource) = store.resource_at(place) else {
         return false;
     };
     let Some(ven) = store.ven(&resource.ven_id) else {
         return false;
     };
-    applies(&Scene {
-        program,
-        event,
-        ven,
-        resource,
-    })
+    is_for(store, resource, ven, event)
 }
 
 /// Whether each resource has the events that a scan finds.
