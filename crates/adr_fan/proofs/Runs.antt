@@ -1,20 +1,27 @@
 -- From what the loop told and the readers handed back to what was written.
 use Rattle.std.proofs.Common.{◌≡◌, ℕ, List, [], ◌++◌, length, Option, refl, sym, subst, append-nil, inl, inr}
+use Rattle.std.proofs.lemmas.Result.{on_ok_weaker}
 use Rattle.std.specs.declared.vec.Vec.{Vec}
-use Rattle.std.specs.Prelude.{Result, Err, OnOk, OnErr, IsErrOf}
-use Rattle.std.specs.Io.KnownBytes.{Appends}
+use Rattle.std.specs.Prelude.{◌^◌, Result, Ok, Err, true, false, IfOk, IfErr, OnOk, IsErrOf}
+use Rattle.std.specs.Io.KnownBytes.{Appends, IsAtEnd}
 use Rattle.adr_script.specs.declared.fault.Fault.{Fault}
 use Rattle.adr_script.specs.declared.fault.Fault.TheVariants.{Reading, Reads, Writing, Runtime}
+use Rattle.adr_script.specs.declared.log.ReadLog.{ReadLog}
+use Rattle.adr_script.specs.declared.log.WriteLog.{WriteLog}
+use Rattle.adr_script.specs.Logs.{reads_made, has_ended, has_read_failed, has_write_failed}
 use Rattle.std.proofs.KnownBytes.{Consumes-nil, Appends-nil, Appends-trans}
 use Rattle.adr_script.specs.Lines.{all_lines, complete_lines, rest_from, last_line}
 use Rattle.adr_script.specs.Script.{Told, IsToldInPart, Moves}
 use Rattle.adr_script.proofs.Telling.{part-more}
 use Rattle.adr_model.specs.declared.entry.Tie.{Tie}
+use Rattle.adr_fan.specs.declared.levels.Collected.{Collected}
 use Rattle.adr_fan.specs.declared.levels.Ending.{Ending}
 use Rattle.adr_fan.specs.declared.levels.Ending.TheVariants.{All, ReadFailed, NoMoreReads}
+use Rattle.adr_fan.specs.declared.levels.Stop.{Stop}
+use Rattle.adr_fan.specs.declared.levels.Stop.TheVariants.{WriteFailed, NoRuntime}
 use Rattle.adr_fan.specs.declared.reading.Reply.{Reply}
 use Rattle.adr_server.specs.Fan.{Fan, fan_start, AreReaderParts, IsFannedOf}
-use Rattle.adr_fan.specs.Levels.{lines_told, HasTold, HasToldInPart, WritesPart, IsFannedInPart, IsCutShort, ended_as, HasWritten}
+use Rattle.adr_fan.specs.Levels.{lines_told, HasTold, HasToldInPart, IsServed, WritesPart, IsFannedInPart, IsCutShort, ended_as, fault_of, HasWritten, IsFanRun}
 use Rattle.adr_fan.specs.Parts.{AreParts, all_texts}
 use Rattle.adr_fan.proofs.Parts.{parts_are}
 use Rattle.adr_fan.proofs.CutShort.{Answers, fanned, fanned_in_part, told_in_part}
@@ -60,33 +67,145 @@ module _ {Z : Type 0} (tie : Tie) (readers : ℕ) (s t : Fan) (start : s ≡ fan
 pub stopped : (tie : Tie) (readers : ℕ) (s t : Fan) (a b c d : Known) → s ≡ fan_start tie → HasToldInPart s a b c d t → Moves a b c d (λ bytes out. IsCutShort tie bytes readers out)
 stopped tie readers s t a b c d start (bytes, out, consumed, appended, told) = (bytes, out, consumed, appended, inl (told_in_part tie (all_lines bytes) readers s t start out told))
 
+-- ---- what the loop leaves, where a level stops
+
+pub not_begun : (s : Fan) (a d : Known) (reads : ReadLog) (writes : WriteLog) → has_write_failed writes ≡ false → IsServed s a a d d reads writes s (Err NoRuntime)
+not_begun s a d reads writes fresh = record {
+  told = tt;
+  end = tt;
+  err = told_nothing s a d;
+  ended = tt;
+  read_ends = tt;
+  write_ends = λ h. absurd (cc (h, fresh));
+  read_failed = tt;
+  no_more_reads = tt;
+  write_failed = λ h. absurd (cc h);
+}
+
+cut_off : {s t : Fan} {a b d e : Known} {reads : ReadLog} {writes : WriteLog} (c : Collected) → IsServed s a b d e reads writes t (Ok c) → IsServed s a b d e reads writes t (Err NoRuntime)
+cut_off {s = s} {t = t} {a = a} {b = b} {d = d} {e = e} c served = record {
+  told = tt;
+  end = tt;
+  err = told_part c.ending s t a b d e served.told;
+  ended = tt;
+  read_ends = tt;
+  write_ends = λ h. absurd (cc (served.write_ends h));
+  read_failed = tt;
+  no_more_reads = tt;
+  write_failed = λ h. absurd (cc h);
+}
+
+-- one part more, or none
+pub goes_on : {s t : Fan} {a b d e : Known} {reads : ReadLog} {writes : WriteLog} (c : Collected) (result : Result Collected Stop)
+    → IfOk result (λ more. more.ending ≡ c.ending) → IfErr result (λ stop. stop ≡ NoRuntime) → IsServed s a b d e reads writes t (Ok c) → IsServed s a b d e reads writes t result
+goes_on {s = s} {t = t} {a = a} {b = b} {d = d} {e = e} {reads = reads} {writes = writes} c (Err stop) same is served =
+    subst (λ f. IsServed s a b d e reads writes t (Err f)) (sym is) (cut_off c served)
+goes_on {s = s} {t = t} {a = a} {b = b} {d = d} {e = e} {reads = reads} c (Ok more) same is served = record {
+  told = subst (λ ending. HasTold ending s a b d e t) (sym same) served.told;
+  end = subst (λ ending. ending ≡ All → IsAtEnd b) (sym same) served.end;
+  err = tt;
+  ended = subst (λ ending. ending ≡ All → has_ended reads ≡ true) (sym same) served.ended;
+  read_ends = subst (λ ending. ending ≡ All → has_read_failed reads ≡ false) (sym same) served.read_ends;
+  write_ends = λ h. absurd (cc (served.write_ends h));
+  read_failed = subst (λ ending. ending ≡ ReadFailed → has_read_failed reads ≡ true) (sym same) served.read_failed;
+  no_more_reads = subst (λ ending. ending ≡ NoMoreReads → reads_made reads ≡ 2 ^ 32) (sym same) served.no_more_reads;
+  write_failed = λ h. absurd (cc h);
+}
+
 -- ---- how a run ends
 
--- what a run owes
-abbrev pub Owes : Tie → ℕ → Known → Known → Known → Known → Ending → Result (Unit {0}) Fault → Type 0
+pub not_opened : (tie : Tie) (readers : ℕ) (a d : Known) (reads : ReadLog) (writes : WriteLog) → has_write_failed writes ≡ false → IsFanRun tie readers a a d d reads writes (Err Runtime)
+not_opened tie readers a d reads writes fresh = record {
+  ok = tt;
+  end = tt;
+  reading = λ k. absurd (cc k);
+  reads_end = λ k. absurd (cc k);
+  writing = λ k. absurd (cc k);
+  runtime = λ k. stopped tie readers (fan_start tie) (fan_start tie) a a d d refl (told_nothing (fan_start tie) a d);
+  ended = tt;
+  read_ends = tt;
+  write_ends = λ h. absurd (cc (h, fresh));
+  read_failed = λ k. absurd (cc k);
+  no_more_reads = λ k. absurd (cc k);
+  write_failed = λ k. absurd (cc k);
+}
+
+stopped_as : (tie : Tie) (readers : ℕ) {s t : Fan} {a b d e : Known} {reads : ReadLog} {writes : WriteLog} (stop : Stop)
+    → s ≡ fan_start tie → IsServed s a b d e reads writes t (Err stop) → IsFanRun tie readers a b d e reads writes (Err (fault_of stop))
+stopped_as tie readers {s = s} {t = t} {a = a} {b = b} {d = d} {e = e} WriteFailed start served = record {
+  ok = tt;
+  end = tt;
+  reading = λ k. absurd (cc k);
+  reads_end = λ k. absurd (cc k);
+  writing = λ k. stopped tie readers s t a b d e start served.err;
+  runtime = λ k. absurd (cc k);
+  ended = tt;
+  read_ends = tt;
+  write_ends = λ h. refl;
+  read_failed = λ k. absurd (cc k);
+  no_more_reads = λ k. absurd (cc k);
+  write_failed = λ k. served.write_failed refl;
+}
+stopped_as tie readers {s = s} {t = t} {a = a} {b = b} {d = d} {e = e} NoRuntime start served = record {
+  ok = tt;
+  end = tt;
+  reading = λ k. absurd (cc k);
+  reads_end = λ k. absurd (cc k);
+  writing = λ k. absurd (cc k);
+  runtime = λ k. stopped tie readers s t a b d e start served.err;
+  ended = tt;
+  read_ends = tt;
+  write_ends = λ h. absurd (cc (served.write_ends h));
+  read_failed = λ k. absurd (cc k);
+  no_more_reads = λ k. absurd (cc k);
+  write_failed = λ k. absurd (cc k);
+}
+
+pub stopped_run : (tie : Tie) (readers : ℕ) {s t : Fan} {a b d e : Known} {reads : ReadLog} {writes : WriteLog} (stop : Stop) (fault : Fault)
+    → s ≡ fan_start tie → fault ≡ fault_of stop → IsServed s a b d e reads writes t (Err stop) → IsFanRun tie readers a b d e reads writes (Err fault)
+stopped_run tie readers {a = a} {b = b} {d = d} {e = e} {reads = reads} {writes = writes} stop fault start is served =
+    subst (λ f. IsFanRun tie readers a b d e reads writes (Err f)) (sym is) (stopped_as tie readers stop start served)
+
+-- what a run owes of the text, and how its input ended
+abbrev Owes : Tie → ℕ → Known → Known → Known → Known → Ending → Result (Unit {0}) Fault → Type 0
 Owes tie readers a b c e ending result =
     OnOk result (Moves a b c e (λ bytes out. IsFannedOf tie (all_lines bytes) readers out))
     × (IsErrOf result Reading → Moves a b c e (λ bytes out. IsFannedOf tie (complete_lines bytes) readers out))
     × (IsErrOf result Reads → Moves a b c e (λ bytes out. IsFannedOf tie (complete_lines bytes) readers out))
     × (IsErrOf result Writing → Moves a b c e (λ bytes out. IsCutShort tie bytes readers out))
-    × (IsErrOf result Runtime → Moves a b c e (λ bytes out. IsCutShort tie bytes readers out))
+    × (IsErrOf result Runtime → ⊥)
     × OnOk result (ending ≡ All)
+    × (IsErrOf result Reading → ending ≡ ReadFailed)
+    × (IsErrOf result Reads → ending ≡ NoMoreReads)
 
 owed : (tie : Tie) (readers : ℕ) (a b c e : Known) (ending : Ending) → Moves a b c e (λ bytes out. IsFannedOf tie (lines_told ending bytes) readers out) → Owes tie readers a b c e ending (ended_as ending)
-owed tie readers a b c e All h = (h, (λ k. absurd (cc k)), (λ k. absurd (cc k)), (λ k. absurd (cc k)), (λ k. absurd (cc k)), refl)
-owed tie readers a b c e ReadFailed h = (tt, (λ k. h), (λ k. absurd (cc k)), (λ k. absurd (cc k)), (λ k. absurd (cc k)), tt)
-owed tie readers a b c e NoMoreReads h = (tt, (λ k. absurd (cc k)), (λ k. h), (λ k. absurd (cc k)), (λ k. absurd (cc k)), tt)
+owed tie readers a b c e All h = (h, (λ k. absurd (cc k)), (λ k. absurd (cc k)), (λ k. absurd (cc k)), (λ k. absurd (cc k)), refl, (λ k. absurd (cc k)), (λ k. absurd (cc k)))
+owed tie readers a b c e ReadFailed h = (tt, (λ k. h), (λ k. absurd (cc k)), (λ k. absurd (cc k)), (λ k. absurd (cc k)), tt, (λ k. refl), (λ k. absurd (cc k)))
+owed tie readers a b c e NoMoreReads h = (tt, (λ k. absurd (cc k)), (λ k. h), (λ k. absurd (cc k)), (λ k. absurd (cc k)), tt, (λ k. absurd (cc k)), (λ k. refl))
 
 owed_cut : (tie : Tie) (readers : ℕ) (a b c e : Known) (ending : Ending) → Moves a b c e (λ bytes out. IsCutShort tie bytes readers out) → Owes tie readers a b c e ending (Err Writing)
-owed_cut tie readers a b c e ending h = (tt, (λ k. absurd (cc k)), (λ k. absurd (cc k)), (λ k. h), (λ k. absurd (cc k)), tt)
+owed_cut tie readers a b c e ending h = (tt, (λ k. absurd (cc k)), (λ k. absurd (cc k)), (λ k. h), (λ k. absurd (cc k)), tt, (λ k. absurd (cc k)), (λ k. absurd (cc k)))
 
-pub ended : {Z : Type 0} (tie : Tie) (readers : ℕ) (s t : Fan) (parts : List (Vec Reply Z)) (a b c d e : Known) (ending : Ending) (result : Result (Unit {0}) Fault)
-    → s ≡ fan_start tie → HasTold ending s a b c d t → AreParts t parts → length parts ≡ readers → HasWritten ending result d e (all_texts 0 parts) → Owes tie readers a b c e ending result
-ended tie readers s t parts a b c d e ending result start told all count written =
-    elim written [
-      | inl w ↦ subst (Owes tie readers a b c e ending) (sym w.0) (owed_cut tie readers a b c e ending (part_written tie readers s t start parts all count ending a b c d e told w.1))
-      | inr w ↦ subst (Owes tie readers a b c e ending) (sym w.0) (owed tie readers a b c e ending (all_written tie readers s t start parts all count ending a b c d e told w.1))
-    ]
-
-pub at_err : {T E : Type 0} (P : Type 0) (r : Result T E) (e : E) → r ≡ Err e → OnErr r P → P
-at_err P r e is h = subst (λ r. OnErr r P) is h
+pub ended : (tie : Tie) (readers : ℕ) {s t : Fan} {a b d e f : Known} {reads : ReadLog} {before after : WriteLog} (c : Collected) (result : Result (Unit {0}) Fault)
+    → s ≡ fan_start tie → IsServed s a b d e reads before t (Ok c) → AreParts t c.parts.items → length c.parts.items ≡ readers → HasWritten c.ending result e f (all_texts 0 c.parts.items)
+    → (has_write_failed after ≡ true → result ≡ Err Writing) → (IsErrOf result Writing → has_write_failed after ≡ true)
+    → IsFanRun tie readers a b d f reads after result
+ended tie readers {s = s} {t = t} {a = a} {b = b} {d = d} {e = e} {f = f} c result start served all count written write_ends write_failed =
+    let owes : Owes tie readers a b d f c.ending result = elim written [
+      | inl w ↦ subst (Owes tie readers a b d f c.ending) (sym w.0) (owed_cut tie readers a b d f c.ending (part_written tie readers s t start c.parts.items all count c.ending a b d e f served.told w.1))
+      | inr w ↦ subst (Owes tie readers a b d f c.ending) (sym w.0) (owed tie readers a b d f c.ending (all_written tie readers s t start c.parts.items all count c.ending a b d e f served.told w.1))
+    ] in
+    record {
+      ok = owes.0;
+      end = on_ok_weaker result served.end owes.5;
+      reading = owes.1;
+      reads_end = owes.2;
+      writing = owes.3;
+      runtime = λ k. absurd (owes.4 k);
+      ended = on_ok_weaker result served.ended owes.5;
+      read_ends = on_ok_weaker result served.read_ends owes.5;
+      write_ends = write_ends;
+      read_failed = λ k. served.read_failed (owes.6 k);
+      no_more_reads = λ k. served.no_more_reads (owes.7 k);
+      write_failed = write_failed;
+    }

@@ -5,10 +5,10 @@ ghost use Rattle.adr_script.specs.Lines.{all_lines, complete_lines};
 ghost use Rattle.adr_script.specs.Logs.{reads_made, has_ended, has_read_failed, has_write_failed};
 ghost use Rattle.adr_script.specs.Script.{Moves};
 ghost use Rattle.adr_server.specs.Fan.{fan_start, IsFanned, IsFannedOf};
-ghost use Rattle.adr_fan.specs.Levels.{IsCutShort, HasWritten, IsEndedAs};
+ghost use Rattle.adr_fan.specs.Levels.{IsCutShort, IsFanRun, HasWritten};
 ghost use Rattle.adr_fan.specs.Parts.{all_texts};
 
-use crate::levels::{Collected, Ending, Stop, level};
+use crate::levels::{Collected, Ending, level};
 use crate::mailbox::Mailbox;
 use crate::script::FanDesk;
 use crate::writing::write_parts;
@@ -76,24 +76,8 @@ fn fan_as<
     requires made { reads_made logs.old.reads ≡ 0 }
     requires no_read { has_read_failed logs.old.reads ≡ false }
     requires no_write { has_write_failed logs.old.writes ≡ false }
-    ensures ok { OnOk result (Moves (I.remaining reader.old) (I.remaining reader.new) (W.contents writer.old) (W.contents writer.new)
-        (λ bytes out. IsFanned tie bytes readers out)) }
-    ensures end { OnOk result (IsAtEnd (I.remaining reader.new)) }
-    ensures reading { IsErrOf result Fault.Reading → Moves (I.remaining reader.old) (I.remaining reader.new) (W.contents writer.old) (W.contents writer.new)
-        (λ bytes out. IsFannedOf tie (complete_lines bytes) readers out) }
-    ensures reads { IsErrOf result Fault.Reads → Moves (I.remaining reader.old) (I.remaining reader.new) (W.contents writer.old) (W.contents writer.new)
-        (λ bytes out. IsFannedOf tie (complete_lines bytes) readers out) }
-    ensures writing { IsErrOf result Fault.Writing → Moves (I.remaining reader.old) (I.remaining reader.new) (W.contents writer.old) (W.contents writer.new)
-        (λ bytes out. IsCutShort tie bytes readers out) }
-    ensures runtime { IsErrOf result Fault.Runtime → Moves (I.remaining reader.old) (I.remaining reader.new) (W.contents writer.old) (W.contents writer.new)
-        (λ bytes out. IsCutShort tie bytes readers out) }
+    ensures run { IsFanRun tie readers (I.remaining reader.old) (I.remaining reader.new) (W.contents writer.old) (W.contents writer.new) logs.new.reads logs.new.writes result }
     ensures bound { reads_made logs.new.reads ≤ 2 ^ 32 }
-    ensures ended { OnOk result (has_ended logs.new.reads ≡ true) }
-    ensures read_ends { OnOk result (has_read_failed logs.new.reads ≡ false) }
-    ensures write_ends { has_write_failed logs.new.writes ≡ true → result ≡ Err Fault.Writing }
-    ensures read_failed { IsErrOf result Fault.Reading → has_read_failed logs.new.reads ≡ true }
-    ensures no_more_reads { IsErrOf result Fault.Reads → reads_made logs.new.reads ≡ 2 ^ 32 }
-    ensures write_failed { IsErrOf result Fault.Writing → has_write_failed logs.new.writes ≡ true }
 {
     let Some((mut desk, seats)) = open::<J, H>(rt, rt.alloc(), readers, tie, board) else {
         return Err(Fault::Runtime);
@@ -102,8 +86,7 @@ fn fan_as<
     close(rt, desk);
     match collected {
         Ok(collected) => write_all(&mut logs.writes, writer, collected),
-        Err(Stop::WriteFailed) => Err(Fault::Writing),
-        Err(Stop::NoRuntime) => Err(Fault::Runtime),
+        Err(stop) => Err(stop.fault()),
     }
 }
 
@@ -116,7 +99,6 @@ fn write_all<W: Write>(
     requires { has_write_failed writes.old ≡ false }
     ensures write_ends { has_write_failed writes.new ≡ true → result ≡ Err Fault.Writing }
     ensures write_failed { IsErrOf result Fault.Writing → has_write_failed writes.new ≡ true }
-    ensures ended { IsEndedAs collected.ending result }
     ensures written { HasWritten collected.ending result (W.contents writer.old) (W.contents writer.new) (all_texts 0 collected.parts.items) }
 {
     let Collected { parts, ending } = collected;

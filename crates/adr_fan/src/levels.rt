@@ -1,10 +1,9 @@
 //! The threads, one in each level of a recursion, and the input in the innermost.
-ghost use Rattle.std.specs.Prelude.{◌≡◌, ◌≤◌, ◌^◌, true, false, [], IfOk, OnErr, IsErrOf, length};
-ghost use Rattle.std.specs.Io.KnownBytes.{IsAtEnd};
-ghost use Rattle.adr_script.specs.Logs.{reads_made, has_ended, has_read_failed, has_write_failed};
-ghost use Rattle.adr_fan.specs.declared.levels.Ending.TheVariants.{All, ReadFailed, NoMoreReads};
-ghost use Rattle.adr_fan.specs.Levels.{HasTold, HasToldInPart};
-ghost use Rattle.adr_fan.specs.Parts.{AreParts};
+ghost use Rattle.std.specs.Prelude.{◌≡◌, ◌≤◌, ◌+◌, ◌^◌, false, [], IfOk, IfErr, length};
+ghost use Rattle.adr_script.specs.Logs.{reads_made, has_read_failed, has_write_failed};
+ghost use Rattle.adr_fan.specs.Levels.{fault_of, IsServed};
+ghost use Rattle.adr_fan.specs.declared.levels.Stop.TheVariants.{NoRuntime};
+ghost use Rattle.adr_fan.specs.Parts.{AreParts, AreTrue};
 
 use crate::reading::{Answers, Part, Reply, start};
 use crate::script::FanDesk;
@@ -30,6 +29,18 @@ pub(crate) enum Stop {
     NoRuntime,
 }
 
+impl Stop {
+    /// The fault of a run that stops so.
+    pub(crate) fn fault(self) -> Fault
+        ensures { result ≡ fault_of self }
+    {
+        match self {
+            Stop::WriteFailed => Fault::Writing,
+            Stop::NoRuntime => Fault::Runtime,
+        }
+    }
+}
+
 /// What the readers handed back, checked, reader 0 first.
 #[derive(Drop)]
 pub(crate) struct Collected {
@@ -48,17 +59,9 @@ fn serve_all<J: Naming, H: AllocGlobal + Threads + Wait, I: Read, W: Write>(
     requires made { reads_made logs.old.reads ≡ 0 }
     requires no_read { has_read_failed logs.old.reads ≡ false }
     requires no_write { has_write_failed logs.old.writes ≡ false }
-    ensures told { IfOk result (λ c. HasTold c.ending desk.old (I.remaining reader.old) (I.remaining reader.new) (W.contents writer.old) (W.contents writer.new) desk.new) }
-    ensures end { IfOk result (λ c. c.ending ≡ All → IsAtEnd (I.remaining reader.new)) }
+    ensures served { IsServed desk.old (I.remaining reader.old) (I.remaining reader.new) (W.contents writer.old) (W.contents writer.new) logs.new.reads logs.new.writes desk.new result }
     ensures parts { IfOk result (λ c. c.parts.items ≡ []) }
-    ensures err { OnErr result (HasToldInPart desk.old (I.remaining reader.old) (I.remaining reader.new) (W.contents writer.old) (W.contents writer.new) desk.new) }
     ensures bound { reads_made logs.new.reads ≤ 2 ^ 32 }
-    ensures ended { IfOk result (λ c. c.ending ≡ All → has_ended logs.new.reads ≡ true) }
-    ensures read_ends { IfOk result (λ c. c.ending ≡ All → has_read_failed logs.new.reads ≡ false) }
-    ensures write_ends { has_write_failed logs.new.writes ≡ true → result ≡ Err Stop.WriteFailed }
-    ensures read_failed { IfOk result (λ c. c.ending ≡ ReadFailed → has_read_failed logs.new.reads ≡ true) }
-    ensures no_more_reads { IfOk result (λ c. c.ending ≡ NoMoreReads → reads_made logs.new.reads ≡ 2 ^ 32) }
-    ensures write_failed { IsErrOf result Stop.WriteFailed → has_write_failed logs.new.writes ≡ true }
 {
     let parts = Vec::new(rt.alloc());
     let served = serve(rt, reader, writer, logs, desk);
@@ -117,18 +120,10 @@ pub(crate) fn level<
     requires made { reads_made logs.old.reads ≡ 0 }
     requires no_read { has_read_failed logs.old.reads ≡ false }
     requires no_write { has_write_failed logs.old.writes ≡ false }
-    ensures told { IfOk result (λ c. HasTold c.ending desk.old (I.remaining reader.old) (I.remaining reader.new) (W.contents writer.old) (W.contents writer.new) desk.new) }
-    ensures end { IfOk result (λ c. c.ending ≡ All → IsAtEnd (I.remaining reader.new)) }
+    ensures served { IsServed desk.old (I.remaining reader.old) (I.remaining reader.new) (W.contents writer.old) (W.contents writer.new) logs.new.reads logs.new.writes desk.new result }
     ensures count { IfOk result (λ c. length c.parts.items ≡ length seats.items) }
     ensures parts { IfOk result (λ c. AreParts desk.new c.parts.items) }
-    ensures err { OnErr result (HasToldInPart desk.old (I.remaining reader.old) (I.remaining reader.new) (W.contents writer.old) (W.contents writer.new) desk.new) }
     ensures bound { reads_made logs.new.reads ≤ 2 ^ 32 }
-    ensures ended { IfOk result (λ c. c.ending ≡ All → has_ended logs.new.reads ≡ true) }
-    ensures read_ends { IfOk result (λ c. c.ending ≡ All → has_read_failed logs.new.reads ≡ false) }
-    ensures write_ends { has_write_failed logs.new.writes ≡ true → result ≡ Err Stop.WriteFailed }
-    ensures read_failed { IfOk result (λ c. c.ending ≡ ReadFailed → has_read_failed logs.new.reads ≡ true) }
-    ensures no_more_reads { IfOk result (λ c. c.ending ≡ NoMoreReads → reads_made logs.new.reads ≡ 2 ^ 32) }
-    ensures write_failed { IsErrOf result Stop.WriteFailed → has_write_failed logs.new.writes ≡ true }
 {
     let mut seats = seats;
     let Some(seated) = seats.pop() else {
@@ -140,7 +135,22 @@ pub(crate) fn level<
     };
     let collected = level(rt, gate, reader, writer, logs, desk, seats);
     let part = child.join(rt);
-    let Collected { mut parts, ending } = collected?;
+    with_part(desk, part, collected?)
+}
+
+/// What was collected, and the replies of one reader more, once they are checked.
+fn with_part<J: Naming>(
+    desk: &FanDesk<J>,
+    part: Part<J>,
+    collected: Collected,
+) -> Result<Collected, Stop>
+    requires { AreTrue J.tie part.reader.seen part.replies.items }
+    ensures ending { IfOk result (λ c. c.ending ≡ collected.ending) }
+    ensures count { IfOk result (λ c. length c.parts.items ≡ length collected.parts.items + 1) }
+    ensures parts { IfOk result (λ c. AreParts desk.now collected.parts.items → AreParts desk.now c.parts.items) }
+    ensures stop { IfErr result (λ stop. stop ≡ NoRuntime) }
+{
+    let Collected { mut parts, ending } = collected;
     let Some(replies) = desk.check(part) else {
         return Err(Stop::NoRuntime);
     };
