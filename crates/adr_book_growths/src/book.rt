@@ -220,8 +220,10 @@ fn try_lines<R: AllocGlobal + Print>(rt: &R, books: &mut Books, lines: &str) -> 
     Ok(())
 }
 
-/// Does what the lines say: each is an edit, `seal`, `copy` or `condense`.
-pub(crate) fn try_book<R: AllocGlobal + Print>(rt: &R, lines: &str) -> io::Result<()> {
+/// Does what the lines say to a new book: each is an edit (`create program p1`), `seal`, `copy` or `condense`. Before a call
+/// stands a line that names it, by which the test knows where to count growths, and after it what came of it. An error is
+/// one of printing, or a call that is refused for another cause than memory.
+pub fn try_book<R: AllocGlobal + Print>(rt: &R, lines: &str) -> io::Result<()> {
     let mut books = Books::new(rt.alloc());
     let tried = try_lines(rt, &mut books, lines);
     drop(books);
