@@ -12,10 +12,10 @@ mod scripts;
 
 use crate::scripts::{Scripts, first_unlike};
 use adr_server::Tie;
-use std::rt::Env;
+use adr_test_values::word;
+use std::io;
 use std::sync::Wait;
 use std::thread::Threads;
-use std::{env, io};
 
 /// What the gate runs.
 const SCRIPTS: [Scripts; 2] = [
@@ -78,12 +78,10 @@ fn number(word: Option<String>) -> u64 {
 }
 
 fn main(rt: HostRuntime) -> io::Result<()> {
-    let mut words = env::args(&rt)?;
-    let _name = words.next();
-    if let Some(first) = words.next() {
+    if let Some(first) = word(&rt, 1)? {
         let scripts = Scripts {
             first: number(Some(first)),
-            count: number(words.next()),
+            count: number(word(&rt, 2)?),
             lines: 400,
         };
         return print_all(&rt, scripts);
