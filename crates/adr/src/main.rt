@@ -2,6 +2,8 @@
 #![tactic(auto)]
 
 mod start;
+#[cfg(test)]
+mod tests;
 
 use start::start_program;
 use std::process::ExitCode;

@@ -5,7 +5,7 @@ ghost use Rattle.adr_script.specs.Lines.{all_lines};
 ghost use Rattle.adr_script.specs.Script.{Moves};
 ghost use Rattle.adr_script.specs.Text.{AnswersBy, IsText};
 
-use crate::streams::{Pieces, Sink};
+use crate::tests::streams::{Pieces, Sink};
 use adr_script::{Fault, Logs, Machine, Unanswered, serve, status};
 use std::io::{Read, Write};
 use std::marker::Model;

@@ -1,5 +1,5 @@
 //! Whole runs over readers and writers that give and take little, and that fail.
-use crate::streams::{Pieces, Sink};
+use crate::tests::streams::{Pieces, Sink};
 use adr_server::{Fault, Tie, parse_line, run, status};
 use adr_value::Refusal;
 use std::alloc::{AllocError, Global};

@@ -2,7 +2,7 @@ use Rattle.std.proofs.Common.{◌∷◌, ◌++◌, [], true, not, if◌then◌el
 use Rattle.std.proofs.lemmas.Result.{on_ok_weaker}
 use Rattle.adr_script.specs.Lines.{all_lines}
 use Rattle.adr_script.proofs.TextLemmas.{moves_text}
-use Rattle.adr_tests.proofs.script.tell_signs.Goals as goal
+use Rattle.adr.proofs.tests.script.tell_signs.Goals as goal
 
 pub returns-clause-ok : goal.returns-clause-ok
 returns-clause-ok g c =

@@ -1,5 +1,5 @@
 //! Whole runs with a few readers.
-use crate::streams::{Pieces, Sink};
+use crate::tests::streams::{Pieces, Sink};
 use adr_fan::{NoGate, fan};
 use adr_model::Tie;
 use adr_script::{Fault, status};
