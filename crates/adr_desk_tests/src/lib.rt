@@ -1,13 +1,11 @@
 #![tactic(auto)]
-//! Tests of a desk: what the receipts of its edits tell and what it shows then, compared with a scan of all events; and
-//! what a desk is that is loaded or copied.
+//! Tests of a desk: what the receipts of its edits tell, compared with a scan of all objects; and what a desk is that is
+//! loaded or copied.
 
 #[cfg(test)]
 mod bodies;
 #[cfg(test)]
 mod copies;
-#[cfg(test)]
-mod entries;
 #[cfg(test)]
 mod loading;
 #[cfg(test)]

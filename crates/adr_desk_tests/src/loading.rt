@@ -1,4 +1,5 @@
 //! A desk that is loaded is the one to which the same edits were applied.
+use crate::showing::are_alike;
 use adr_desk::Desk;
 use adr_model::Tie;
 use adr_object::{Edit, Id};
@@ -26,7 +27,8 @@ fn read(alloc: Global) -> Result<Vec<Edit>, Refusal> {
     Ok(edits)
 }
 
-fn version_after(desk: &mut Desk, edit: Edit) -> Result<u64, Refusal> {
+/// The version after the edit.
+pub(crate) fn version_after(desk: &mut Desk, edit: Edit) -> Result<u64, Refusal> {
     let receipt = desk.apply(edit)?;
     let version = receipt.version;
     drop(receipt);
@@ -54,15 +56,6 @@ fn written(desk: &Desk, alloc: Global, hour: u8) -> Result<Option<u64>, Refusal>
     Ok(written)
 }
 
-/// Whether both desks show the same in the middle of each of the first hours.
-fn show_the_same(one: &Desk, other: &Desk, alloc: Global) -> Result<bool, Refusal> {
-    let mut same = true;
-    for hour in 0..4u8 {
-        same = same && written(one, alloc, hour)? == written(other, alloc, hour)?;
-    }
-    Ok(same)
-}
-
 /// Loads the edits, and judges what is answered and shown; in the second hour the event of that number governs.
 fn load(rt: &(impl Threads + Sync), alloc: Global, tie: Tie, last: u64) -> Result<bool, Refusal> {
     let (desk, answers) = Desk::load(rt, alloc, read(alloc)?, tie)?;
@@ -77,7 +70,7 @@ fn load(rt: &(impl Threads + Sync), alloc: Global, tie: Tie, last: u64) -> Resul
     ];
     let answered = answers.as_slice() == wanted.as_slice();
     let other = applied(alloc, tie)?;
-    let same = show_the_same(&desk, &other, alloc)?;
+    let same = are_alike(&desk, &other, &[PayloadType::Price]);
     let first = written(&desk, alloc, 0)? == Some(6);
     let second = written(&desk, alloc, 1)? == Some(last);
     let fourth = written(&desk, alloc, 3)?.is_none();

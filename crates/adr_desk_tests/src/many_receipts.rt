@@ -1,13 +1,10 @@
-//! Many edits that look random: after each, what the receipt tells and what the desk shows are compared with a scan of the
-//! books before and after it.
+//! Many edits that look random: after each, what the receipt tells is compared with a scan of the books before and after it.
 use crate::bodies::{many_edits, types};
-use crate::entries::{Competing, all_competing, entries};
-use crate::showing::{are_alike, is_shown_right};
+use crate::showing::are_alike;
 use adr_book::Book;
 use adr_desk::{Desk, Receipt, Touched};
 use adr_model::{Tie, Touch};
 use adr_object::{Edit, Kind};
-use adr_time::meets;
 use adr_touches::touches;
 use adr_value::{PayloadType, Refusal};
 use std::alloc::Global;
@@ -67,40 +64,6 @@ fn by_resource(alloc: Global, touched: &Touched, most: usize) -> Result<Vec<Touc
     Err(Refusal::TooMany)
 }
 
-/// k(2k + 1), where so many entries of the touch's type, in the events that apply to its resource, meet its window.
-fn most_compared_at(
-    alloc: Global,
-    book: &Book,
-    all: &[Competing],
-    touch: &Touch,
-) -> Result<u128, Refusal> {
-    let Some(resource) = book.resource(&touch.resource) else {
-        return Ok(0);
-    };
-    let entries = entries(alloc, book.objects(), all, resource, &touch.kind)?;
-    let mut meeting = 0_u32;
-    for entry in entries.as_slice() {
-        if meets(&entry.span, &touch.window) {
-            meeting = meeting.saturating_add(1);
-        }
-    }
-    let meeting = u128::from(meeting);
-    Ok(meeting.saturating_mul(meeting.saturating_mul(2).saturating_add(1)))
-}
-
-fn most_compared(
-    alloc: Global,
-    book: &Book,
-    all: &[Competing],
-    touches: &[Touch],
-) -> Result<u128, Refusal> {
-    let mut most = 0_u128;
-    for touch in touches {
-        most = most.saturating_add(most_compared_at(alloc, book, all, touch)?);
-    }
-    Ok(most)
-}
-
 /// Whether the touches that a scan of both books finds are listed, at once and resource by resource.
 fn are_listed(
     alloc: Global,
@@ -118,19 +81,12 @@ fn are_listed(
     Ok(are_listed)
 }
 
-/// Whether the receipt tells what a scan of both books finds, and no more comparisons than that may take.
-fn is_told(
-    alloc: Global,
-    before: &Book,
-    after: &Book,
-    all: &[Competing],
-    receipt: &Receipt,
-) -> Result<bool, Refusal> {
+/// Whether the receipt tells what a scan of both books finds.
+fn is_told(alloc: Global, before: &Book, after: &Book, receipt: &Receipt) -> Result<bool, Refusal> {
     let wanted = touches(alloc, before, after)?;
     let are_listed = are_listed(alloc, before, &receipt.touched, wanted.as_slice());
-    let most = most_compared(alloc, after, all, wanted.as_slice());
     drop(wanted);
-    Ok(are_listed? && receipt.version == after.version() && receipt.compares <= most?)
+    Ok(are_listed? && receipt.version == after.version())
 }
 
 /// Whether a desk is right to which an edit was applied and so answered: as it was where it is refused, else as it is told.
@@ -141,15 +97,10 @@ fn is_right(
     answer: &Result<Receipt, Refusal>,
     types: &[PayloadType],
 ) -> Result<bool, Refusal> {
-    let Ok(receipt) = answer else {
-        return Ok(are_alike(before, desk, types));
-    };
-    let all = all_competing(alloc, desk.book().objects(), desk.tie())?;
-    let all = all.as_slice();
-    Ok(
-        is_told(alloc, before.book(), desk.book(), all, receipt)?
-            && is_shown_right(alloc, desk, all, types)?,
-    )
+    match answer {
+        Ok(receipt) => is_told(alloc, before.book(), desk.book(), receipt),
+        Err(_) => Ok(are_alike(before, desk, types)),
+    }
 }
 
 /// Whether the desk is right after the edit.
@@ -234,17 +185,13 @@ fn are_right_under(alloc: Global, tie: Tie) -> Result<bool, Refusal> {
 }
 
 #[test]
-fn edits_are_told_and_shown_as_a_scan_finds_where_the_newest_wins(
-    rt: HostRuntime,
-) -> Result<(), Fail> {
+fn edits_are_told_as_a_scan_finds_where_the_newest_wins(rt: HostRuntime) -> Result<(), Fail> {
     assert!(rt; are_right_under(rt.alloc(), Tie::Newest)?);
     Ok(())
 }
 
 #[test]
-fn edits_are_told_and_shown_as_a_scan_finds_where_the_latest_start_wins(
-    rt: HostRuntime,
-) -> Result<(), Fail> {
+fn edits_are_told_as_a_scan_finds_where_the_latest_start_wins(rt: HostRuntime) -> Result<(), Fail> {
     assert!(rt; are_right_under(rt.alloc(), Tie::LatestStart)?);
     Ok(())
 }

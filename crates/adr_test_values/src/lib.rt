@@ -1,16 +1,13 @@
 #![tactic(auto)]
 //! What tests and measurements share: edits from short lines and from lines with bodies, rows of targets and touches,
-//! whom an event is for by the rule alone, whether two values are the same by all that their look-ups tell, what is told
-//! of a call, and the words of a program.
+//! whether two values are the same by all that their look-ups tell, what is told of a call, and the words of a program.
 
 pub mod bodies;
 pub mod lines;
-mod matching;
 mod random;
 pub mod same;
 pub mod telling;
 mod words;
 
-pub use matching::is_for;
 pub use random::{next, pick};
 pub use words::word;

@@ -1,7 +1,4 @@
-//! How much timelines compare, what indexes find, whom events are for and what bodies hold.
-//!
-//! With no word, all by count. With `timelines`, `indexes`, `audiences` or `bodies`: that part alone, and how long it
-//! takes.
+//! How much timelines compare, what indexes find, whom events are for and what bodies hold; and how long that takes.
 #![tactic(auto)]
 
 mod audiences;
@@ -13,7 +10,6 @@ use crate::audiences::print_all_audiences;
 use crate::bodies::print_bodies;
 use crate::indexes::print_indexes;
 use crate::timelines::print_timelines;
-use adr_test_values::word;
 use std::io;
 use std::rt::Clock;
 
@@ -22,8 +18,8 @@ fn print_microseconds(rt: &impl Print, nanoseconds: u128) -> io::Result<()> {
     print!(rt; " {}.{} |", nanoseconds / 1000, nanoseconds % 1000 / 100)
 }
 
-/// What stands behind a word.
-fn print_part<R: AllocGlobal + Print + Clock>(rt: &R, part: &str) -> io::Result<()> {
+/// The part of that name, `timelines`, `indexes`, `audiences` or `bodies`, and how long it takes.
+pub fn print_part_times<R: AllocGlobal + Print + Clock>(rt: &R, part: &str) -> io::Result<()> {
     match part {
         "timelines" => print_timelines(rt, true),
         "indexes" => print_indexes(rt, true),
@@ -32,8 +28,8 @@ fn print_part<R: AllocGlobal + Print + Clock>(rt: &R, part: &str) -> io::Result<
     }
 }
 
-/// All by count.
-fn print_all<R: AllocGlobal + Print + Clock>(rt: &R) -> io::Result<()> {
+/// All parts by count.
+pub fn print_part_counts<R: AllocGlobal + Print + Clock>(rt: &R) -> io::Result<()> {
     print_timelines(rt, false)?;
     println!(rt)?;
     print_indexes(rt, false)?;
@@ -41,11 +37,4 @@ fn print_all<R: AllocGlobal + Print + Clock>(rt: &R) -> io::Result<()> {
     print_all_audiences(rt, false)?;
     println!(rt)?;
     print_bodies(rt, false)
-}
-
-fn main(rt: HostRuntime) -> io::Result<()> {
-    match word(&rt, 1)? {
-        Some(part) => print_part(&rt, part.as_str()),
-        None => print_all(&rt),
-    }
 }

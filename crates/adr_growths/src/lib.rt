@@ -1,10 +1,5 @@
 //! Makes each call of a book, a desk and a board that may take memory, for a test that refuses growths of memory from
 //! outside.
-//!
-//! Standard input has parts, with an empty line between two. The first line of a part is `book`, `desk` or `board`, and
-//! what the others may be stands with each. Before a call stands a line that names it, by which the test knows where to count
-//! growths. Where the call is refused for want of memory, what is there is compared with another that the same calls made,
-//! or with what was there before, and the call is made again.
 #![tactic(auto)]
 
 mod board;
@@ -28,14 +23,18 @@ fn try_part<R: AllocGlobal + Print + Wait + Threads + Sync>(rt: &R, part: &str) 
     }
 }
 
-fn try_parts<R: AllocGlobal + Print + Wait + Threads + Sync>(rt: &R, text: &str) -> io::Result<()> {
+/// Makes the calls of a text of parts, with an empty line between two. The first line of a part is `book`, `desk` or
+/// `board`, and what the others may be stands with each.
+///
+/// Before a call stands a line that names it, by which the test knows where to count growths. Where the call is refused for
+/// want of memory, what is there is compared with another that the same calls made, or with what was there before, and the
+/// call is made again.
+pub fn try_parts<R: AllocGlobal + Print + Wait + Threads + Sync>(
+    rt: &R,
+    text: &str,
+) -> io::Result<()> {
     for part in text.split("\n\n") {
         try_part(rt, part)?;
     }
     Ok(())
-}
-
-fn main(rt: HostRuntime) -> io::Result<()> {
-    let text = io::read_to_string(rt.alloc(), rt.reader())?;
-    try_parts(&rt, text.as_str())
 }

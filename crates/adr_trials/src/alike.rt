@@ -1,23 +1,15 @@
-//! Runs random scripts beside the plain machine, which scans: the replies must be the same bytes.
-//!
-//! With no word, short scripts and long ones under each rule for ties, by one worker and by three. With `FIRST COUNT`: a
-//! script of 400 lines for each of so many seeds from the first on. Where a script is answered otherwise, its seed is told.
-#![tactic(auto)]
-
+//! Random scripts beside the plain machine, which scans: the replies must be the same bytes.
 ghost use Rattle.std.specs.Prelude.{◌<◌, ◌≤◌};
-
-mod lines;
-mod plain;
-mod scripts;
 
 use crate::scripts::{Scripts, first_unlike};
 use adr_server::Tie;
 use adr_test_values::word;
 use std::io;
+use std::rt::Env;
 use std::sync::Wait;
 use std::thread::Threads;
 
-/// What the gate runs.
+/// Short scripts and long ones.
 const SCRIPTS: [Scripts; 2] = [
     Scripts {
         first: 0,
@@ -61,7 +53,7 @@ fn print_alike<R: AllocGlobal + Print + Threads + Wait + Sync>(
 }
 
 /// Runs the scripts under both rules for ties, by one worker and by three.
-fn print_all<R: AllocGlobal + Print + Threads + Wait + Sync>(
+fn print_scripts<R: AllocGlobal + Print + Threads + Wait + Sync>(
     rt: &R,
     scripts: Scripts,
 ) -> io::Result<()> {
@@ -72,22 +64,31 @@ fn print_all<R: AllocGlobal + Print + Threads + Wait + Sync>(
     Ok(())
 }
 
-/// A number of the command line, or zero.
+/// A number, or zero.
 fn number(word: Option<String>) -> u64 {
     word.and_then(|word| word.parse::<u64>().ok()).unwrap_or(0)
 }
 
-fn main(rt: HostRuntime) -> io::Result<()> {
-    if let Some(first) = word(&rt, 1)? {
-        let scripts = Scripts {
-            first: number(Some(first)),
-            count: number(word(&rt, 2)?),
-            lines: 400,
-        };
-        return print_all(&rt, scripts);
-    }
+/// Short scripts and long ones.
+fn print_all_scripts<R: AllocGlobal + Print + Threads + Wait + Sync>(rt: &R) -> io::Result<()> {
     for scripts in SCRIPTS {
-        print_all(&rt, scripts)?;
+        print_scripts(rt, scripts)?;
     }
     Ok(())
+}
+
+/// With no further words, short scripts and long ones; with two numbers, a script of 400 lines for each of so many seeds,
+/// from the first one on.
+pub(crate) fn print_random<R: AllocGlobal + Print + Threads + Wait + Env + Sync>(
+    rt: &R,
+) -> io::Result<()> {
+    let Some(first) = word(rt, 2)? else {
+        return print_all_scripts(rt);
+    };
+    let scripts = Scripts {
+        first: number(Some(first)),
+        count: number(word(rt, 3)?),
+        lines: 400,
+    };
+    print_scripts(rt, scripts)
 }

@@ -1,0 +1,62 @@
+//! What is measured of the parts, of desks and of boards, random scripts beside the plain machine, and calls whose growths
+//! of memory are refused from outside.
+//!
+//! With no word, all that is measured, by count, and then the calls that standard input says. With a word, what it names
+//! alone: `timelines`, `indexes`, `audiences` or `bodies`; `desks`, `workloads` or `crews`; `books`, `boards`, `looks`,
+//! `live COUNT` or `hold COUNT`, and how long that takes; `growths`, the calls that standard input says; or `alike`, random
+//! scripts, and `alike FIRST COUNT`, one for each of so many seeds. Where a script is answered otherwise, its seed is told.
+#![tactic(auto)]
+
+mod alike;
+mod lines;
+mod plain;
+mod scripts;
+
+use crate::alike::print_random;
+use adr_bench_boards::{print_board_counts, print_board_times};
+use adr_bench_desks::{print_desk_counts, print_desk_times};
+use adr_bench_parts::{print_part_counts, print_part_times};
+use adr_growths::try_parts;
+use adr_test_values::word;
+use std::io;
+
+fn try_growths(rt: &HostRuntime) -> io::Result<()> {
+    let text = io::read_to_string(rt.alloc(), rt.reader())?;
+    try_parts(rt, text.as_str())
+}
+
+/// All by count.
+fn print_counts(rt: &HostRuntime) -> io::Result<()> {
+    print_part_counts(rt)?;
+    println!(rt)?;
+    print_desk_counts(rt)?;
+    println!(rt)?;
+    print_board_counts(rt)?;
+    println!(rt)?;
+    try_growths(rt)
+}
+
+/// The number that stands behind the first word, or 1.
+fn count(rt: &HostRuntime) -> io::Result<u64> {
+    let count = word(rt, 2)?;
+    let count = count.as_deref().unwrap_or("");
+    Ok(count.parse::<u64>().unwrap_or(1))
+}
+
+/// What stands behind a word.
+fn print_named(rt: &HostRuntime, name: &str) -> io::Result<()> {
+    match name {
+        "timelines" | "indexes" | "audiences" | "bodies" => print_part_times(rt, name),
+        "desks" | "workloads" | "crews" => print_desk_times(rt, name),
+        "alike" => print_random(rt),
+        "growths" => try_growths(rt),
+        _ => print_board_times(rt, name, count(rt)?),
+    }
+}
+
+fn main(rt: HostRuntime) -> io::Result<()> {
+    match word(&rt, 1)? {
+        Some(name) => print_named(&rt, name.as_str()),
+        None => print_counts(&rt),
+    }
+}
