@@ -220,11 +220,14 @@ impl<K: Key, V: TryClone> Tree<K, V> {
         };
         let node: &Node<K, V> = node;
         match node.left.split_first(alloc)? {
-            None => Ok(Some(First {
-                key: node.key.try_clone()?,
-                value: node.value.try_clone()?,
-                rest: node.right.copy()?,
-            })),
+            None => {
+                let (key, value) = node.entry()?;
+                Ok(Some(First {
+                    key,
+                    value,
+                    rest: node.right.copy()?,
+                }))
+            }
             Some(first) => Ok(Some(First {
                 key: first.key,
                 value: first.value,
@@ -243,18 +246,20 @@ struct First<K: Key, V: TryClone> {
 }
 
 impl<K: Key, V: TryClone> Node<K, V> {
+    // Copies of the key and the value.
+    fn entry(&self) -> Result<(K, V), Refusal>
+        ensures { IsCopyOf result (self.now.key, self.now.value) }
+    {
+        Ok((self.key.try_clone()?, self.value.try_clone()?))
+    }
+
     // The tree with this node's entry and right side, and another left side.
     fn with_left(&self, alloc: Global, left: Tree<K, V>) -> Result<Tree<K, V>, Refusal>
         requires { DifferByAtMost 2 left.1 self.now.right.1 }
         ensures { IsBalanced result left (K.code self.now.key) self.now.value self.now.right }
     {
-        balance(
-            alloc,
-            left,
-            self.key.try_clone()?,
-            self.value.try_clone()?,
-            self.right.copy()?,
-        )
+        let (key, value) = self.entry()?;
+        balance(alloc, left, key, value, self.right.copy()?)
     }
 
     // The tree with this node's entry and left side, and another right side.
@@ -262,13 +267,66 @@ impl<K: Key, V: TryClone> Node<K, V> {
         requires { DifferByAtMost 2 self.now.left.1 right.1 }
         ensures { IsBalanced result self.now.left (K.code self.now.key) self.now.value right }
     {
-        balance(
-            alloc,
-            self.left.copy()?,
-            self.key.try_clone()?,
-            self.value.try_clone()?,
-            right,
-        )
+        let (key, value) = self.entry()?;
+        balance(alloc, self.left.copy()?, key, value, right)
+    }
+
+    // The tree of this node's entry between two other sides, whose heights differ by at most one.
+    fn fork(
+        &self,
+        alloc: Global,
+        left: Tree<K, V>,
+        right: Tree<K, V>,
+    ) -> Result<Tree<K, V>, Refusal>
+        requires { DifferByAtMost 1 left.1 right.1 }
+        ensures { IsCopyOf result (left.0 ++ (K.code self.now.key, self.now.value) ∷ right.0, max left.1 right.1 + 1) }
+    {
+        let (key, value) = self.entry()?;
+        fork(alloc, left, key, value, right)
+    }
+
+    // The same with its own right side.
+    fn fork_left(&self, alloc: Global, left: Tree<K, V>) -> Result<Tree<K, V>, Refusal>
+        requires { DifferByAtMost 1 left.1 self.now.right.1 }
+        ensures { IsCopyOf result (left.0 ++ (K.code self.now.key, self.now.value) ∷ self.now.right.0, max left.1 self.now.right.1 + 1) }
+    {
+        self.fork(alloc, left, self.right.copy()?)
+    }
+
+    // The same with its own left side.
+    fn fork_right(&self, alloc: Global, right: Tree<K, V>) -> Result<Tree<K, V>, Refusal>
+        requires { DifferByAtMost 1 self.now.left.1 right.1 }
+        ensures { IsCopyOf result (self.now.left.0 ++ (K.code self.now.key, self.now.value) ∷ right.0, max self.now.left.1 right.1 + 1) }
+    {
+        self.fork(alloc, self.left.copy()?, right)
+    }
+
+    // The tree of another entry between a left side and this node's.
+    fn fork_before(
+        &self,
+        alloc: Global,
+        left: Tree<K, V>,
+        key: K,
+        value: V,
+    ) -> Result<Tree<K, V>, Refusal>
+        requires { DifferByAtMost 1 left.1 self.now.left.1 }
+        ensures { IsCopyOf result (left.0 ++ (K.code key, value) ∷ self.now.left.0, max left.1 self.now.left.1 + 1) }
+    {
+        fork(alloc, left, key, value, self.left.copy()?)
+    }
+
+    // The tree of another entry between this node's right side and another.
+    fn fork_after(
+        &self,
+        alloc: Global,
+        key: K,
+        value: V,
+        right: Tree<K, V>,
+    ) -> Result<Tree<K, V>, Refusal>
+        requires { DifferByAtMost 1 self.now.right.1 right.1 }
+        ensures { IsCopyOf result (self.now.right.0 ++ (K.code key, value) ∷ right.0, max self.now.right.1 right.1 + 1) }
+    {
+        fork(alloc, self.right.copy()?, key, value, right)
     }
 }
 
@@ -350,34 +408,18 @@ fn lean_left<K: Key, V: TryClone>(
     let Some(outer) = &left.node else {
         unreachable!()
     };
+    let outer: &Node<K, V> = outer;
     if outer.left.height() >= outer.right.height() {
-        let side = fork(alloc, outer.right.copy()?, key, value, right)?;
-        return fork(
-            alloc,
-            outer.left.copy()?,
-            outer.key.try_clone()?,
-            outer.value.try_clone()?,
-            side,
-        );
+        let side = outer.fork_after(alloc, key, value, right)?;
+        return outer.fork_right(alloc, side);
     }
     let Some(inner) = &outer.right.node else {
         unreachable!()
     };
-    let below = fork(
-        alloc,
-        outer.left.copy()?,
-        outer.key.try_clone()?,
-        outer.value.try_clone()?,
-        inner.left.copy()?,
-    )?;
-    let above = fork(alloc, inner.right.copy()?, key, value, right)?;
-    fork(
-        alloc,
-        below,
-        inner.key.try_clone()?,
-        inner.value.try_clone()?,
-        above,
-    )
+    let inner: &Node<K, V> = inner;
+    let above = inner.fork_after(alloc, key, value, right)?;
+    let below = outer.fork_right(alloc, inner.left.copy()?)?;
+    inner.fork(alloc, below, above)
 }
 
 // The tree of an entry between two sides, the right of which is two higher.
@@ -394,34 +436,18 @@ fn lean_right<K: Key, V: TryClone>(
     let Some(outer) = &right.node else {
         unreachable!()
     };
+    let outer: &Node<K, V> = outer;
     if outer.right.height() >= outer.left.height() {
-        let side = fork(alloc, left, key, value, outer.left.copy()?)?;
-        return fork(
-            alloc,
-            side,
-            outer.key.try_clone()?,
-            outer.value.try_clone()?,
-            outer.right.copy()?,
-        );
+        let side = outer.fork_before(alloc, left, key, value)?;
+        return outer.fork_left(alloc, side);
     }
     let Some(inner) = &outer.left.node else {
         unreachable!()
     };
-    let below = fork(alloc, left, key, value, inner.left.copy()?)?;
-    let above = fork(
-        alloc,
-        inner.right.copy()?,
-        outer.key.try_clone()?,
-        outer.value.try_clone()?,
-        outer.right.copy()?,
-    )?;
-    fork(
-        alloc,
-        below,
-        inner.key.try_clone()?,
-        inner.value.try_clone()?,
-        above,
-    )
+    let inner: &Node<K, V> = inner;
+    let below = inner.fork_before(alloc, left, key, value)?;
+    let above = outer.fork_left(alloc, inner.right.copy()?)?;
+    inner.fork(alloc, below, above)
 }
 
 // The tree of the entries of two sides whose heights differ by at most one.
