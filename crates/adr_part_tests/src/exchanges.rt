@@ -3,12 +3,11 @@ ghost use Rattle.std.specs.Prelude.{◌≡◌, ◌+◌, ◌∷◌, [], IfOk, OnO
 ghost use Rattle.adr_part_tests.specs.Numbers.{AreBelow, IsEvent};
 
 use crate::moments::at;
-use crate::plain::put;
+use crate::plain::{Query, finds_alike, put, put_all, remove_all};
 use crate::random::below;
 use adr_index::{Entry, Index};
 use adr_model::Rank;
-use adr_rule::Meter;
-use adr_time::{End, Moment, Span, covers, meets};
+use adr_time::{End, Moment, Span};
 use adr_value::Refusal;
 use std::alloc::Global;
 
@@ -19,9 +18,6 @@ struct Course {
     event: u32,
     asked: u32,
 }
-
-/// More entries there never are.
-const MOST: usize = 5000;
 
 /// The instants at which entries start.
 const INSTANTS: u32 = 600;
@@ -113,11 +109,12 @@ fn entries_of(
     written: u64,
     seed: &mut u64,
 ) -> Result<Vec<Entry>, Refusal> {
-    let mut entries: Vec<Entry> = plain
-        .iter()
-        .filter(|entry| entry.rank.written == written)
-        .copied()
-        .collect(alloc)?;
+    let mut entries = Vec::new(alloc);
+    for entry in plain {
+        if entry.rank.written == written {
+            entries.push(*entry)?;
+        }
+    }
     if below(seed, 4) == 0 {
         entries.reverse();
     }
@@ -152,11 +149,8 @@ fn write_event(
     let count = below(seed, course.event);
     let new = event(alloc, seed, written, count)?;
     exchange(index, &old, &new, written)?;
-    plain.retain(|entry| entry.rank.written != number);
-    for entry in &new {
-        put(plain, entry)?;
-    }
-    Ok(())
+    remove_all(plain, number);
+    put_all(plain, &new)
 }
 
 /// Adds one entry to the index and to the plain list.
@@ -220,103 +214,40 @@ fn edit(
     Ok(true)
 }
 
-fn are_same(found: &[Entry], wanted: &[Entry]) -> bool {
-    for (one, other) in found.iter().zip(wanted) {
-        let (first, second) = (one.rank, other.rank);
-        let is_rank = first.priority == second.priority && first.late == second.late;
-        let is_named = first.written == second.written && first.place == second.place;
-        if !is_rank || !is_named || one.span != other.span {
-            return false;
-        }
-    }
-    found.len() == wanted.len()
-}
-
-/// Whether those that cover the moment are found, counted or not.
-fn covers_alike(
-    alloc: Global,
-    index: &Index,
-    plain: &[Entry],
-    moment: Moment,
-) -> Result<bool, Refusal> {
-    if index.len() > MOST {
-        return Ok(false);
-    }
-    let wanted: Vec<Entry> = plain
-        .iter()
-        .filter(|entry| covers(&entry.span, moment))
-        .copied()
-        .collect(alloc)?;
-    let mut meter = Meter::new();
-    let counted = index.covering_counted(moment, &mut meter)?;
-    let found = index.covering(moment)?;
-    Ok(are_same(&found, &wanted) && are_same(&counted, &wanted))
-}
-
-/// Whether those that meet the window are found, counted or not.
-fn meets_alike(
-    alloc: Global,
-    index: &Index,
-    plain: &[Entry],
-    window: Span,
-) -> Result<bool, Refusal> {
-    if index.len() > MOST {
-        return Ok(false);
-    }
-    let wanted: Vec<Entry> = plain
-        .iter()
-        .filter(|entry| meets(&entry.span, &window))
-        .copied()
-        .collect(alloc)?;
-    let mut meter = Meter::new();
-    let counted = index.overlapping_counted(window, &mut meter)?;
-    let found = index.overlapping(window)?;
-    Ok(are_same(&found, &wanted) && are_same(&counted, &wanted))
-}
-
 /// Whether the index has as many entries as the plain list, and answers a moment and a window alike.
-fn answers_alike(
-    alloc: Global,
-    index: &Index,
-    plain: &[Entry],
-    seed: &mut u64,
-) -> Result<bool, Refusal> {
+fn answers_alike(index: &Index, plain: &[Entry], seed: &mut u64) -> Result<bool, Refusal> {
     let start = random_moment(seed);
     let end = random_end(seed, start);
+    let window = Span { start, end };
     Ok(
         index.len() == plain.len()
-            && covers_alike(alloc, index, plain, start)?
-            && meets_alike(alloc, index, plain, Span { start, end })?,
+            && finds_alike(index, plain, &Query::At(start))?
+            && finds_alike(index, plain, &Query::Within(window))?,
     )
 }
 
 /// Whether the index answers alike at the moment, just before it, and between the two.
-fn answers_alike_at(
-    alloc: Global,
-    index: &Index,
-    plain: &[Entry],
-    moment: Moment,
-) -> Result<bool, Refusal> {
+fn answers_alike_at(index: &Index, plain: &[Entry], moment: Moment) -> Result<bool, Refusal> {
     let before = at(moment.nanoseconds() - 1);
     let window = Span {
         start: before,
         end: End::At(moment),
     };
     Ok(
-        covers_alike(alloc, index, plain, moment)?
-            && covers_alike(alloc, index, plain, before)?
-            && meets_alike(alloc, index, plain, window)?,
+        finds_alike(index, plain, &Query::At(moment))?
+            && finds_alike(index, plain, &Query::At(before))?
+            && finds_alike(index, plain, &Query::Within(window))?,
     )
 }
 
 /// Whether the index answers alike wherever an entry starts or ends.
-fn answers_alike_at_all(alloc: Global, index: &Index, plain: &[Entry]) -> Result<bool, Refusal> {
+fn answers_alike_at_all(index: &Index, plain: &[Entry]) -> Result<bool, Refusal> {
     for entry in plain {
-        if !answers_alike_at(alloc, index, plain, entry.span.start)? {
+        if !answers_alike_at(index, plain, entry.span.start)? {
             return Ok(false);
         }
         if let End::At(end) = entry.span.end {
-            if !answers_alike_at(alloc, index, plain, end)? {
+            if !answers_alike_at(index, plain, end)? {
                 return Ok(false);
             }
         }
@@ -333,16 +264,29 @@ enum Size {
     Large,
 }
 
+const SMALL: Course = Course {
+    entries: 16,
+    event: 4,
+    asked: 16,
+};
+
+const GROWING: Course = Course {
+    entries: 320,
+    event: 100,
+    asked: 200,
+};
+
+const SHRINKING: Course = Course {
+    entries: 12,
+    event: 4,
+    asked: 30,
+};
+
 fn course_at(size: Size, written: u64) -> Course {
-    let (entries, event, asked) = match size {
-        Size::Small => (16, 4, 16),
-        Size::Large if written / 100 % 2 == 0 => (320, 100, 200),
-        Size::Large => (12, 4, 30),
-    };
-    Course {
-        entries,
-        event,
-        asked,
+    match size {
+        Size::Small => SMALL,
+        Size::Large if written / 100 % 2 == 0 => GROWING,
+        Size::Large => SHRINKING,
     }
 }
 
@@ -361,17 +305,17 @@ fn are_exchanged(
     for written in 0..exchanges {
         let course = course_at(size, written);
         if !edit(alloc, index, plain, course, &mut seed, written)?
-            || !answers_alike(alloc, index, plain, &mut seed)?
+            || !answers_alike(index, plain, &mut seed)?
         {
             return Ok(false);
         }
         let is_asked = below(&mut seed, course.asked) == 0;
-        if is_asked && !answers_alike_at_all(alloc, index, plain)? {
+        if is_asked && !answers_alike_at_all(index, plain)? {
             return Ok(false);
         }
     }
     let copy = index.copy()?;
-    let is_alike = answers_alike_at_all(alloc, &copy, plain);
+    let is_alike = answers_alike_at_all(&copy, plain);
     drop(copy);
     Ok(is_alike? && index.len() == plain.len())
 }

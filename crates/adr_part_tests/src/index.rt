@@ -3,12 +3,12 @@ ghost use Rattle.std.specs.Prelude.{IfOk};
 ghost use Rattle.adr_part_tests.specs.Numbers.{AreRising};
 
 use crate::moments::at;
-use crate::plain;
+use crate::plain::{self, Query, finds_alike, is_same};
 use crate::random::next;
-use crate::spans::{endless, entry, span, tell_span};
+use crate::spans::{endless, entry, span};
 use adr_index::{Entry, Index};
 use adr_rule::Meter;
-use adr_time::{End, Moment, Span, covers, meets};
+use adr_time::{End, Span};
 use adr_value::Refusal;
 use std::alloc::Global;
 use std::test::Fail;
@@ -19,53 +19,59 @@ fn put(index: &mut Index, entry: Entry) -> Result<(), Refusal> {
     index.insert(entry)
 }
 
+/// The entry of that written number, of three.
+fn numbered(written: u64) -> Entry {
+    match written {
+        4 => entry(5, 4, span(0, 10)),
+        5 => entry(1, 5, span(5, 15)),
+        _ => entry(9, 6, endless(10)),
+    }
+}
+
 /// The last of the three comes first, so that the index has something to put in order.
 fn three(alloc: Global) -> Result<Index, Refusal> {
     let mut index = Index::new(alloc);
-    put(&mut index, entry(9, 6, endless(10)))?;
-    put(&mut index, entry(5, 4, span(0, 10)))?;
-    put(&mut index, entry(1, 5, span(5, 15)))?;
+    for written in [6, 4, 5] {
+        put(&mut index, numbered(written))?;
+    }
     Ok(index)
 }
 
-/// Writes the entry as `[PRIORITY WRITTEN PLACE START END]`.
-fn tell(text: &mut String, entry: &Entry) -> Result<(), Refusal> {
-    let rank = entry.rank;
-    write!(text, "[{} {} {} ", rank.priority, rank.written, rank.place)?;
-    tell_span(text, entry.span.start, entry.span.end)?;
-    Ok(text.push(']')?)
-}
-
-/// Whether these entries were found, as [`tell`] writes them, in this order, and no others.
-fn are(alloc: Global, found: &[Entry], wanted: &str) -> Result<bool, Refusal> {
-    let mut text = String::new(alloc);
+/// Whether those of the three that have these written numbers were found, in this order, and no others.
+fn are(found: &[Entry], wanted: &[u64]) -> bool {
+    let mut rest = wanted;
     for entry in found {
-        tell(&mut text, entry)?;
+        let Some((written, later)) = rest.split_first() else {
+            return false;
+        };
+        if !is_same(entry, &numbered(*written)) {
+            return false;
+        }
+        rest = later;
     }
-    Ok(text.as_str() == wanted)
+    rest.is_empty()
 }
 
-const FIRST: &str = "[5 4 0 0 10]";
-
-const BOTH: &str = "[5 4 0 0 10][1 5 0 5 15]";
-
-const LATER: &str = "[1 5 0 5 15][9 6 0 10 -]";
-
-const LAST: &str = "[9 6 0 10 -]";
-
-const ALL: &str = "[5 4 0 0 10][1 5 0 5 15][9 6 0 10 -]";
+/// Moments, and the written numbers of those of the three that cover them.
+const COVERING: [(i128, &[u64]); 5] = [
+    (-1, &[]),
+    (0, &[4]),
+    (5, &[4, 5]),
+    (10, &[5, 6]),
+    (15, &[6]),
+];
 
 /// Whether what meets a window of the three is found.
-fn finds_what_overlaps(alloc: Global, index: &Index) -> Result<bool, Refusal> {
-    let windows = [
-        (span(9, 10), BOTH),
-        (span(0, 20), ALL),
-        (span(-5, 0), ""),
-        (span(7, 7), ""),
-        (endless(15), LAST),
+fn finds_what_overlaps(index: &Index) -> Result<bool, Refusal> {
+    let windows: [(Span, &[u64]); 5] = [
+        (span(9, 10), &[4, 5]),
+        (span(0, 20), &[4, 5, 6]),
+        (span(-5, 0), &[]),
+        (span(7, 7), &[]),
+        (endless(15), &[6]),
     ];
     for (window, wanted) in windows {
-        if !are(alloc, &index.overlapping(window)?, wanted)? {
+        if !are(&index.overlapping(window)?, wanted) {
             return Ok(false);
         }
     }
@@ -73,21 +79,26 @@ fn finds_what_overlaps(alloc: Global, index: &Index) -> Result<bool, Refusal> {
 }
 
 /// Whether what covers a moment of the three is found, and what meets a window.
-fn finds_all(alloc: Global, index: &Index) -> Result<bool, Refusal> {
-    for (moment, wanted) in [(-1, ""), (0, FIRST), (5, BOTH), (10, LATER), (15, LAST)] {
-        if !are(alloc, &index.covering(at(moment))?, wanted)? {
+fn finds_all(index: &Index) -> Result<bool, Refusal> {
+    for (moment, wanted) in COVERING {
+        if !are(&index.covering(at(moment))?, wanted) {
             return Ok(false);
         }
     }
-    finds_what_overlaps(alloc, index)
+    finds_what_overlaps(index)
+}
+
+/// Whether what covers the moment 5 is the first of the three alone.
+fn finds_first_alone(index: &Index) -> Result<bool, Refusal> {
+    Ok(are(&index.covering(at(5))?, &[4]))
 }
 
 #[test]
 fn entries_are_found(rt: HostRuntime) -> Result<(), Fail> {
     let index = three(rt.alloc())?;
-    let are_found = finds_all(rt.alloc(), &index);
+    let are_found = finds_all(&index);
     let copy = index.copy()?;
-    let are_found_in_copy = finds_all(rt.alloc(), &copy);
+    let are_found_in_copy = finds_all(&copy);
     drop(copy);
     drop(index);
     assert!(rt; are_found == Ok(true) && are_found_in_copy == Ok(true));
@@ -100,9 +111,9 @@ fn entries_are_removed_once(rt: HostRuntime) -> Result<(), Fail> {
     let mut index = three(rt.alloc())?;
     let copy = index.copy()?;
     let is_found = index.remove(5, 0);
-    let is_left_out = are(rt.alloc(), &index.covering(at(5))?, FIRST);
+    let is_left_out = finds_first_alone(&index);
     let is_found_again = index.remove(5, 0);
-    let are_kept = finds_all(rt.alloc(), &copy);
+    let are_kept = finds_all(&copy);
     drop(copy);
     drop(index);
     assert!(rt; is_found && is_left_out == Ok(true) && !is_found_again);
@@ -116,7 +127,7 @@ fn entries_without_instants_are_kept_and_never_found(rt: HostRuntime) -> Result<
     put(&mut index, entry(0, 7, span(7, 7)))?;
     put(&mut index, entry(0, 8, span(9, 3)))?;
     let count = index.len();
-    let are_found = finds_all(rt.alloc(), &index);
+    let are_found = finds_all(&index);
     let is_taken_out = index.remove(8, 0);
     drop(index);
     assert!(rt; count == 5 && are_found == Ok(true) && is_taken_out);
@@ -138,9 +149,17 @@ fn reserved_room_is_there(rt: HostRuntime) -> Result<(), Fail> {
     Ok(())
 }
 
+/// Whether the entry was found, and no other.
+fn is_one(found: &[Entry], wanted: &Entry) -> bool {
+    match found.split_first() {
+        Some((first, others)) => others.is_empty() && is_same(first, wanted),
+        None => false,
+    }
+}
+
 /// Whether one of 4,096 entries, each of which covers an instant of its own, is found by a moment and by a window, with few
 /// looks at each.
-fn finds_one_of_many(alloc: Global, index: &mut Index) -> Result<bool, Refusal> {
+fn finds_one_of_many(index: &mut Index) -> Result<bool, Refusal> {
     for number in 0..4096u32 {
         let start = i128::from(number);
         put(index, entry(0, u64::from(number), span(start, start + 1)))?;
@@ -153,14 +172,14 @@ fn finds_one_of_many(alloc: Global, index: &mut Index) -> Result<bool, Refusal> 
     let mut other = Meter::new();
     let meeting = index.overlapping_counted(span(100, 101), &mut other)?;
     let are_few = meter.count() <= 112 && other.count() <= 112;
-    let wanted = "[0 100 0 100 101]";
-    Ok(are_few && are(alloc, &covering, wanted)? && are(alloc, &meeting, wanted)?)
+    let wanted = entry(0, 100, span(100, 101));
+    Ok(are_few && is_one(&covering, &wanted) && is_one(&meeting, &wanted))
 }
 
 #[test]
 fn few_of_many_entries_are_looked_at(rt: HostRuntime) {
     let mut index = Index::new(rt.alloc());
-    let is_found = finds_one_of_many(rt.alloc(), &mut index);
+    let is_found = finds_one_of_many(&mut index);
     drop(index);
     assert!(rt; is_found == Ok(true));
 }
@@ -169,7 +188,7 @@ fn few_of_many_entries_are_looked_at(rt: HostRuntime) {
 fn edit(index: &mut Index, plain: &mut Vec<Entry>, seed: &mut u64) -> Result<(), Refusal> {
     let number = next(seed) % 1000;
     let _ = index.remove(number, 0);
-    plain.retain(|other| other.rank.written != number);
+    plain::remove_all(plain, number);
     if next(seed) % 4 == 0 {
         return Ok(());
     }
@@ -180,37 +199,23 @@ fn edit(index: &mut Index, plain: &mut Vec<Entry>, seed: &mut u64) -> Result<(),
     put(index, new)
 }
 
-/// Whether the index answers a moment and a window as the plain list does.
-fn answers_alike(
-    alloc: Global,
-    index: &Index,
-    plain: &[Entry],
-    seed: &mut u64,
-) -> Result<bool, Refusal> {
+/// Whether the index has as many entries as the plain list, and answers a moment and a window alike.
+fn answers_alike(index: &Index, plain: &[Entry], seed: &mut u64) -> Result<bool, Refusal> {
     let start = i128::from(next(seed) % 500);
     let window = span(start, start + i128::from(next(seed) % 9));
-    let mut covering = String::new(alloc);
-    let mut meeting = String::new(alloc);
-    for entry in plain {
-        if covers(&entry.span, at(start)) {
-            tell(&mut covering, entry)?;
-        }
-        if meets(&entry.span, &window) {
-            tell(&mut meeting, entry)?;
-        }
-    }
     Ok(
-        are(alloc, &index.covering(at(start))?, covering.as_str())?
-            && are(alloc, &index.overlapping(window)?, meeting.as_str())?,
+        index.len() == plain.len()
+            && finds_alike(index, plain, &Query::At(at(start)))?
+            && finds_alike(index, plain, &Query::Within(window))?,
     )
 }
 
 /// Whether the index answers alike after each of many edits.
-fn edits_alike(alloc: Global, index: &mut Index, plain: &mut Vec<Entry>) -> Result<bool, Refusal> {
+fn edits_alike(index: &mut Index, plain: &mut Vec<Entry>) -> Result<bool, Refusal> {
     let mut seed = 1;
     for _ in 0..4000 {
         edit(index, plain, &mut seed)?;
-        if index.len() != plain.len() || !answers_alike(alloc, index, plain, &mut seed)? {
+        if !answers_alike(index, plain, &mut seed)? {
             return Ok(false);
         }
     }
@@ -222,7 +227,7 @@ fn edits_alike(alloc: Global, index: &mut Index, plain: &mut Vec<Entry>) -> Resu
 fn many_edits_are_answered_as_by_a_plain_list(rt: HostRuntime) {
     let mut index = Index::new(rt.alloc());
     let mut plain = Vec::new(rt.alloc());
-    let are_alike = edits_alike(rt.alloc(), &mut index, &mut plain);
+    let are_alike = edits_alike(&mut index, &mut plain);
     index.replace(&plain, &[]);
     let count = index.len();
     drop(plain);
@@ -253,21 +258,19 @@ fn random_entries(alloc: Global, count: u32, among: u64) -> Result<Vec<Entry>, R
 /// The same in a plain list, each put in its place.
 fn listed(alloc: Global, entries: &[Entry]) -> Result<Vec<Entry>, Refusal> {
     let mut plain = Vec::new(alloc);
-    for entry in entries {
-        plain::put(&mut plain, entry)?;
-    }
+    plain::put_all(&mut plain, entries)?;
     Ok(plain)
 }
 
-/// Whether the index has as many entries as the plain list, and answers alike many times.
-fn is_alike(alloc: Global, index: &Index, plain: &[Entry]) -> Result<bool, Refusal> {
+/// Whether the index answers alike many times.
+fn is_alike(index: &Index, plain: &[Entry]) -> Result<bool, Refusal> {
     let mut seed = 3;
     for _ in 0..40 {
-        if !answers_alike(alloc, index, plain, &mut seed)? {
+        if !answers_alike(index, plain, &mut seed)? {
             return Ok(false);
         }
     }
-    Ok(index.len() == plain.len())
+    Ok(true)
 }
 
 /// Whether an index that is filled at once answers as the plain list does.
@@ -275,7 +278,7 @@ fn fills_alike(alloc: Global, count: u32, among: u64) -> Result<bool, Refusal> {
     let entries = random_entries(alloc, count, among)?;
     let plain = listed(alloc, &entries)?;
     let index = Index::of(alloc, entries)?;
-    let is_alike = is_alike(alloc, &index, &plain);
+    let is_alike = is_alike(&index, &plain);
     drop(index);
     drop(plain);
     is_alike

@@ -1,15 +1,12 @@
 //! Many repairs of a timeline beside a plain list of who governs at each instant from 0 on, of which the last one stands
 //! for all later instants too.
-ghost use Rattle.std.specs.Prelude.{◌≡◌, ◌<◌, ◌≤◌, true, length, IfOk};
-ghost use Rattle.adr_timeline.specs.Chunks.{listed};
-
 use crate::moments::at;
 use crate::random::below;
 use crate::segments::segments_in;
 use adr_model::{Entry, Rank, Segment, Winner};
 use adr_rule::Meter;
 use adr_time::{End, Moment, Span, covers};
-use adr_timeline::{Chunk, Ranks, Source, Timeline, are_apart, first_run, is_run};
+use adr_timeline::{Ranks, Source, Timeline, are_apart, first_run, is_run};
 use adr_value::Refusal;
 use std::alloc::Global;
 use std::test::Fail;
@@ -98,12 +95,21 @@ fn least(entries: &[Entry], moment: Moment) -> Option<Winner> {
     least
 }
 
+fn any_covers(windows: &[Span], moment: Moment) -> bool {
+    for window in windows {
+        if covers(window, moment) {
+            return true;
+        }
+    }
+    false
+}
+
 /// Writes into the list what the entries show in the windows.
-fn write_shown(shown: &mut [Option<Winner>], windows: &[Span], entries: &[Entry]) {
+pub(crate) fn write_shown(shown: &mut [Option<Winner>], windows: &[Span], entries: &[Entry]) {
     let mut moment = 0;
     for governor in shown.iter_mut() {
         let here = at(i128::from(moment));
-        if windows.iter().any(|window| covers(window, here)) {
+        if any_covers(windows, here) {
             *governor = least(entries, here);
         }
         moment = u32::wrapping_add(moment, 1);
@@ -192,6 +198,13 @@ fn random_windows(alloc: Global, seed: &mut u64, instants: u32) -> Result<Vec<Sp
     Ok(windows)
 }
 
+/// Windows that are apart.
+fn random_run(alloc: Global, seed: &mut u64, instants: u32) -> Result<Vec<Span>, Refusal> {
+    let mut windows = random_windows(alloc, seed, instants)?;
+    windows.truncate(first_run(&windows));
+    Ok(windows)
+}
+
 /// How many windows from the first on last, each ending before the next one starts, or where it starts.
 fn plain_run(windows: &[Span]) -> usize {
     let mut count = 0;
@@ -212,21 +225,6 @@ fn plain_run(windows: &[Span]) -> usize {
         count = usize::wrapping_add(count, 1);
     }
     count
-}
-
-/// Whether the chunks have so few segments that there is room for their comparisons.
-fn are_few(chunks: &[Chunk]) -> bool
-    ensures { result ≡ true → length (listed chunks.now) ≤ 1000 }
-{
-    let mut left = MOST;
-    for chunk in chunks {
-        let count = chunk.segments().len();
-        if left < count {
-            return false;
-        }
-        left -= count;
-    }
-    true
 }
 
 /// What the entries show in the window, or in none of it where there are too many.
@@ -264,10 +262,23 @@ fn run_laid(timeline: &Timeline, run: &[Entry]) -> Result<Timeline, Refusal> {
 /// The timeline with the entries laid over it, or a copy where there are too many.
 fn laid(timeline: &Timeline, entries: &[Entry]) -> Result<Timeline, Refusal> {
     let mut meter = Meter::new();
-    if entries.len() > MOST || !are_few(timeline.segments()) {
+    if entries.len() > MOST || !timeline.has_at_most(MOST) {
         return timeline.copy();
     }
     timeline.lay_over(entries, &Named, &mut meter)
+}
+
+/// The timeline with the inner one in the windows, or a copy where these aren't apart.
+pub(crate) fn spliced(
+    timeline: &Timeline,
+    windows: &[Span],
+    inner: &Timeline,
+) -> Result<Timeline, Refusal> {
+    if are_apart(windows) {
+        timeline.splice_all(windows, inner)
+    } else {
+        timeline.copy()
+    }
 }
 
 /// The timeline with what the entries show in the window.
@@ -295,11 +306,7 @@ fn repair_all(
 ) -> Result<Timeline, Refusal> {
     write_shown(shown, windows, entries);
     let inner = built_all(alloc, entries, windows)?;
-    let repaired = if are_apart(windows) {
-        timeline.splice_all(windows, &inner)
-    } else {
-        timeline.copy()
-    };
+    let repaired = spliced(timeline, windows, &inner);
     drop(inner);
     repaired
 }
@@ -327,18 +334,16 @@ fn repaired(
             repair_one(alloc, timeline, shown, &windows, &entries)
         }
         1 => {
-            let windows = random_windows(alloc, seed, scale.instants / 2)?;
-            let (run, _) = windows.split_at(first_run(&windows));
-            repair_all(alloc, timeline, shown, run, &entries)
+            let run = random_run(alloc, seed, scale.instants / 2)?;
+            repair_all(alloc, timeline, shown, &run, &entries)
         }
         2 => {
             lay_plainly(shown, &entries);
             laid(timeline, &entries)
         }
         _ => {
-            let windows = random_windows(alloc, seed, scale.instants / 2)?;
-            let (run, _) = windows.split_at(first_run(&windows));
-            let entries = entries_in(alloc, seed, run)?;
+            let run = random_run(alloc, seed, scale.instants / 2)?;
+            let entries = entries_in(alloc, seed, &run)?;
             lay_plainly(shown, &entries);
             run_laid(timeline, &entries)
         }
@@ -346,7 +351,7 @@ fn repaired(
 }
 
 /// Whether the timeline tells the governor at each instant, and none before the first.
-fn governs_alike(timeline: &Timeline, shown: &[Option<Winner>]) -> bool {
+pub(crate) fn governs_alike(timeline: &Timeline, shown: &[Option<Winner>]) -> bool {
     let mut moment = 0;
     for governor in shown {
         if !is_same(&timeline.governor(at(i128::from(moment))), governor) {
@@ -384,14 +389,24 @@ fn segments_of(alloc: Global, shown: &[Option<Winner>]) -> Result<Vec<Segment>, 
     Ok(segments)
 }
 
+fn is_same_segment(one: &Segment, other: &Segment) -> bool {
+    let (winner, wanted) = (one.winner, other.winner);
+    let is_winner = winner.written == wanted.written && winner.place == wanted.place;
+    is_winner && one.start == other.start && one.end == other.end
+}
+
 fn are_same(found: &[Segment], wanted: &[Segment]) -> bool {
-    for (one, other) in found.iter().zip(wanted) {
-        let is_alike = one.start == other.start && one.end == other.end;
-        if !is_alike || !is_same(&Some(one.winner), &Some(other.winner)) {
+    let mut rest = wanted;
+    for one in found {
+        let Some((other, later)) = rest.split_first() else {
+            return false;
+        };
+        if !is_same_segment(one, other) {
             return false;
         }
+        rest = later;
     }
-    found.len() == wanted.len()
+    rest.is_empty()
 }
 
 /// The next change after each segment's start, and after its end, as the segments have it.

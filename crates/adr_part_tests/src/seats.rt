@@ -4,12 +4,18 @@ use adr_value::Refusal;
 use std::alloc::Global;
 use std::test::Fail;
 
+/// Adds a place at a slot that is free, and answers that.
+fn push_free(seats: &mut Seats) -> Result<u64, Refusal> {
+    let slot = seats.free_slot()?;
+    seats.push(slot)?;
+    Ok(slot)
+}
+
 /// Three places at slots of their own, and one that shares the second.
 fn four(alloc: Global) -> Result<Seats, Refusal> {
     let mut seats = Seats::new(alloc);
     for _ in 0..3 {
-        let slot = seats.free_slot()?;
-        seats.push(slot)?;
+        push_free(&mut seats)?;
     }
     seats.push(1)?;
     Ok(seats)
@@ -24,10 +30,8 @@ fn takes_those_left(seats: &mut Seats) -> Result<bool, Refusal> {
     seats.set(0, 1)?;
     let are_moved = seats.slot(0) == Some(1) && seats.slot(2) == Some(1) && seats.slot(4).is_none();
     let are_left = seats.members(1) == 4 && seats.members(0) == 0;
-    let first = seats.free_slot()?;
-    seats.push(first)?;
-    let second = seats.free_slot()?;
-    seats.push(second)?;
+    let first = push_free(seats)?;
+    let second = push_free(seats)?;
     let third = seats.free_slot()?;
     Ok(are_moved && are_left && first == 0 && second == 2 && third == 3)
 }

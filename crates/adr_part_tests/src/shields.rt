@@ -1,6 +1,7 @@
 //! Bodies behind the shield.
 use crate::rows::{Asked, check};
 use adr_value::{Refusal, shield, shield_laws};
+use std::alloc::Global;
 use std::test::Fail;
 
 /// What bodies are behind the shield, and the bodies.
@@ -24,11 +25,15 @@ fn bodies_are_shielded(rt: HostRuntime) -> Result<(), Fail> {
     check(rt.alloc(), Asked::ShieldedBody, BODIES)
 }
 
+/// Whether so many bytes of the body are behind the shield.
+fn has_bytes(alloc: Global, body: &str, wanted: usize) -> Result<bool, Refusal> {
+    Ok(shield(alloc, body.as_bytes())?.len() == wanted)
+}
+
 #[test]
-fn a_shielded_number_takes_eight_bytes_more(rt: HostRuntime) -> Result<(), Fail> {
-    assert_eq!(rt; shield(rt.alloc(), "[0.17]".as_bytes())?.len(), 14);
+fn a_shielded_number_takes_eight_bytes_more(rt: HostRuntime) {
+    assert!(rt; has_bytes(rt.alloc(), "[0.17]", 14) == Ok(true));
     shield_laws();
-    Ok(())
 }
 
 /// Bodies that are refused, parted by bars.
@@ -38,14 +43,18 @@ const REFUSED: &str = "{1 :2}|[\"\\u0000\"]|{\"a\":1,1.5:2}|{\"a\":1,1.5\t\r\n :
 #[test]
 fn bad_bodies_are_refused(rt: HostRuntime) {
     for body in REFUSED.split('|') {
-        let refused = shield(rt.alloc(), body.as_bytes());
-        assert!(rt; matches!(&refused, Err(Refusal::BadNumber)), "{body}");
+        assert!(rt;
+            has_bytes(rt.alloc(), body, 0) == Err(Refusal::BadNumber),
+            "{body}"
+        );
     }
 }
 
 #[test]
 fn a_body_of_four_megabytes_is_shielded(rt: HostRuntime) -> Result<(), Fail> {
     let body = "[1,\"\\\"2\"] ".repeat(rt.alloc(), 400_000)?;
-    assert_eq!(rt; shield(rt.alloc(), body.as_bytes())?.len(), 7_200_000);
+    let is_shielded = has_bytes(rt.alloc(), body.as_str(), 7_200_000);
+    drop(body);
+    assert!(rt; is_shielded == Ok(true));
     Ok(())
 }

@@ -23,33 +23,48 @@ fn a_name_has_1_to_128_characters(rt: HostRuntime) -> Result<(), Fail> {
     check(rt.alloc(), Asked::LetterOfNames, LETTERS)
 }
 
+/// Whether the name has the text, and both of its copies too.
+fn is_named(name: &Name, text: &str) -> Result<bool, Refusal> {
+    let copy = name.copy()?;
+    let clone = name.try_clone()?;
+    Ok(name.as_str() == text && copy.as_str() == text && clone.as_str() == text)
+}
+
 #[test]
 fn names_are_copied(rt: HostRuntime) -> Result<(), Fail> {
     assert!(rt; Name::fits("P"));
     let name = Name::new(rt.alloc(), "P")?;
-    assert!(rt; name.copy()?.as_str() == "P");
-    assert!(rt; name.try_clone()?.as_str() == "P");
+    let is_named = is_named(&name, "P");
+    drop(name);
+    assert!(rt; is_named == Ok(true));
     Ok(())
+}
+
+/// Whether the copy of a text that is there is the same.
+fn is_copied(text: &Option<Text>, wanted: &str) -> Result<bool, Refusal> {
+    match text.try_clone()? {
+        Some(copy) => Ok(copy.as_str() == wanted),
+        None => Ok(false),
+    }
 }
 
 #[test]
 fn a_text_that_may_be_absent_is_copied(rt: HostRuntime) -> Result<(), Fail> {
     let text = Some(Text::new(rt.alloc(), "storm")?);
-    let copy = text.try_clone()?;
-    let is_copied = match &copy {
-        Some(copy) => copy.as_str() == "storm",
-        None => false,
-    };
-    drop(copy);
+    let is_copied = is_copied(&text, "storm");
     drop(text);
-    assert!(rt; is_copied);
+    assert!(rt; is_copied == Ok(true));
     Ok(())
 }
 
 /// Whether the list has these texts, in this order, and no others.
 fn has(list: &BoundedVec<Text, 2>, wanted: &[&str]) -> bool {
-    for (text, wanted) in list.as_slice().iter().zip(wanted) {
-        if text.as_str() != *wanted {
+    let texts = list.as_slice();
+    if texts.len() != wanted.len() {
+        return false;
+    }
+    for place in 0..texts.len() {
+        if texts[place].as_str() != wanted[place] {
             return false;
         }
     }

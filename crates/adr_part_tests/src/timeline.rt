@@ -3,12 +3,13 @@ ghost use Rattle.std.specs.Prelude.{◌≤◌, length};
 
 use crate::moments::at;
 use crate::random::next;
+use crate::repairs::{governs_alike, spliced, write_shown};
 use crate::segments::segments_in;
-use crate::spans::{endless, entry, span, tell_span};
-use adr_model::Entry;
+use crate::spans::{endless, entry, span};
+use adr_model::{Entry, Segment, Winner};
 use adr_rule::Meter;
-use adr_time::{End, Moment, Span, covers};
-use adr_timeline::{Timeline, are_apart, timeline_laws};
+use adr_time::{End, Span};
+use adr_timeline::{Timeline, timeline_laws};
 use adr_value::Refusal;
 use std::alloc::Global;
 use std::test::Fail;
@@ -45,20 +46,32 @@ fn one(alloc: Global, start: i128, end: i128, written: u64) -> Result<Timeline, 
     built(alloc, &entries, span(start, end), &mut meter)
 }
 
-/// Whether these are the segments of the timeline, each as `[START END WRITTEN PLACE]`, in this order, and no others.
-fn has(alloc: Global, timeline: &Timeline, wanted: &str) -> Result<bool, Refusal> {
-    let mut text = String::new(alloc);
+/// The start, the end and the written number of a segment, whose place is 0.
+type Row = (i128, i128, u64);
+
+fn is_row(segment: &Segment, row: Row) -> bool {
+    let (start, end, written) = row;
+    let is_alike = segment.start == at(start) && segment.end == End::At(at(end));
+    is_alike && segment.winner.written == written && segment.winner.place == 0
+}
+
+/// Whether these are the segments of the timeline, in this order, and no others.
+fn has(alloc: Global, timeline: &Timeline, wanted: &[Row]) -> Result<bool, Refusal> {
+    let mut rest = wanted;
     for segment in &segments_in(alloc, timeline)? {
-        text.push('[')?;
-        tell_span(&mut text, segment.start, segment.end)?;
-        let winner = segment.winner;
-        write!(text, " {} {}]", winner.written, winner.place)?;
+        let Some((row, later)) = rest.split_first() else {
+            return Ok(false);
+        };
+        if !is_row(segment, *row) {
+            return Ok(false);
+        }
+        rest = later;
     }
-    Ok(text.as_str() == wanted)
+    Ok(rest.is_empty())
 }
 
 /// What the three show.
-const SHOWN: &str = "[0 5 4 0][5 15 5 0][15 20 6 0]";
+const SHOWN: &[Row] = &[(0, 5, 4), (5, 15, 5), (15, 20, 6)];
 
 /// What is asked of the timeline of the three.
 #[derive(Clone, Copy)]
@@ -68,32 +81,37 @@ enum Asked {
     Clips,
 }
 
-/// Whether the timeline of the three tells who governs, and until when, as `WRITTEN END`.
-fn is_told(alloc: Global, timeline: &Timeline) -> Result<bool, Refusal> {
-    for (moment, wanted) in [(-3, "0"), (0, "4 5"), (5, "5 15"), (15, "6 20"), (20, "")] {
-        let mut text = String::new(alloc);
-        if let Some(winner) = timeline.governor(at(moment)) {
-            write!(text, "{} ", winner.written)?;
-        }
-        if let End::At(end) = timeline.next_change(at(moment)) {
-            let end = end.nanoseconds();
-            write!(text, "{end}")?;
-        }
-        if text.as_str() != wanted {
-            return Ok(false);
+/// Whether the timeline of the three tells whose entry governs, or 0, and until when.
+fn is_told(timeline: &Timeline) -> bool {
+    let rows = [
+        (-3, 0, End::At(at(0))),
+        (0, 4, End::At(at(5))),
+        (5, 5, End::At(at(15))),
+        (15, 6, End::At(at(20))),
+        (20, 0, End::Endless),
+    ];
+    for (moment, wanted, end) in rows {
+        let written = match timeline.governor(at(moment)) {
+            Some(winner) => winner.written,
+            None => 0,
+        };
+        if written != wanted || timeline.next_change(at(moment)) != end {
+            return false;
         }
     }
-    Ok(true)
+    true
 }
+
+/// Windows of the timeline of the three, and what is shown inside.
+const CLIPPED: [(i128, i128, &[Row]); 2] = [
+    (5, 6, &[(5, 6, 5)]),
+    (4, 16, &[(4, 5, 4), (5, 15, 5), (15, 16, 6)]),
+];
 
 /// Whether windows of the timeline of the three are clipped.
 fn clips(alloc: Global, timeline: &Timeline) -> Result<bool, Refusal> {
-    let rows = [
-        (span(5, 6), "[5 6 5 0]"),
-        (span(4, 16), "[4 5 4 0][5 15 5 0][15 16 6 0]"),
-    ];
-    for (window, wanted) in rows {
-        let clipped = timeline.clip(window)?;
+    for (start, end, wanted) in CLIPPED {
+        let clipped = timeline.clip(span(start, end))?;
         let has = has(alloc, &clipped, wanted);
         drop(clipped);
         if !has? {
@@ -106,7 +124,7 @@ fn clips(alloc: Global, timeline: &Timeline) -> Result<bool, Refusal> {
 fn is_answered(alloc: Global, timeline: &Timeline, asked: Asked) -> Result<bool, Refusal> {
     match asked {
         Asked::Segments => has(alloc, timeline, SHOWN),
-        Asked::Governors => is_told(alloc, timeline),
+        Asked::Governors => Ok(is_told(timeline)),
         Asked::Clips => clips(alloc, timeline),
     }
 }
@@ -144,7 +162,7 @@ fn is_spliced(
     outer: &Timeline,
     window: Span,
     inner: &Timeline,
-    wanted: &str,
+    wanted: &[Row],
 ) -> Result<bool, Refusal> {
     let spliced = outer.splice(window, inner)?;
     let has = has(alloc, &spliced, wanted);
@@ -155,11 +173,14 @@ fn is_spliced(
 /// Segments of a timeline into which a timeline of one entry is spliced, behind its start, its end and its number. The first
 /// entry parts the timeline, the second shows the same and makes no segment of its own, and the third follows with the same
 /// winner and makes the segment longer.
-const SPLICED: [(i128, i128, u64, &str); 3] = [
-    (4, 6, 5, "[0 4 4 0][4 6 5 0][6 10 4 0]"),
-    (4, 6, 4, "[0 10 4 0]"),
-    (10, 12, 4, "[0 12 4 0]"),
+const SPLICED: [(i128, i128, u64, &[Row]); 3] = [
+    (4, 6, 5, &[(0, 4, 4), (4, 6, 5), (6, 10, 4)]),
+    (4, 6, 4, &[(0, 10, 4)]),
+    (10, 12, 4, &[(0, 12, 4)]),
 ];
+
+/// The same of one into which nothing is spliced from 4 up to 6.
+const OPENED: &[Row] = &[(0, 4, 4), (6, 10, 4)];
 
 /// Whether each of the rows is spliced, and a window that shows nothing opens the timeline.
 fn is_spliced_each_way(alloc: Global, outer: &Timeline) -> Result<bool, Refusal> {
@@ -172,7 +193,7 @@ fn is_spliced_each_way(alloc: Global, outer: &Timeline) -> Result<bool, Refusal>
         }
     }
     let inner = Timeline::new(alloc);
-    let is_opened = is_spliced(alloc, outer, span(4, 6), &inner, "[0 4 4 0][6 10 4 0]");
+    let is_opened = is_spliced(alloc, outer, span(4, 6), &inner, OPENED);
     drop(inner);
     is_opened
 }
@@ -209,54 +230,21 @@ fn timelines_that_show_the_same_are_equal(rt: HostRuntime) -> Result<(), Fail> {
     Ok(())
 }
 
-/// Writes into the list what the entry shows in the windows: at each moment from 0 on who governs, or 0.
-fn write_shown(shown: &mut [u64], windows: &[Span; 2], entry: &Span, written: u64) {
-    let [early, late] = windows;
-    let mut time: u8 = 0;
-    for cell in shown.iter_mut() {
-        let moment = at(i128::from(time));
-        if covers(early, moment) || covers(late, moment) {
-            *cell = if covers(entry, moment) { written } else { 0 };
-        }
-        time = time.wrapping_add(1);
-    }
-}
-
-/// Whether the timeline shows what the list does.
-fn shows_the_same(timeline: &Timeline, shown: &[u64]) -> bool {
-    let mut time: u8 = 0;
-    for cell in shown {
-        let written = match timeline.governor(at(i128::from(time))) {
-            Some(winner) => winner.written,
-            None => 0,
-        };
-        if written != *cell {
-            return false;
-        }
-        time = time.wrapping_add(1);
-    }
-    true
-}
-
 /// Whether a timeline in chunks of two segments shows what a plain list does, after each of many repairs of two windows by an
 /// entry over parts of both and what is between them.
-fn are_repaired(alloc: Global, shown: &mut [u64]) -> Result<bool, Refusal> {
+fn are_repaired(alloc: Global, shown: &mut [Option<Winner>]) -> Result<bool, Refusal> {
     let mut timeline = Timeline::in_chunks_of(alloc, 2);
     let mut seed = 1;
     for written in 1..60 {
         let start = i128::from(next(&mut seed) >> 26);
         let windows = [span(start, start + 3), span(start + 9, start + 14)];
+        let entries = [entry(5, written / 4, span(start + 1, start + 12))];
         let inner = one(alloc, start + 1, start + 12, written / 4)?;
-        let later = if are_apart(&windows) {
-            timeline.splice_all(&windows, &inner)
-        } else {
-            inner.copy()
-        };
+        let later = spliced(&timeline, &windows, &inner);
         drop(inner);
         timeline = later?;
-        let entry = span(start + 1, start + 12);
-        write_shown(shown, &windows, &entry, written / 4);
-        if !shows_the_same(&timeline, shown) {
+        write_shown(shown, &windows, &entries);
+        if !governs_alike(&timeline, shown) {
             return Ok(false);
         }
     }
@@ -265,6 +253,6 @@ fn are_repaired(alloc: Global, shown: &mut [u64]) -> Result<bool, Refusal> {
 
 #[test]
 fn repairs_show_what_a_plain_list_shows(rt: HostRuntime) {
-    let mut shown = [0; 48];
+    let mut shown = [None; 48];
     assert!(rt; are_repaired(rt.alloc(), &mut shown) == Ok(true));
 }
