@@ -1,11 +1,11 @@
 -- Values and payloads, from their parts.
-use Rattle.std.proofs.Common.{◌≡◌, List, refl, ap, subst, inl, inr, Bool, true, false}
+use Rattle.std.proofs.Common.{◌≡◌, List, [], ◌∷◌, refl, ap, subst, inl, inr, Bool, true, false, arith}
 use Rattle.std.specs.Prelude.{◌⊎◌, Option, Some, None, is_some, Result, Ok, Err, if◌then◌else◌}
 use Rattle.serde_json.specs.Data.{Data, Members, object}
 use Rattle.serde_json.specs.Find.{as_object}
-use Rattle.adr_value.proofs.Judged.{least_none, answers}
+use Rattle.adr_value.proofs.Judged.{least_none, answers, number_of_le}
 use Rattle.adr_value.specs.Answer.{Answers, result_map, result_and_then}
-use Rattle.adr_value.specs.Faults.{least, none, Gives, judged}
+use Rattle.adr_value.specs.Faults.{least, none, Gives, IsRefusedFor, judged}
 use Rattle.adr_value.specs.Payload.{shape_of}
 use Rattle.adr_value.specs.Shapes.{has_shape}
 use Rattle.adr_value.specs.declared.refusal.Refusal.{Refusal}
@@ -35,6 +35,14 @@ pub payload_gives : (d : Data) (p : Payload) (r : Result (Unit {0}) Refusal) →
 payload_gives d p r none_there is e =
     let alone : payload_faults d ≡ shape_faults (payload_in d) = ap (λ fs. if_none fs (shape_faults (payload_in d))) (least_none (map_faults d) none_there) in
     rw alone (subst (λ q. Gives (result_map (λ _. p) r) (shape_faults q) q) is (shape_gives _ p r e))
+
+refused_before : (f : Refusal) (fs more : List Refusal) → IsRefusedFor f (least fs) → IsRefusedFor f (least (if_none fs more))
+refused_before f [] more refused other = let never : ⊥ = omega (arith, refused other, number_of_le f) in absurd never
+refused_before f (g ∷ fs) more refused other = refused other
+
+-- and one with a fault there is refused for that
+pub payload_refused : (d : Data) (f : Refusal) → IsRefusedFor f (least (map_faults d)) → IsRefusedFor f (least (payload_faults d))
+payload_refused d f refused = refused_before f (map_faults d) (shape_faults (payload_in d)) refused
 
 -- ---- bodies
 

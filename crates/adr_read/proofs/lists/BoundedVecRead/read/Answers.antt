@@ -3,7 +3,7 @@ use Rattle.std.proofs.lemmas.Result.{err_from_is_err_and}
 use Rattle.json.specs.Token.{Token}
 use Rattle.json.specs.Json.{parse_map, after_end_array, value}
 use Rattle.adr_read.specs.Tokens.{token_of}
-use Rattle.serde_json.specs.Data.{array}
+use Rattle.serde_json.specs.Data.{array, no_items}
 use Rattle.serde_json.specs.View.{items_of}
 use Rattle.adr_read.specs.Coming.{coming}
 use Rattle.adr_read.proofs.ComingLemmas.{coming-shorter, coming-as_array, coming-begin_array}
@@ -37,7 +37,8 @@ returns-in_err-token g c =
     let so_far = c.elements.invariant in
     let bad = c.in_err-token.ensures.bad in
     let out = err_from_is_err_and c.from_residual-in_err-token.result c.from_residual-in_err-token.ensures.1 in
-    rw (out.1, out.2) (λ _. (bad.0, opened ∙ ap (parse_map array) (so_far.3 ∙ ap (parse_map (items_before so_far.1)) (bad.1 depth so_far.0))))
+    let none : listed depth (length ts) ts ≡ None = so_far.3 ∙ ap (parse_map (items_before so_far.1)) (bad.1 depth so_far.0) in
+    rw (out.1, out.2) (λ _. (bad.0, opened ∙ ap (parse_map array) none))
 
 pub returns-in_err-element : goal.returns-in_err-element
 returns-in_err-element g c =
@@ -47,11 +48,11 @@ returns-in_err-element g c =
     let so_far = c.elements.invariant in
     let s = token_of c.in-Some.token ∷ c.next_element.new.reader in
     let found : (after_end_array c.elements.reader ≡ None) × (c.elements.reader ≡ s) = rw c.in-Some.is at c.in_ok-token.ensures.found in
+    let refused : coming depth s ≡ None → listed depth (length ts) ts ≡ None =
+    λ none. so_far.3 ∙ ap (parse_map (items_before so_far.1)) (item_refused (value depth) so_far.0 c.elements.reader found.0 (ap (coming depth) found.1 ∙ none))
+    in
     let out = err_from_is_err_and c.from_residual-in_err-element.result c.from_residual-in_err-element.ensures.1 in
-    rw (out.1, out.2) (
-    fault_of c.in_err-element.field-0.0 (coming depth s) (coming c.args.depth (token_of c.args.token ∷ ts))
-    (λ none. opened ∙ ap (parse_map array) (so_far.3 ∙ ap (parse_map (items_before so_far.1)) (item_refused (value depth) so_far.0 c.elements.reader found.0 (ap (coming depth) found.1 ∙ none)))) c.in_err-element.ensures
-    )
+    rw (out.1, out.2) (fault_of c.in_err-element.field-0.0 (coming depth s) (coming c.args.depth (token_of c.args.token ∷ ts)) (λ none. opened ∙ ap (parse_map array) (refused none)) c.in_err-element.ensures)
 
 pub elements-smaller : goal.elements-smaller
 elements-smaller g c =
@@ -85,8 +86,9 @@ returns g c =
     let opened = ap (λ t. coming c.args.depth (token_of t ∷ ts)) c.in-BeginArray.is ∙ coming-begin_array c.args.depth ts (omega (arith, c.if-depth-eq0.false)) in
     let so_far = c.elements.invariant in
     let r = c.next_element.new.reader in
-    let ends : after_end_array c.elements.reader ≡ Some r = rw c.in_default-2.is at c.in_ok-token.ensures.found in (
+    let ends : after_end_array c.elements.reader ≡ Some r = rw c.in_default-2.is at c.in_ok-token.ensures.found in
+    let all : listed depth (length ts) ts ≡ Some (items_before so_far.1 no_items, r) = so_far.3 ∙ ap (parse_map (items_before so_far.1)) (listed_end depth so_far.0 c.elements.reader r so_far.2 ends) in (
       array (items_of so_far.1),
-      opened ∙ ap (parse_map array) (so_far.3 ∙ ap (parse_map (items_before so_far.1)) (listed_end depth so_far.0 c.elements.reader r so_far.2 ends)) ∙ ap (λ items. Some (array items, r)) (items_before-none so_far.1),
+      opened ∙ ap (parse_map array) all ∙ ap (λ items. Some (array items, r)) (items_before-none so_far.1),
       c.answer.ensures c.args.context.now.moment so_far.1 so_far.4,
     )
