@@ -164,7 +164,7 @@ pub fn end_of(start: Moment, length: &Length) -> Result<End, Refusal>
     ensures either { NeedsOnlyItsYearAndSum start length.now }
 {
     match length {
-        Length::Of(span) => Ok(End::At(after(start, *span)?)),
+        Length::Of(span) => Ok(End::At(after(start, jiff::Span::from_plain(*span))?)),
         Length::Endless => Ok(End::Endless),
     }
 }
