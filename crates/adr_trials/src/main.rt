@@ -19,44 +19,53 @@ use adr_bench_parts::{print_part_counts, print_part_times};
 use adr_growths::try_parts;
 use adr_test_values::word;
 use std::io;
+use std::rt::{Clock, Env};
+use std::sync::Wait;
+use std::thread::Threads;
 
-fn try_growths(rt: &HostRuntime) -> io::Result<()> {
-    let text = io::read_to_string(rt.alloc(), rt.reader())?;
-    try_parts(rt, text.as_str())
-}
-
-/// All by count.
-fn print_counts(rt: &HostRuntime) -> io::Result<()> {
+/// All that is measured, by count.
+fn print_counts<R: AllocGlobal + Print + Clock + Wait>(rt: &R) -> io::Result<()> {
     print_part_counts(rt)?;
     println!(rt)?;
     print_desk_counts(rt)?;
     println!(rt)?;
     print_board_counts(rt)?;
-    println!(rt)?;
-    try_growths(rt)
+    println!(rt)
 }
 
 /// The number that stands behind the first word, or 1.
-fn count(rt: &HostRuntime) -> io::Result<u64> {
+fn count<R: AllocGlobal + Env>(rt: &R) -> io::Result<u64> {
     let count = word(rt, 2)?;
     let count = count.as_deref().unwrap_or("");
     Ok(count.parse::<u64>().unwrap_or(1))
 }
 
 /// What stands behind a word.
-fn print_named(rt: &HostRuntime, name: &str) -> io::Result<()> {
+fn print_named<R: AllocGlobal + Print + Clock + Env + Threads + Wait + Sync>(
+    rt: &R,
+    name: &str,
+) -> io::Result<()> {
     match name {
         "timelines" | "indexes" | "audiences" | "bodies" => print_part_times(rt, name),
         "desks" | "workloads" | "crews" => print_desk_times(rt, name),
         "alike" => print_random(rt),
-        "growths" => try_growths(rt),
         _ => print_board_times(rt, name, count(rt)?),
     }
 }
 
+/// The calls whose growths are refused from outside.
+fn calls(rt: &HostRuntime) -> io::Result<String> {
+    io::read_to_string(rt.alloc(), rt.reader())
+}
+
 fn main(rt: HostRuntime) -> io::Result<()> {
-    match word(&rt, 1)? {
-        Some(name) => print_named(&rt, name.as_str()),
-        None => print_counts(&rt),
+    let name = word(&rt, 1)?;
+    match name.as_deref().unwrap_or("") {
+        "" => {
+            print_counts(&rt)?;
+            try_parts(&rt, calls(&rt)?.as_str())
+        }
+        "growths" => try_parts(&rt, calls(&rt)?.as_str()),
+        name => print_named(&rt, name),
     }
 }
