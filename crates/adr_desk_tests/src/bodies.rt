@@ -109,7 +109,7 @@ fn random_edit(alloc: Global, seed: &mut u64) -> Result<Edit, Refusal> {
 }
 
 /// Edits that make what most others need, and then so many at random.
-pub(crate) fn many_edits(alloc: Global, seed: &mut u64, count: u32) -> Result<Vec<Edit>, Refusal> {
+pub(crate) fn many_edits(alloc: Global, seed: &mut u64, count: u64) -> Result<Vec<Edit>, Refusal> {
     let mut edits = Vec::new(alloc);
     for line in NEEDED.lines() {
         let edit = edit(alloc, line)?;

@@ -15,7 +15,7 @@ use std::thread::Threads;
 const LISTS: u32 = 500;
 
 /// Fewer edits than this a list has at random, behind what most of them need.
-const MOST: u32 = 28;
+const MOST: u64 = 28;
 
 fn copies(alloc: Global, edits: &[Edit]) -> Result<Vec<Edit>, Refusal> {
     let mut copies = Vec::new(alloc);
@@ -68,7 +68,7 @@ fn is_list_loaded(
     tie: Tie,
     types: &[PayloadType],
 ) -> Result<bool, Refusal> {
-    let count = next(seed, u64::from(MOST)) as u32;
+    let count = next(seed, MOST);
     let edits = many_edits(alloc, seed, count)?;
     let is_loaded = is_loaded(rt, alloc, edits.as_slice(), tie, types);
     drop(edits);

@@ -155,7 +155,7 @@ fn taken_by_new(
     types: &[PayloadType],
     is_made_over: bool,
 ) -> Result<Option<u64>, Refusal> {
-    let edits = many_edits(alloc, seed, EDITS)?;
+    let edits = many_edits(alloc, seed, u64::from(EDITS))?;
     let mut desk = Desk::new(alloc, tie)?;
     let taken = taken(alloc, &mut desk, edits, types, is_made_over);
     drop(desk);
