@@ -1,6 +1,6 @@
 //! How what the events ask for follows the edits.
 ghost use Rattle.std.specs.Prelude.{◌≡◌, IsOk, OnOk, OnErr};
-ghost use Rattle.adr_value.specs.Answer.{OnlyNoMemory};
+ghost use Rattle.adr_refusal.specs.Answer.{OnlyNoMemory};
 ghost use Rattle.adr_object.specs.declared.object.Edit.TheVariants.{Create, Change, Remove};
 ghost use Rattle.adr_object.specs.declared.object.Kind.TheVariants.{Event as event_kind};
 ghost use Rattle.adr_object.specs.declared.object.Object.TheVariants.{Event as event_object};

@@ -1,7 +1,7 @@
 //! What an event asks for.
 ghost use Rattle.std.specs.Prelude.{◌≡◌, ◌++◌, flat_map, option_to_list, OnOk};
-ghost use Rattle.adr_value.specs.Answer.{OnlyNoMemory};
-ghost use Rattle.adr_value.specs.Copy.{IsCopyOf};
+ghost use Rattle.adr_refusal.specs.Answer.{OnlyNoMemory};
+ghost use Rattle.adr_refusal.specs.Copy.{IsCopyOf};
 ghost use Rattle.adr_audience.specs.Asks.{asked_by, asks_no_key as the_asks_no_key, asks};
 ghost use Rattle.adr_audience.specs.Offers.{asked_key as the_asked_key};
 

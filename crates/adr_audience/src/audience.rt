@@ -1,11 +1,11 @@
 //! The index of what the resources offer.
 ghost use Rattle.std.specs.Prelude.{◌≡◌, ◌++◌, ◌∷◌, [], ◌<◌, length, map, set, remove, IfOk, OnOk, OnErr};
-ghost use Rattle.adr_value.specs.Copy.{IsCopyOf};
+ghost use Rattle.adr_refusal.specs.Copy.{IsCopyOf};
 ghost use Rattle.adr_audience.specs.Offers.{offers};
 ghost use Rattle.adr_audience.specs.Query.{is_for, places_where};
 ghost use Rattle.adr_audience.specs.Rows.{offered_in, offers_of, fresh_row as the_fresh_row, with_ven};
 ghost use Rattle.adr_keys.specs.Rows.{offers_key};
-ghost use Rattle.adr_value.specs.Answer.{OnlyNoMemory};
+ghost use Rattle.adr_refusal.specs.Answer.{OnlyNoMemory};
 ghost use Rattle.adr_audience.specs.Laws.{RowsMatchAsScenes, RowsOfCreated, RowsOfChanged, RowsOfRemoved, RowsOfChangedVen, RowsOfCreatedVen, RowsOfRemovedVen, RowsOfOthers, applying_places};
 ghost use Rattle.adr_model.specs.Whole.{IsWhole};
 ghost use Rattle.adr_model.specs.Book.{Book};

@@ -1,6 +1,6 @@
 //! Both indexes of whom events are for, as one value that follows the edits.
 ghost use Rattle.std.specs.Prelude.{◌≡◌, IfOk, IsOk, OnOk, OnErr};
-ghost use Rattle.adr_value.specs.Answer.{OnlyNoMemory};
+ghost use Rattle.adr_refusal.specs.Answer.{OnlyNoMemory};
 ghost use Rattle.adr_model.specs.Book.{Book, empty};
 ghost use Rattle.adr_model.specs.Edits.{made, step};
 ghost use Rattle.adr_model.specs.Whole.{IsWhole};

@@ -1,6 +1,6 @@
 //! How what the resources offer follows the edits.
 ghost use Rattle.std.specs.Prelude.{◌≡◌, IsOk, OnOk, OnErr};
-ghost use Rattle.adr_value.specs.Answer.{OnlyNoMemory};
+ghost use Rattle.adr_refusal.specs.Answer.{OnlyNoMemory};
 ghost use Rattle.adr_object.specs.declared.object.Edit.TheVariants.{Create, Change, Remove};
 ghost use Rattle.adr_object.specs.declared.object.Kind.TheVariants.{Resource as resource_kind};
 ghost use Rattle.adr_object.specs.declared.object.Object.TheVariants.{Resource as resource_object};

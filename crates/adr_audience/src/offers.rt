@@ -1,7 +1,7 @@
 //! What a resource offers.
 ghost use Rattle.std.specs.Prelude.{◌≡◌, ◌++◌, map, OnOk};
-ghost use Rattle.adr_value.specs.Answer.{OnlyNoMemory};
-ghost use Rattle.adr_value.specs.Copy.{IsCopyOf};
+ghost use Rattle.adr_refusal.specs.Answer.{OnlyNoMemory};
+ghost use Rattle.adr_refusal.specs.Copy.{IsCopyOf};
 ghost use Rattle.adr_audience.specs.Offers.{is_word, keys_of, offers, asked_key};
 
 use adr_keys::{Key, Row};

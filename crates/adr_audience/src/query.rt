@@ -3,7 +3,7 @@ ghost use Rattle.std.specs.Prelude.{◌≡◌, ℕ, ◌<◌, [], ◌||◌, ◌&&
 ghost use Rattle.std.specs.List.{list_any};
 ghost use Rattle.std.specs.Option.{option_map_or};
 ghost use Rattle.std.specs.Str.{bytes_eq};
-ghost use Rattle.adr_value.specs.Answer.{OnlyNoMemory};
+ghost use Rattle.adr_refusal.specs.Answer.{OnlyNoMemory};
 ghost use Rattle.adr_model.specs.Matching.{is_name, is_event_name};
 ghost use Rattle.adr_keys.specs.Places.{has, fits};
 ghost use Rattle.adr_audience.specs.Query.{is_fixed as the_is_fixed, is_called as the_is_called, is_offered, meets_value, meets_type, meets, is_for, places_where};

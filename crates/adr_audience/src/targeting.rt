@@ -1,8 +1,8 @@
 //! The index of what the events ask for.
 ghost use Rattle.std.specs.Prelude.{◌≡◌, ◌++◌, ◌∷◌, [], ◌<◌, ℕ, ◌||◌, ◌&&◌, false, filter, get_or, length, map, set, remove, IsTrue, IfOk, OnOk, OnErr};
 ghost use Rattle.std.specs.List.{list_any, range_with_len};
-ghost use Rattle.adr_value.specs.Answer.{OnlyNoMemory};
-ghost use Rattle.adr_value.specs.Copy.{IsCopyOf};
+ghost use Rattle.adr_refusal.specs.Answer.{OnlyNoMemory};
+ghost use Rattle.adr_refusal.specs.Copy.{IsCopyOf};
 ghost use Rattle.adr_model.specs.Book.{Book};
 ghost use Rattle.adr_keys.specs.Places.{has, fits};
 ghost use Rattle.adr_keys.specs.Rows.{offers_key};

@@ -1,8 +1,8 @@
 //! The boards that are measured.
 use adr_board::{Editor, Naming};
 use adr_object::Edit;
+use adr_refusal::Refusal;
 use adr_test_values::lines::edit;
-use adr_value::Refusal;
 use std::alloc::{AllocError, Global};
 use std::sync::Wait;
 

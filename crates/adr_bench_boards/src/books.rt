@@ -1,8 +1,8 @@
 //! The books of the tables, and the edits that fill and change them.
 use adr_book::{Book, judge};
 use adr_object::{Edit, Kind};
+use adr_refusal::Refusal;
 use adr_test_values::bodies::{edit_of, list_of};
-use adr_value::Refusal;
 use std::alloc::{AllocError, Global};
 
 /// How many events a program has, and how many resources a ven has.

@@ -5,7 +5,7 @@ ghost use Rattle.adr_model.specs.declared.entry.Tie.TheVariants.{Newest};
 use crate::boards::{change, fill};
 use adr_board::{Board, Editor, Naming, NewBoard, Reader};
 use adr_model::Tie;
-use adr_value::Refusal;
+use adr_refusal::Refusal;
 use std::alloc::Global;
 use std::rt::Clock;
 use std::sync::Wait;

@@ -1,7 +1,7 @@
 //! The edits of the tables, each read from a line with a body.
 use adr_object::Edit;
+use adr_refusal::Refusal;
 use adr_test_values::bodies::{edit_of, list_of};
-use adr_value::Refusal;
 use std::alloc::{AllocError, Global};
 
 /// How many resources a ven has, and how many events a program has.

@@ -3,7 +3,7 @@ use crate::bodies::{MEMBERS, Shape, event, program, resource, ven};
 use adr_desk::Desk;
 use adr_model::Tie;
 use adr_object::Edit;
-use adr_value::Refusal;
+use adr_refusal::Refusal;
 use std::alloc::Global;
 use std::ops::Range;
 

@@ -2,7 +2,7 @@
 use crate::bodies::{MEMBERS, Shape, event, program, removal, resource, ven};
 use crate::desks::PRIORITY;
 use adr_object::Edit;
-use adr_value::Refusal;
+use adr_refusal::Refusal;
 use std::alloc::Global;
 
 /// What is edited.

@@ -5,9 +5,9 @@ use Rattle.std.specs.Arc.{arc_value}
 use Rattle.std.specs.declared.sync.Arc.{Arc}
 use mathlib.Core.List.{IsPrefix}
 use Rattle.logbook.specs.Pages.{Book as History}
-use Rattle.adr_value.specs.declared.refusal.Refusal.{Refusal}
-use Rattle.adr_value.specs.declared.refusal.Refusal.TheVariants.{NoMemory, NoRuntime}
-use Rattle.adr_value.specs.Answer.{OnlyNoMemory}
+use Rattle.adr_refusal.specs.declared.refusal.Refusal.{Refusal}
+use Rattle.adr_refusal.specs.declared.refusal.Refusal.TheVariants.{NoMemory, NoRuntime}
+use Rattle.adr_refusal.specs.Answer.{OnlyNoMemory}
 use Rattle.adr_model.specs.declared.entry.Tie.{Tie}
 use Rattle.adr_model.specs.Machine.{Publication}
 use Rattle.adr_diary.specs.declared.diary.Entry.{Entry}

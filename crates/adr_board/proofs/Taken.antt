@@ -5,8 +5,8 @@ use Rattle.std.specs.declared.sync.Arc.{Arc}
 use Rattle.std.specs.Arc.{arc_value}
 use Rattle.std.proofs.lemmas.Bool.{lt-ltb, le-ltb}
 use Rattle.adr_value.specs.declared.limits.TheConstants.{MOST_PUBLICATIONS}
-use Rattle.adr_value.specs.declared.refusal.Refusal.{Refusal}
-use Rattle.adr_value.specs.declared.refusal.Refusal.TheVariants.{Full}
+use Rattle.adr_refusal.specs.declared.refusal.Refusal.{Refusal}
+use Rattle.adr_refusal.specs.declared.refusal.Refusal.TheVariants.{Full}
 use Rattle.adr_object.specs.declared.object.Edit.{Edit as AnyEdit}
 use Rattle.adr_model.specs.Edits.{full_at, step_to}
 use Rattle.adr_model.specs.Machine.{Publication, after_edit, after_publish, last_book, last_number, opening, refused, done, published, condensed, told, seen}

@@ -1,8 +1,8 @@
 -- A run of the machine of one editor and many readers, by its steps and what they show.
 use Rattle.std.specs.Prelude.{◌≡◌, ◌⊎◌, ⊤, ℕ, ◌<◌, max, List, [], ◌∷◌, length, get_or, Result, IfErr}
 use Rattle.std.specs.Arc.{arc_value}
-use Rattle.adr_value.specs.declared.refusal.Refusal.{Refusal}
-use Rattle.adr_value.specs.declared.refusal.Refusal.TheVariants.{NoMemory, NoRuntime}
+use Rattle.adr_refusal.specs.declared.refusal.Refusal.{Refusal}
+use Rattle.adr_refusal.specs.declared.refusal.Refusal.TheVariants.{NoMemory, NoRuntime}
 use Rattle.adr_model.specs.declared.entry.Tie.{Tie}
 use Rattle.adr_model.specs.Machine.{Action, Publication, Reply, State, Steps, edit, publish, condense, tell, look, refused, done, published, condensed, told, seen, last_number, opening}
 use Rattle.adr_snapshot.specs.Published.{PublishedBook}

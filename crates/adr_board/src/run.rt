@@ -2,7 +2,7 @@
 ghost use Rattle.std.specs.Prelude.{◌≡◌, ◌≢◌, ◌+◌, ◌<◌, ◌≤◌, List, length, All, IfOk, OnOk, vec_len};
 ghost use Rattle.std.specs.Arc.{arc_value};
 ghost use mathlib.Core.List.{IsPrefix};
-ghost use Rattle.adr_value.specs.declared.refusal.Refusal.TheVariants.{NoMemory};
+ghost use Rattle.adr_refusal.specs.declared.refusal.Refusal.TheVariants.{NoMemory};
 ghost use Rattle.adr_model.specs.Machine.{start, State};
 ghost use Rattle.adr_board.specs.Boards.{newcomer, View};
 ghost use Rattle.adr_board.specs.Replay.{AreSteps, IsOf, IsRun, IsStep, NamesReader, OnlyWant, reach};

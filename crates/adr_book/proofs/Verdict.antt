@@ -1,11 +1,11 @@
 -- From the least number of an edit's faults to its verdict.
 use Rattle.std.proofs.Common.{◌≡◌, ℕ, ◌⊎◌, inl, inr, List, ◌++◌, refl, sym, ◌∙◌, arith}
 use Rattle.std.specs.Prelude.{Result, Ok, Err}
-use Rattle.adr_value.specs.Answer.{Answers, result_map}
-use Rattle.adr_value.specs.Faults.{Gives, judged, least, none}
-use Rattle.adr_value.specs.declared.refusal.Refusal.{Refusal}
-use Rattle.adr_value.specs.declared.refusal.Refusal.TheVariants.{NoMemory}
-use Rattle.adr_value.proofs.Judged.{answers, judged-ok, least-append, least_le}
+use Rattle.adr_refusal.specs.Answer.{Answers, result_map}
+use Rattle.adr_refusal.specs.Faults.{Gives, judged, least, none}
+use Rattle.adr_refusal.specs.declared.refusal.Refusal.{Refusal}
+use Rattle.adr_refusal.specs.declared.refusal.Refusal.TheVariants.{NoMemory}
+use Rattle.adr_refusal.proofs.Judged.{answers, judged-ok, least-append, least_le}
 use Rattle.adr_object.specs.declared.object.Edit.{Edit}
 use Rattle.adr_object.specs.declared.object.Edit.TheVariants.{Create, Change, Remove}
 use Rattle.adr_model.specs.Book.{Book}

@@ -1,8 +1,8 @@
 -- What judging an edit computes: where the intervals of the event that it writes lie.
 use Rattle.std.specs.Prelude.{List, [], Result}
 use Rattle.std.specs.Result.{result_unwrap_or}
-use Rattle.adr_value.specs.Answer.{result_map}
-use Rattle.adr_value.specs.declared.refusal.Refusal.{Refusal}
+use Rattle.adr_refusal.specs.Answer.{result_map}
+use Rattle.adr_refusal.specs.declared.refusal.Refusal.{Refusal}
 use Rattle.adr_object.specs.declared.object.Object.{Object}
 use Rattle.adr_object.specs.declared.object.Object.TheVariants.{Event as event}
 use Rattle.adr_object.specs.declared.object.Edit.{Edit}

@@ -1,8 +1,8 @@
 //! The book.
 ghost use Rattle.std.specs.Prelude.{◌≡◌, ◌+◌, ◌++◌, ◌∷◌, [], ◌≤◌, length, is_some, slice_get, Ok, IsOk, IfSome, OnOk, OnErr, IfOk};
 ghost use Rattle.std.specs.Option.{option_copied, option_map};
-ghost use Rattle.adr_value.specs.Answer.{Answers, OnlyNoMemory, result_map};
-ghost use Rattle.adr_value.specs.Copy.{IsCopyOf};
+ghost use Rattle.adr_refusal.specs.Answer.{Answers, OnlyNoMemory, result_map};
+ghost use Rattle.adr_refusal.specs.Copy.{IsCopyOf};
 ghost use Rattle.adr_value.specs.Limits.{limits};
 ghost use Rattle.adr_model.specs.Book.{empty, program_by, ven_by, resource_by, event_by};
 ghost use Rattle.adr_model.specs.Edits.{after_from, count_of, full_at, made, most_objects, step_to};

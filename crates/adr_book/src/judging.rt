@@ -1,8 +1,8 @@
 //! Whether an edit is accepted.
 ghost use Rattle.std.specs.Prelude.{◌≡◌, ◌||◌, nat_le, not, is_some, List, IfOk};
-ghost use Rattle.adr_value.specs.Answer.{Answers, result_map};
-ghost use Rattle.adr_value.specs.declared.refusal.Refusal.{Refusal as Refused};
-ghost use Rattle.adr_value.specs.Faults.{Gives};
+ghost use Rattle.adr_refusal.specs.Answer.{Answers, result_map};
+ghost use Rattle.adr_refusal.specs.declared.refusal.Refusal.{Refusal as Refused};
+ghost use Rattle.adr_refusal.specs.Faults.{Gives};
 ghost use Rattle.adr_object.specs.Object.{kind_of, id_of};
 ghost use Rattle.adr_object.specs.declared.object.Edit.TheVariants.{Create, Change, Remove};
 ghost use Rattle.adr_model.specs.Edits.{fault_if, layout_faults, reference_faults, is_full_for, is_named, most_objects, has_too_many_entries, has_id, faults_to, made, step_to};

@@ -4,12 +4,12 @@ ghost use Rattle.adr_book.specs.Ledger.{sealed_of};
 
 use adr_book::{Book, judge};
 use adr_object::Edit;
+use adr_refusal::Refusal;
 use adr_test_values::lines::edit;
 use adr_test_values::same::{edited_id, same_book, same_by_id};
 use adr_test_values::telling::{
     name_call, name_edit, tell_ordinary, tell_refused, tell_same, told,
 };
-use adr_value::Refusal;
 use std::alloc::Global;
 use std::io;
 

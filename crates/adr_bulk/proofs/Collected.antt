@@ -2,9 +2,9 @@
 use Rattle.std.proofs.Common.{◌≡◌, ℕ, zero, suc, ◌<◌, List, [], ◌∷◌, length, map, subst, sym, arith}
 use Rattle.std.specs.List.{AllZip, Contains, slice_index_or}
 use Rattle.std.specs.Prelude.{Result, Ok, Err, IfOk, MatchResult}
-use Rattle.adr_value.specs.Answer.{OnlyNoMemory}
-use Rattle.adr_value.specs.declared.refusal.Refusal.{Refusal}
-use Rattle.adr_value.specs.declared.refusal.Refusal.TheVariants.{NoMemory}
+use Rattle.adr_refusal.specs.Answer.{OnlyNoMemory}
+use Rattle.adr_refusal.specs.declared.refusal.Refusal.{Refusal}
+use Rattle.adr_refusal.specs.declared.refusal.Refusal.TheVariants.{NoMemory}
 
 module _ {X Y : Type 0} (P : X → Y → Type 0) where
   -- the item has its answer, or there was no memory for it

@@ -9,8 +9,8 @@ use Rattle.rayon.specs.Numbers.{nat_range}
 use Rattle.rayon.specs.NumberLaws.{run-length}
 use Rattle.rayon.proofs.ListFacts.{AllZip-through, IfOk-then}
 use Rattle.rayon.proofs.ToStd.{nat_range-All}
-use Rattle.adr_value.specs.Answer.{OnlyNoMemory}
-use Rattle.adr_value.specs.declared.refusal.Refusal.{Refusal}
+use Rattle.adr_refusal.specs.Answer.{OnlyNoMemory}
+use Rattle.adr_refusal.specs.declared.refusal.Refusal.{Refusal}
 use Rattle.adr_object.specs.declared.party.Resource.{Resource}
 use Rattle.adr_model.specs.declared.entry.Tie.{Tie}
 use Rattle.adr_model.specs.declared.written.Written.{Written}

@@ -1,7 +1,7 @@
 -- What edits make of a book, one after the other, and what is answered to each.
 use Rattle.std.specs.Prelude.{ℕ, List, [], ◌∷◌, Result, Ok, Err}
-use Rattle.adr_value.specs.Answer.{result_map}
-use Rattle.adr_value.specs.declared.refusal.Refusal.{Refusal}
+use Rattle.adr_refusal.specs.Answer.{result_map}
+use Rattle.adr_refusal.specs.declared.refusal.Refusal.{Refusal}
 use Rattle.adr_object.specs.declared.object.Edit.{Edit}
 use Rattle.adr_model.specs.Book.{Book}
 use Rattle.adr_model.specs.Edits.{step_to}

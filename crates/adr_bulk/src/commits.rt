@@ -1,6 +1,6 @@
 //! Edits, judged and committed one after the other.
 ghost use Rattle.std.specs.Prelude.{◌≡◌, ◌++◌, ◌∷◌, [], IfOk, MatchResult, Ok, Err};
-ghost use Rattle.adr_value.specs.Answer.{OnlyNoMemory, result_map};
+ghost use Rattle.adr_refusal.specs.Answer.{OnlyNoMemory, result_map};
 ghost use Rattle.adr_model.specs.Book.{empty};
 ghost use Rattle.adr_model.specs.Edits.{full_at, step_to};
 ghost use Rattle.adr_bulk.specs.Loaded.{accepted_of, answers_to, if_accepted, left_by, objects_after};

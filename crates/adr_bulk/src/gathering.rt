@@ -1,7 +1,7 @@
 //! The entries of the events of some writes.
 ghost use Rattle.std.specs.Prelude.{◌≡◌, ◌++◌, [], map, position, IfOk, OnOk};
 ghost use Rattle.std.specs.List.Sorted.{IsStrictlyIncreasing};
-ghost use Rattle.adr_value.specs.Answer.{OnlyNoMemory};
+ghost use Rattle.adr_refusal.specs.Answer.{OnlyNoMemory};
 ghost use Rattle.adr_value.specs.Same.{same_type};
 ghost use Rattle.adr_value.specs.declared.payload.PayloadType.{PayloadType as AnyType};
 ghost use Rattle.adr_model.specs.Rank.{ranked};

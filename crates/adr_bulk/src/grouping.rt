@@ -1,6 +1,6 @@
 //! A group of timelines, built of the entries of its own events.
 ghost use Rattle.std.specs.Prelude.{IfOk};
-ghost use Rattle.adr_value.specs.Answer.{OnlyNoMemory};
+ghost use Rattle.adr_refusal.specs.Answer.{OnlyNoMemory};
 ghost use Rattle.adr_bulk.specs.Bulk.{IsGroupFor};
 
 use crate::gathering::gather;

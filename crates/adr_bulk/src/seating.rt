@@ -1,7 +1,7 @@
 //! All groups of a book, built by many threads.
 ghost use Rattle.std.specs.Prelude.{IfOk};
 ghost use Rattle.std.specs.List.{AllZip};
-ghost use Rattle.adr_value.specs.Answer.{OnlyNoMemory};
+ghost use Rattle.adr_refusal.specs.Answer.{OnlyNoMemory};
 ghost use Rattle.adr_audience.specs.Keys.{AreKeysOf};
 ghost use Rattle.adr_schedule.specs.Seating.{AreSeatedFor};
 ghost use Rattle.adr_bulk.specs.Bulk.{IsBuilt, IsGroupFor};

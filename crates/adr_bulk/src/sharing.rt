@@ -1,6 +1,6 @@
 //! Which resources share a group: those to which the same events apply.
 ghost use Rattle.std.specs.Prelude.{◌≡◌, ◌<◌, ◌≤◌, ◌+◌, ◌-◌, ℕ, List, Some, length, slice_get, IfOk, IfSome, OnOk};
-ghost use Rattle.adr_value.specs.Answer.{OnlyNoMemory};
+ghost use Rattle.adr_refusal.specs.Answer.{OnlyNoMemory};
 ghost use Rattle.adr_audience.specs.Keys.{AreKeysOf};
 ghost use Rattle.adr_model.specs.Book.{Book as the_book};
 ghost use Rattle.adr_bulk.specs.Bulk.{AreFoundAt, ArePlanned, AreWritesFrom};

@@ -1,6 +1,6 @@
 //! What answers are printed from: a published book, and what governs by it.
 ghost use Rattle.std.specs.Prelude.{◌≡◌, IfOk};
-ghost use Rattle.adr_value.specs.Answer.{OnlyNoMemory};
+ghost use Rattle.adr_refusal.specs.Answer.{OnlyNoMemory};
 ghost use Rattle.adr_model.specs.Queries.{governing_types};
 ghost use Rattle.adr_calendar.specs.Segments.{IsCalendar, IsStateAt};
 

@@ -2,7 +2,7 @@
 ghost use Rattle.std.specs.Prelude.{◌≡◌, ◌++◌, OnOk, codes, option_map};
 ghost use Rattle.std.specs.Fmt.{decimal};
 ghost use Rattle.std.specs.List.{list_all};
-ghost use Rattle.adr_value.specs.Answer.{OnlyNoMemory};
+ghost use Rattle.adr_refusal.specs.Answer.{OnlyNoMemory};
 ghost use Rattle.adr_time.specs.Text.{moment_text};
 ghost use Rattle.adr_model.specs.Answer.{state_text};
 ghost use Rattle.adr_model.specs.Queries.{end_within, is_bare_byte, segment_text, type_text};

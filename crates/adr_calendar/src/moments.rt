@@ -18,7 +18,7 @@ pub(crate) struct LastMoment {
 
 impl LastMoment {
     ghost use Rattle.std.specs.Prelude.{◌++◌, OnOk, Some};
-    ghost use Rattle.adr_value.specs.Answer.{OnlyNoMemory};
+    ghost use Rattle.adr_refusal.specs.Answer.{OnlyNoMemory};
 
     pub(crate) fn none(alloc: Global) -> LastMoment {
         LastMoment {

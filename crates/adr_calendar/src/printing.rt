@@ -2,7 +2,7 @@
 ghost use Rattle.std.specs.Prelude.{◌≡◌, ◌++◌, ◌<◌, ◌≤◌, ◌^◌, ◌/◌, ◌%◌, ℕ, OnOk, codes, replicate};
 ghost use Rattle.std.specs.Fmt.{decimal, sign_text, signed_decimal};
 ghost use Rattle.std.specs.List.{flat_map};
-ghost use Rattle.adr_value.specs.Answer.{OnlyNoMemory};
+ghost use Rattle.adr_refusal.specs.Answer.{OnlyNoMemory};
 ghost use Rattle.adr_value.specs.Text.{fraction_text, number_text, places_text};
 ghost use Rattle.adr_model.specs.Answer.{hex_digit, quoted_byte, quoted, datum_text, values_text, end_text};
 

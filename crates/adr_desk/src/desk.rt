@@ -2,8 +2,8 @@
 ghost use denote.Param.Send.{IsSync};
 ghost use Rattle.std.specs.Prelude.{◌≡◌, ◌≢◌, ◌<◌, ◌≤◌, ◌^◌, ◌++◌, ◌∷◌, [], sum_by, ℤ, None, Ok, IsOk, IfOk, IfSome, OnOk, OnErr};
 ghost use Rattle.std.specs.Option.{option_copied, option_map_or};
-ghost use Rattle.adr_value.specs.Answer.{Answers, OnlyNoMemory, result_map};
-ghost use Rattle.adr_value.specs.Copy.{IsCopyOf};
+ghost use Rattle.adr_refusal.specs.Answer.{Answers, OnlyNoMemory, result_map};
+ghost use Rattle.adr_refusal.specs.Copy.{IsCopyOf};
 ghost use Rattle.adr_group.specs.Jobs.{most_done, AreDone, IsCrew};
 ghost use Rattle.adr_model.specs.Book.{empty};
 ghost use Rattle.adr_model.specs.Edits.{full_at, made as made_book, step_to};
@@ -20,8 +20,8 @@ use crate::receipt::Receipt;
 use adr_audience::Audiences;
 use adr_book::{Book, Judged, judged};
 use adr_bulk::{commit_all, index_all, seat_all};
-use adr_crew::{Gate, NoGate, do_all};
-use adr_group::{Done, Job, do_jobs};
+use adr_gate::{Gate, NoGate};
+use adr_group::{Done, Job, do_all, do_jobs};
 use adr_lines::{Indexes, exchange_laws};
 use adr_model::Tie;
 use adr_object::{Edit, Id};
@@ -323,7 +323,7 @@ impl Desk {
     }
 
     /// Makes an edit as [`Desk::apply`] does, by several workers, 1 to 64, who share out the jobs of its repair: see
-    /// `do_all` of adr_crew. Each passes the gate before each of its jobs; an event that comes and is laid over
+    /// `do_all` of adr_group. Each passes the gate before each of its jobs; an event that comes and is laid over
     /// timelines leaves no job. The answer is the same for every number of workers.
     pub fn apply_with<R: Threads + Sync, G: Gate + Sync>(
         &mut self,

@@ -1,6 +1,6 @@
 //! The group of resources to which no event applies.
 ghost use Rattle.std.specs.Prelude.{◌≡◌, ℕ, false, [], length, IfOk};
-ghost use Rattle.adr_value.specs.Answer.{OnlyNoMemory};
+ghost use Rattle.adr_refusal.specs.Answer.{OnlyNoMemory};
 ghost use Rattle.adr_model.specs.declared.entry.Tie.{Tie as AnyTie};
 ghost use Rattle.adr_schedule.specs.Seating.{has_at, AreRight};
 

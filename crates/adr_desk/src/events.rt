@@ -1,6 +1,6 @@
 //! An accepted edit of an event, made to the indexes and the groups.
 ghost use Rattle.std.specs.Prelude.{◌≡◌, ◌≤◌, ◌+◌, ◌*◌, ◌^◌, ◌<◌, [], ℕ, true, Some, Ok, length, slice_get, option_to_list, IfOk, OnOk, OnErr};
-ghost use Rattle.adr_value.specs.Answer.{OnlyNoMemory};
+ghost use Rattle.adr_refusal.specs.Answer.{OnlyNoMemory};
 ghost use Rattle.adr_value.specs.declared.payload.PayloadType.{PayloadType as AnyType};
 ghost use Rattle.adr_object.specs.declared.party.Resource.{Resource as OneResource};
 ghost use Rattle.adr_model.specs.declared.written.Written.{Written};

@@ -14,7 +14,7 @@ mod ranks;
 mod receipt;
 mod side;
 
-pub use adr_crew::{Gate, NoGate};
+pub use adr_gate::{Gate, NoGate};
 pub use adr_model::Touch;
 pub use adr_touches::EditTouches;
 pub use desk::Desk;

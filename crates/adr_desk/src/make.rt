@@ -1,6 +1,6 @@
 //! An accepted edit, made beside the old book.
 ghost use Rattle.std.specs.Prelude.{◌≡◌, ◌≤◌, ◌++◌, ◌∷◌, [], true, false, Ok, IsOk, IfOk, OnOk, OnErr};
-ghost use Rattle.adr_value.specs.Answer.{OnlyNoMemory};
+ghost use Rattle.adr_refusal.specs.Answer.{OnlyNoMemory};
 ghost use Rattle.adr_model.specs.Edits.{full_at, made, step_to};
 ghost use Rattle.adr_model.specs.Touches.{touches};
 ghost use Rattle.adr_model.specs.Whole.{IsWhole};

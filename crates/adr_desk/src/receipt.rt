@@ -1,7 +1,7 @@
 //! What an accepted edit did.
 ghost use Rattle.std.specs.Prelude.{◌≡◌, Ok, IfOk, flat_map};
-ghost use Rattle.adr_value.specs.Answer.{OnlyNoMemory};
-ghost use Rattle.adr_value.specs.Copy.{IsCopyOf};
+ghost use Rattle.adr_refusal.specs.Answer.{OnlyNoMemory};
+ghost use Rattle.adr_refusal.specs.Copy.{IsCopyOf};
 ghost use Rattle.adr_model.specs.Edits.{step};
 ghost use Rattle.adr_model.specs.Touches.{touches as touches_between_books};
 ghost use Rattle.adr_touches.specs.Edited.{AreByResource};

@@ -1,6 +1,6 @@
 //! The event that an edit takes away and the one that it makes, with their entries.
 ghost use Rattle.std.specs.Prelude.{◌≡◌, ◌+◌, Some, IfOk};
-ghost use Rattle.adr_value.specs.Answer.{OnlyNoMemory};
+ghost use Rattle.adr_refusal.specs.Answer.{OnlyNoMemory};
 ghost use Rattle.adr_model.specs.Book.{event_by};
 ghost use Rattle.adr_stretch.specs.Grouped.{written_event};
 ghost use Rattle.adr_book.specs.Judged.{placed_by, placed_of};

@@ -1,6 +1,6 @@
 //! The answers to queries from a snapshot.
 ghost use Rattle.std.specs.Prelude.{◌≡◌, IfSome, Ok, Err};
-ghost use Rattle.adr_value.specs.Answer.{Answers, result_map};
+ghost use Rattle.adr_refusal.specs.Answer.{Answers, result_map};
 ghost use Rattle.adr_model.specs.Queries.{answer as answer_of};
 ghost use Rattle.adr_server.specs.Text.{answer_line, refusal_line};
 ghost use Rattle.adr_fan.specs.Queries.{query_in};

@@ -9,4 +9,5 @@ pub mod Possible
 pub mod Rights
 pub mod Room
 pub mod Seen
+pub mod Sharing
 pub mod Turns

@@ -2,8 +2,8 @@
 ghost use Rattle.std.specs.Prelude.{◌≡◌, ◌≢◌, ◌+◌, ◌*◌, ◌++◌, ◌<◌, ◌≤◌, ◌^◌, ℕ, ℤ, true, false, List, [], None, Some, Ok, length, option_map, slice_get, IfOk, IfSome, if◌then◌else◌};
 ghost use Rattle.std.specs.List.{AllZip};
 ghost use Rattle.std.specs.Option.{option_copied, option_map_or};
-ghost use Rattle.adr_value.specs.Answer.{OnlyNoMemory};
-ghost use Rattle.adr_value.specs.Copy.{IsCopyOf};
+ghost use Rattle.adr_refusal.specs.Answer.{OnlyNoMemory};
+ghost use Rattle.adr_refusal.specs.Copy.{IsCopyOf};
 ghost use Rattle.adr_value.specs.Payload.{name_of};
 ghost use Rattle.adr_value.specs.declared.payload.PayloadType.{PayloadType as AnyType};
 ghost use Rattle.adr_shared.specs.Map.{IsAscending};

@@ -1,7 +1,7 @@
 //! The work of a repair, in jobs that may be done apart.
 ghost use Rattle.std.specs.Prelude.{◌≡◌, ◌<◌, ◌≤◌, ◌^◌, ◌++◌, ◌∷◌, [], position, sum_by, IfOk, OnOk};
-ghost use Rattle.adr_value.specs.Answer.{OnlyNoMemory};
-ghost use Rattle.adr_value.specs.Copy.{IsCopyOf};
+ghost use Rattle.adr_refusal.specs.Answer.{OnlyNoMemory};
+ghost use Rattle.adr_refusal.specs.Copy.{IsCopyOf};
 ghost use Rattle.adr_value.specs.Same.{same_type};
 ghost use Rattle.adr_group.specs.Jobs.{most_done, AreAlike, AreDone, IsDone};
 

@@ -1,7 +1,7 @@
 //! The entries of an event that are laid over timelines, type by type.
 ghost use Rattle.std.specs.Prelude.{◌≡◌, ◌+◌, ◌*◌, ◌<◌, ◌≤◌, ◌^◌, ℤ, length, IfOk, IfSome, if◌then◌else◌};
 ghost use Rattle.std.specs.List.{AllZip};
-ghost use Rattle.adr_value.specs.Answer.{OnlyNoMemory};
+ghost use Rattle.adr_refusal.specs.Answer.{OnlyNoMemory};
 ghost use Rattle.adr_value.specs.Same.{same_type};
 ghost use Rattle.adr_value.specs.declared.payload.PayloadType.{PayloadType as AnyType};
 ghost use Rattle.adr_model.specs.Timeline.{shows};

@@ -1,5 +1,6 @@
 #![tactic(auto)]
-//! The timelines of resources to which the same events apply, and their repair where events differ.
+//! The timelines of resources to which the same events apply, their repair where events differ, and workers that do the jobs
+//! of a repair at once.
 
 mod group;
 mod job;
@@ -7,6 +8,7 @@ mod laid;
 mod laws;
 mod line;
 mod repair;
+mod share;
 mod timelines;
 mod type_name;
 mod windows;
@@ -15,4 +17,5 @@ mod writes;
 pub use group::Group;
 pub use job::{Done, Job, do_jobs, shared_windows};
 pub use laws::{repairs_compare_little, repairs_have_room, right_moves};
+pub use share::do_all;
 pub use writes::Writes;

@@ -1,8 +1,8 @@
 //! Timelines by payload type.
 ghost use Rattle.std.specs.Prelude.{◌≡◌, ◌≢◌, ◌==◌, ℤ, [], None, length, option_map, slice_get, IfOk, IfSome, if◌then◌else◌};
 ghost use Rattle.std.specs.Option.{option_copied, option_map_or};
-ghost use Rattle.adr_value.specs.Answer.{OnlyNoMemory};
-ghost use Rattle.adr_value.specs.Copy.{IsCopyOf};
+ghost use Rattle.adr_refusal.specs.Answer.{OnlyNoMemory};
+ghost use Rattle.adr_refusal.specs.Copy.{IsCopyOf};
 ghost use Rattle.adr_value.specs.Payload.{name_of};
 ghost use Rattle.adr_value.specs.Same.{same_type};
 ghost use Rattle.adr_value.specs.declared.payload.PayloadType.{PayloadType as AnyType};

@@ -2,7 +2,7 @@
 ghost use Rattle.std.specs.Prelude.{◌≡◌, None, MatchOption};
 ghost use Rattle.std.specs.List.{slice_get};
 ghost use Rattle.std.specs.Option.{option_map};
-ghost use Rattle.adr_value.specs.Copy.{IsCopyOf};
+ghost use Rattle.adr_refusal.specs.Copy.{IsCopyOf};
 ghost use Rattle.adr_value.specs.Payload.{name_of};
 ghost use Rattle.adr_shared.specs.Map.{lookup};
 

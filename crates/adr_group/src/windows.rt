@@ -1,6 +1,6 @@
 //! The spans of windows.
 ghost use Rattle.std.specs.Prelude.{◌≡◌, ◌≤◌, ◌||◌, ℕ, ℤ, List, true, IfOk, IsTrue, OnOk};
-ghost use Rattle.adr_value.specs.Answer.{OnlyNoMemory};
+ghost use Rattle.adr_refusal.specs.Answer.{OnlyNoMemory};
 ghost use Rattle.adr_model.specs.declared.entry.Entry.{Entry as AnyEntry};
 ghost use Rattle.adr_timeline.specs.Build.{most_compared_all};
 ghost use Rattle.adr_timeline.specs.Windows.{all_last, any_covers};

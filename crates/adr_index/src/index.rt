@@ -2,7 +2,7 @@
 ghost use Rattle.std.specs.Prelude.{◌≡◌, ◌+◌, ◌*◌, ◌<◌, ◌≤◌, ◌^◌, [], true, false, length, IfOk, IfSome, IsOk, OnOk, OnErr};
 ghost use Rattle.std.specs.List.{list_any};
 ghost use Rattle.std.specs.List.Sorted.{IsPermutation};
-ghost use Rattle.adr_value.specs.Answer.{OnlyNoMemory};
+ghost use Rattle.adr_refusal.specs.Answer.{OnlyNoMemory};
 ghost use Rattle.adr_model.specs.Entries.{covering, meeting, IsListed};
 ghost use Rattle.adr_index.specs.Chunks.{all_listed, listed, AreChunks};
 ghost use Rattle.adr_index.specs.Index.{inserted, inserted_all, is_entry, most_probes, others_all, without, AreDistinct, AreNew, IsOrdered};
@@ -17,9 +17,9 @@ use crate::table::Table;
 use crate::tops::{rebuild_chunks, search_chunks};
 use crate::tree::digits;
 use adr_model::Entry;
+use adr_refusal::Refusal;
 use adr_rule::Meter;
 use adr_time::{Moment, Span};
-use adr_value::Refusal;
 use std::alloc::{AllocError, Global};
 use std::marker::Model;
 

@@ -1,6 +1,6 @@
 //! Sets of places, which take little memory where they have few.
 ghost use Rattle.std.specs.Prelude.{◌≡◌, ℕ, ◌+◌, ◌<◌, ◌==◌, ◌&&◌, ◌||◌, not, false, true, length, get_or, IsTrue, IfOk, MatchOption, OnOk};
-ghost use Rattle.adr_value.specs.Answer.{OnlyNoMemory};
+ghost use Rattle.adr_refusal.specs.Answer.{OnlyNoMemory};
 ghost use Rattle.adr_keys.specs.Blocks.{covers, is_set, includes, has_block};
 ghost use Rattle.adr_keys.specs.Places.{before_closing};
 ghost use Rattle.adr_keys.specs.declared.blocks.Block.{Block};

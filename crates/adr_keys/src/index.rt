@@ -1,7 +1,7 @@
 //! Rows of keys with an index of them.
 ghost use Rattle.std.specs.Prelude.{◌≡◌, ◌++◌, ◌∷◌, [], ◌<◌, ℕ, true, ◌||◌, IsTrue, None, length, get_or, set, remove, OnOk, OnErr};
 ghost use Rattle.std.specs.Option.{unwrap_or};
-ghost use Rattle.adr_value.specs.Answer.{OnlyNoMemory};
+ghost use Rattle.adr_refusal.specs.Answer.{OnlyNoMemory};
 ghost use Rattle.adr_keys.specs.Places.{has, fits};
 ghost use Rattle.adr_keys.specs.Rows.{offers_key, renewed, offers_fresh};
 ghost use Rattle.adr_keys.specs.Sets.{holds, is_ready, IsIndexOf};

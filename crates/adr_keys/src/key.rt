@@ -1,6 +1,6 @@
 //! What resources offer and events ask for.
 ghost use Rattle.std.specs.Prelude.{◌≡◌, fold};
-ghost use Rattle.adr_value.specs.Copy.{IsCopyOf};
+ghost use Rattle.adr_refusal.specs.Copy.{IsCopyOf};
 ghost use Rattle.adr_keys.specs.Key.{datum_input};
 
 use adr_value::{Datum, Name, Refusal, Text};

@@ -1,7 +1,7 @@
 //! Sets of places that are found.
 ghost use Rattle.std.specs.Prelude.{◌≡◌, ℕ, ◌+◌, ◌^◌, ◌/◌, ◌%◌, ◌<◌, ◌≤◌, ◌&&◌, ◌||◌, ◌++◌, ◌*◌, ◌≢◌, nat_lt, false, true, filter, map, length, IsTrue, IfOk, OnOk};
 ghost use Rattle.std.specs.List.{range_with_len};
-ghost use Rattle.adr_value.specs.Answer.{OnlyNoMemory};
+ghost use Rattle.adr_refusal.specs.Answer.{OnlyNoMemory};
 ghost use Rattle.adr_keys.specs.Blocks.{is_set, includes};
 ghost use Rattle.adr_keys.specs.Places.{bit, bits_of, has, fits};
 

@@ -5,7 +5,7 @@ ghost use Rattle.adr_keys.specs.Key.{same_key};
 ghost use Rattle.adr_keys.specs.Places.{has, fits, before_closing};
 ghost use Rattle.adr_keys.specs.Rows.{offers_key};
 ghost use Rattle.adr_keys.specs.Sets.{holds, is_ready};
-ghost use Rattle.adr_value.specs.Answer.{OnlyNoMemory};
+ghost use Rattle.adr_refusal.specs.Answer.{OnlyNoMemory};
 ghost use Rattle.adr_keys.specs.declared.key.Key.{Key};
 
 use crate::blocks::Blocks;

@@ -1,7 +1,7 @@
 -- What is left to lay out.
 use Rattle.std.specs.Prelude.{ℕ, ℤ, ◌++◌, List, Result, Option}
-use Rattle.adr_value.specs.Answer.{result_map}
-use Rattle.adr_value.specs.declared.refusal.Refusal.{Refusal}
+use Rattle.adr_refusal.specs.Answer.{result_map}
+use Rattle.adr_refusal.specs.declared.refusal.Refusal.{Refusal}
 use Rattle.adr_object.specs.declared.event.Period.{Period}
 use Rattle.adr_object.specs.declared.event.Interval.{Interval}
 use Rattle.adr_model.specs.declared.entry.Placed.{Placed}

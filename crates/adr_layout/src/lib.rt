@@ -2,13 +2,13 @@
 //! Where the intervals of an event lie in time.
 
 ghost use Rattle.std.specs.Prelude.{◌≡◌};
-ghost use Rattle.adr_value.specs.Answer.{Answers, result_map};
+ghost use Rattle.adr_refusal.specs.Answer.{Answers, result_map};
 ghost use Rattle.adr_model.specs.Layout.{layout, placed_from, first_start, start_after, duration_of, interval_span, span_from};
 
 pub use adr_model::Placed;
 use adr_object::{Event, Interval, Period};
+use adr_refusal::Refusal;
 use adr_time::{End, Length, Moment, Span, end_of};
-use adr_value::Refusal;
 use std::alloc::Global;
 
 /// Where the intervals of an event lie, with their places in its array (OpenADR 3.0 Definition, interval and

@@ -27,7 +27,7 @@ impl Drop for Indexes {
 impl Indexes {
     ghost use Rattle.std.specs.Prelude.{◌≡◌, ◌+◌, ◌≤◌, [], true, false, length, IfOk, OnOk};
     ghost use Rattle.std.specs.Option.{option_copied, option_map_or};
-    ghost use Rattle.adr_value.specs.Answer.{OnlyNoMemory};
+    ghost use Rattle.adr_refusal.specs.Answer.{OnlyNoMemory};
     ghost use Rattle.adr_value.specs.Same.{same_type};
     ghost use Rattle.adr_value.specs.declared.payload.PayloadType.{PayloadType as AnyType};
     ghost use Rattle.adr_model.specs.declared.entry.Tie.{Tie};

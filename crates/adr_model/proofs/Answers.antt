@@ -3,13 +3,13 @@ use Rattle.std.specs.Prelude.{◌≡◌, ℕ, ℤ, pos, ◌-ℤ◌, int_le, int_
 use Rattle.std.proofs.Common.{ap, ◌∙◌}
 use Rattle.std.specs.Option.{option_and_then, option_map_or}
 use Rattle.std.specs.Ordering.{int_cmp, int_eq}
-use Rattle.adr_value.specs.declared.refusal.Refusal.{Refusal}
+use Rattle.adr_refusal.specs.declared.refusal.Refusal.{Refusal}
 use Rattle.adr_model.specs.declared.entry.Entry.{Entry}
 use Rattle.std.specs.Fmt.{digits}
 use Rattle.adr_value.specs.Payload.{name_of}
 use Rattle.adr_value.specs.declared.payload.PayloadType.{PayloadType}
 use Rattle.adr_value.specs.declared.payload.PayloadType.TheVariants.{Price}
-use Rattle.adr_value.specs.declared.refusal.Refusal.TheVariants.{BadWindow, UnknownResource}
+use Rattle.adr_refusal.specs.declared.refusal.Refusal.TheVariants.{BadWindow, UnknownResource}
 use Rattle.adr_model.specs.declared.entry.Tie.TheVariants.{Newest}
 use Rattle.adr_model.specs.declared.timeline.Winner.{Winner}
 use Rattle.adr_model.specs.Rank.{ranked}

@@ -13,14 +13,14 @@ use Rattle.adr_value.specs.declared.payload.PayloadType.{PayloadType}
 use Rattle.adr_object.specs.declared.event.Payload.{Payload}
 use Rattle.adr_model.specs.Laws.{AcceptedEditsCount, BasesOnlyRefuse, JournalsGoOn, RefusedEditsChangeNothing, RepeatsAreOneEntry, VersionsAreEdits}
 use Rattle.std.specs.Result.{result_unwrap_or}
-use Rattle.adr_value.specs.Faults.{least_fault, unless_refused, judged}
-use Rattle.adr_value.specs.declared.refusal.Refusal.{Refusal}
-use Rattle.adr_value.proofs.Judged.{none_is_none}
+use Rattle.adr_refusal.specs.Faults.{least_fault, unless_refused, judged}
+use Rattle.adr_refusal.specs.declared.refusal.Refusal.{Refusal}
+use Rattle.adr_refusal.proofs.Judged.{none_is_none}
 use Rattle.adr_object.specs.declared.object.Edit.{Edit}
 use Rattle.adr_model.specs.Book.{Book, empty}
 use Rattle.adr_model.specs.Edits.{after, after_from, fault_if, faults, faults_to, full_at, has_id, is_named, layout_faults, made, step, step_by, step_to}
 use Rattle.adr_value.specs.declared.limits.TheConstants.{MOST_VERSION}
-use Rattle.adr_value.specs.declared.refusal.Refusal.TheVariants.{Full, InUse, NotThere}
+use Rattle.adr_refusal.specs.declared.refusal.Refusal.TheVariants.{Full, InUse, NotThere}
 use Rattle.adr_object.specs.declared.object.Edit.TheVariants.{Create, Change, Remove}
 
 -- where a value is answered, there is no fault

@@ -1,7 +1,7 @@
 -- Worked examples: what the machine replies to the edits of a script and to its publication.
 use Rattle.std.specs.Prelude.{◌≡◌, List, [], codes, refl}
 use Rattle.std.proofs.Common.{ap}
-use Rattle.adr_value.specs.Faults.{least_fault, judged}
+use Rattle.adr_refusal.specs.Faults.{least_fault, judged}
 use Rattle.adr_object.specs.declared.object.Edit.{Edit}
 use Rattle.adr_object.specs.declared.object.Edit.TheVariants.{Create}
 use Rattle.adr_object.specs.declared.object.Object.TheVariants.{Event as event}

@@ -2,10 +2,10 @@
 use Rattle.std.specs.Prelude.{◌≡◌, List, [], ◌∷◌, ◌++◌, codes, pos, true, Some, None, Ok, Err, refl, fold, map}
 use Rattle.std.proofs.Common.{ap}
 use Rattle.std.specs.Option.{option_map}
-use Rattle.adr_value.specs.Faults.{least_fault}
+use Rattle.adr_refusal.specs.Faults.{least_fault}
 use Rattle.adr_value.specs.declared.datum.Datum.{Datum}
 use Rattle.adr_value.specs.declared.datum.Datum.TheVariants.{Text, Truth, Point}
-use Rattle.adr_value.specs.declared.refusal.Refusal.TheVariants.{AfterEndless, Exists, InUse, NoStart, TimeRange}
+use Rattle.adr_refusal.specs.declared.refusal.Refusal.TheVariants.{AfterEndless, Exists, InUse, NoStart, TimeRange}
 use Rattle.adr_value.specs.declared.payload.PayloadType.{PayloadType}
 use Rattle.adr_value.specs.declared.payload.PayloadType.TheVariants.{Price, Private}
 use Rattle.adr_time.specs.declared.length.Length.TheVariants.{Endless as endless}

@@ -6,7 +6,7 @@ use Rattle.jiff_core.specs.Calendar.{days_from_civil, day_count, days_of_years, 
 use Rattle.jiff_fmt.specs.Temporal.{calendar_and_time, date_units, time_units}
 use Rattle.jiff_fmt.specs.Reader.{u64_prefix, checked_number, temporal_fraction}
 use Rattle.jiff_fmt.specs.Units.{to_span}
-use Rattle.adr_value.specs.declared.refusal.Refusal.TheVariants.{TimeRange}
+use Rattle.adr_refusal.specs.declared.refusal.Refusal.TheVariants.{TimeRange}
 use Rattle.adr_time.specs.Calendar.{date_of_day, day_after}
 use Rattle.adr_time.specs.Ends.{end_after}
 use Rattle.adr_time.specs.Lengths.{length_named, span_of}

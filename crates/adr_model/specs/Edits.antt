@@ -4,12 +4,12 @@ use Rattle.std.specs.List.{list_any}
 use Rattle.std.specs.Str.{bytes_eq}
 use Rattle.std.specs.Result.{result_unwrap_or, result_err}
 use Rattle.std.specs.Option.{option_map_or}
-use Rattle.adr_value.specs.Faults.{judged}
+use Rattle.adr_refusal.specs.Faults.{judged}
 use Rattle.adr_value.specs.Limits.{Limits, limits}
 use Rattle.adr_value.specs.Same.{same_type}
 use Rattle.adr_value.specs.declared.limits.TheConstants.{MOST_EDITS, MOST_VERSION}
-use Rattle.adr_value.specs.declared.refusal.Refusal.{Refusal}
-use Rattle.adr_value.specs.declared.refusal.Refusal.TheVariants.{Exists, NotThere, NoProgram, NoVen, InUse, Full}
+use Rattle.adr_refusal.specs.declared.refusal.Refusal.{Refusal}
+use Rattle.adr_refusal.specs.declared.refusal.Refusal.TheVariants.{Exists, NotThere, NoProgram, NoVen, InUse, Full}
 use Rattle.adr_object.specs.declared.event.Event.{Event}
 use Rattle.adr_object.specs.declared.event.Payload.{Payload}
 use Rattle.adr_object.specs.declared.object.Object.{Object}

@@ -4,7 +4,7 @@ use Rattle.std.specs.List.{AllByRecursion, list_any}
 use Rattle.std.specs.Fmt.{decimal}
 use Rattle.std.specs.Ordering.{int_eq}
 use Rattle.adr_value.specs.declared.payload.PayloadType.{PayloadType}
-use Rattle.adr_value.specs.declared.refusal.Refusal.{Refusal}
+use Rattle.adr_refusal.specs.declared.refusal.Refusal.{Refusal}
 use Rattle.adr_object.specs.declared.event.Interval.{Interval}
 use Rattle.adr_object.specs.declared.event.Payload.{Payload}
 use Rattle.adr_object.specs.declared.object.Edit.{Edit}

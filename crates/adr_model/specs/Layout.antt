@@ -1,9 +1,9 @@
 -- Where the intervals of an event lie in time (OpenADR 3.0 Definition: event, interval, intervalPeriod).
 use Rattle.std.specs.Prelude.{ℕ, ℤ, ◌+◌, List, [], ◌∷◌, Result, Ok, Err, Option, Some, None}
 use Rattle.std.specs.Option.{option_and_then, option_or}
-use Rattle.adr_value.specs.Answer.{result_and_then, result_map}
-use Rattle.adr_value.specs.declared.refusal.Refusal.{Refusal}
-use Rattle.adr_value.specs.declared.refusal.Refusal.TheVariants.{NoStart, AfterEndless}
+use Rattle.adr_refusal.specs.Answer.{result_and_then, result_map}
+use Rattle.adr_refusal.specs.declared.refusal.Refusal.{Refusal}
+use Rattle.adr_refusal.specs.declared.refusal.Refusal.TheVariants.{NoStart, AfterEndless}
 use Rattle.adr_time.specs.Ends.{end_after}
 use Rattle.adr_time.specs.declared.span.End.{End}
 use Rattle.adr_time.specs.declared.span.End.TheVariants.{At, Endless}

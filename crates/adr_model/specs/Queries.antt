@@ -9,8 +9,8 @@ use Rattle.std.specs.Fmt.{decimal, signed_decimal}
 use Rattle.adr_value.specs.Payload.{name_of, table}
 use Rattle.adr_value.specs.declared.payload.PayloadType.{PayloadType}
 use Rattle.adr_value.specs.declared.payload.PayloadType.TheVariants.{Private}
-use Rattle.adr_value.specs.declared.refusal.Refusal.{Refusal}
-use Rattle.adr_value.specs.declared.refusal.Refusal.TheVariants.{BadWindow, UnknownResource}
+use Rattle.adr_refusal.specs.declared.refusal.Refusal.{Refusal}
+use Rattle.adr_refusal.specs.declared.refusal.Refusal.TheVariants.{BadWindow, UnknownResource}
 use Rattle.adr_time.specs.Text.{moment_text}
 use Rattle.adr_time.specs.declared.span.End.{End}
 use Rattle.adr_time.specs.declared.span.End.TheVariants.{At, Endless}

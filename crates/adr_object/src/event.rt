@@ -1,5 +1,5 @@
 //! Events with their intervals, and the targets and payloads that they carry.
-ghost use Rattle.adr_value.specs.Copy.{IsCopyOf};
+ghost use Rattle.adr_refusal.specs.Copy.{IsCopyOf};
 
 use crate::id::Id;
 use adr_shared::Shared;

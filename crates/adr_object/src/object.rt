@@ -1,6 +1,6 @@
 //! Objects of any kind, and the edits of them.
 ghost use Rattle.std.specs.Prelude.{◌≡◌};
-ghost use Rattle.adr_value.specs.Copy.{IsCopyOf};
+ghost use Rattle.adr_refusal.specs.Copy.{IsCopyOf};
 ghost use Rattle.adr_object.specs.Object.{kind_of, id_of};
 
 use crate::event::Event;

@@ -1,5 +1,5 @@
 //! Programs, vens and their resources.
-ghost use Rattle.adr_value.specs.Copy.{IsCopyOf};
+ghost use Rattle.adr_refusal.specs.Copy.{IsCopyOf};
 
 use crate::event::Target;
 use crate::id::Id;

@@ -14,8 +14,8 @@ use Rattle.adr_model.specs.Rank.{carries}
 use Rattle.adr_plain.specs.Scan.{placed_entries}
 use Rattle.std.specs.Prelude.{Result, Ok, Err}
 use Rattle.std.specs.Result.{result_unwrap_or}
-use Rattle.adr_value.specs.Answer.{result_map}
-use Rattle.adr_value.specs.declared.refusal.Refusal.{Refusal}
+use Rattle.adr_refusal.specs.Answer.{result_map}
+use Rattle.adr_refusal.specs.declared.refusal.Refusal.{Refusal}
 
 pub placed_entries-from : (kind : PayloadType) (w : Written) (n : ℕ) (is : List Interval) (spans : List Span)
     → placed_entries kind w is (placed_from n spans)

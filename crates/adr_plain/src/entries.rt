@@ -1,7 +1,7 @@
 //! The entries of a payload type for a resource, found by going through all events.
 ghost use Rattle.std.specs.Prelude.{◌≡◌, ◌++◌, [], OnOk, IfOk};
 ghost use Rattle.std.specs.Result.{result_unwrap_or};
-ghost use Rattle.adr_value.specs.Answer.{OnlyNoMemory};
+ghost use Rattle.adr_refusal.specs.Answer.{OnlyNoMemory};
 ghost use Rattle.adr_model.specs.Governor.{entry_at, entries_of, entries_for as entries_of_type, ranked_entries as entries_by_rank};
 ghost use Rattle.adr_model.specs.Layout.{layout, placed_from};
 ghost use Rattle.adr_model.specs.Rank.{carries as has_type, late_of as lateness, priority_of as priority_number, ranked as ranked_by};

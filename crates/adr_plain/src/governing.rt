@@ -1,6 +1,6 @@
 //! What wins among entries, and until when.
 ghost use Rattle.std.specs.Prelude.{◌≡◌, Some, cond, filter, IfOk};
-ghost use Rattle.adr_value.specs.Answer.{OnlyNoMemory};
+ghost use Rattle.adr_refusal.specs.Answer.{OnlyNoMemory};
 ghost use Rattle.adr_time.specs.Spans.{covers as is_covered};
 ghost use Rattle.adr_model.specs.Answer.{bounds as bounds_of, changes, earlier_of, earliest, is_change, same_winner as is_same_winner};
 ghost use Rattle.adr_model.specs.Governor.{first_of, winner_at as winner_of_all_at};

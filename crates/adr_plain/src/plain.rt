@@ -1,7 +1,7 @@
 //! The machine that keeps the book and answers from its last publication.
 ghost use Rattle.std.specs.Prelude.{◌≡◌, ◌+◌, ◌++◌, ◌⊎◌, ◌<◌, ◌≤◌, OnOk, OnErr, IfOk, IfErr, Ok, Err};
-ghost use Rattle.adr_value.specs.Answer.{Answers, OnlyNoMemory, result_map};
-ghost use Rattle.adr_value.specs.declared.refusal.Refusal.TheVariants.{NoMemory, Full};
+ghost use Rattle.adr_refusal.specs.Answer.{Answers, OnlyNoMemory, result_map};
+ghost use Rattle.adr_refusal.specs.declared.refusal.Refusal.TheVariants.{NoMemory, Full};
 ghost use Rattle.adr_plain.specs.Kept.{kept_start};
 ghost use Rattle.adr_model.specs.Edits.{full_at, step_to};
 ghost use Rattle.adr_model.specs.Answer.{at};

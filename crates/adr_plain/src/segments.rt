@@ -1,6 +1,6 @@
 //! The segments of a window.
 ghost use Rattle.std.specs.Prelude.{◌≡◌, ◌++◌, ◌≤ℤ◌, ◌&&◌, int_le, int_lt, OnOk, IfOk, flat_map};
-ghost use Rattle.adr_value.specs.Answer.{OnlyNoMemory};
+ghost use Rattle.adr_refusal.specs.Answer.{OnlyNoMemory};
 ghost use Rattle.adr_calendar.specs.Segments.{segments_within};
 ghost use Rattle.adr_plain.specs.Scan.{begins_in, segment_at, segment_of};
 

@@ -1,6 +1,6 @@
 //! What governs at a moment, and until when.
 ghost use Rattle.std.specs.Prelude.{IfOk};
-ghost use Rattle.adr_value.specs.Answer.{OnlyNoMemory};
+ghost use Rattle.adr_refusal.specs.Answer.{OnlyNoMemory};
 ghost use Rattle.adr_calendar.specs.Segments.{IsStateAt};
 
 use crate::entries::ranked_entries;

@@ -2,7 +2,7 @@
 ghost use Rattle.std.specs.Prelude.{◌≡◌, ◌++◌, [], OnOk, IfOk, flat_map, is_some};
 ghost use Rattle.std.specs.Option.{option_map_or};
 ghost use Rattle.std.specs.List.{list_any, slice_get};
-ghost use Rattle.adr_value.specs.Answer.{OnlyNoMemory};
+ghost use Rattle.adr_refusal.specs.Answer.{OnlyNoMemory};
 ghost use Rattle.adr_value.specs.Payload.{of_code, table};
 ghost use Rattle.adr_value.specs.declared.payload.PayloadType.TheVariants.{Private};
 ghost use Rattle.adr_model.specs.Governor.{winner_at as winner_of_all_at};

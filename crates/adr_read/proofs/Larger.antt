@@ -5,12 +5,12 @@ use Rattle.std.specs.List.{flat_map}
 use Rattle.std.proofs.lemmas.Bool.{false≢true}
 use Rattle.serde_json.specs.Data.{Data, Items}
 use Rattle.serde_json.specs.Find.{as_array}
-use Rattle.adr_value.specs.Agreeing.{Agrees}
-use Rattle.adr_value.specs.Faults.{judged}
+use Rattle.adr_refusal.specs.Agreeing.{Agrees}
+use Rattle.adr_refusal.specs.Faults.{judged}
 use Rattle.adr_value.specs.Limits.{Limits, AreWithin}
-use Rattle.adr_value.specs.declared.refusal.Refusal.{Refusal}
-use Rattle.adr_value.specs.declared.refusal.Refusal.TheVariants.{TooMany}
-use Rattle.adr_value.proofs.Agreeing.{agrees_then, judged_inside}
+use Rattle.adr_refusal.specs.declared.refusal.Refusal.{Refusal}
+use Rattle.adr_refusal.specs.declared.refusal.Refusal.TheVariants.{TooMany}
+use Rattle.adr_refusal.proofs.Agreeing.{agrees_then, judged_inside}
 use Rattle.adr_object.specs.declared.event.Event.{Event}
 use Rattle.adr_read.specs.Body.{event_named_by, object_named}
 use Rattle.adr_read.specs.Larger.{LargerLimitsReadTheSame}

@@ -10,11 +10,11 @@ use Rattle.std.proofs.Math.Dec.{leb}
 use Rattle.serde_json.specs.Data.{Data, array}
 use Rattle.serde_json.specs.Find.{as_array}
 use Rattle.serde_json.specs.View.{items_of}
-use Rattle.adr_value.proofs.Judged.{least-append, least_le, number_of_le}
-use Rattle.adr_value.specs.Faults.{least, none, Gives}
-use Rattle.adr_value.specs.Refusal.{number_of}
-use Rattle.adr_value.specs.declared.refusal.Refusal.{Refusal}
-use Rattle.adr_value.specs.declared.refusal.Refusal.TheVariants.{TooMany}
+use Rattle.adr_refusal.proofs.Judged.{least-append, least_le, number_of_le}
+use Rattle.adr_refusal.specs.Faults.{least, none, Gives}
+use Rattle.adr_refusal.specs.Refusal.{number_of}
+use Rattle.adr_refusal.specs.declared.refusal.Refusal.{Refusal}
+use Rattle.adr_refusal.specs.declared.refusal.Refusal.TheVariants.{TooMany}
 use Rattle.adr_read.specs.Looking.{elements}
 use Rattle.adr_read.specs.Sets.{unless, list_faults, at_places, list_in}
 use Rattle.adr_read.specs.Listed.{AreOf}

@@ -4,10 +4,10 @@ use Rattle.std.specs.Prelude.{pos, ◌⊎◌, Ok, Err, MatchOption, MatchResult,
 use Rattle.std.specs.Option.{ok_or}
 use Rattle.serde_json.specs.Data.{Data, Members, object}
 use Rattle.serde_json.specs.Find.{as_object}
-use Rattle.adr_value.proofs.Judged.{number_of_le}
-use Rattle.adr_value.specs.Faults.{least, none, IsRefusedFor}
-use Rattle.adr_value.specs.declared.refusal.Refusal.{Refusal}
-use Rattle.adr_value.specs.declared.refusal.Refusal.TheVariants.{NoMemory, NotObject}
+use Rattle.adr_refusal.proofs.Judged.{number_of_le}
+use Rattle.adr_refusal.specs.Faults.{least, none, IsRefusedFor}
+use Rattle.adr_refusal.specs.declared.refusal.Refusal.{Refusal}
+use Rattle.adr_refusal.specs.declared.refusal.Refusal.TheVariants.{NoMemory, NotObject}
 use Rattle.adr_read.specs.declared.element.Context.{Context}
 use Rattle.adr_read.specs.Body.{object_or}
 use Rattle.adr_read.specs.Looking.{text_of}

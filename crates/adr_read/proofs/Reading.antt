@@ -3,13 +3,13 @@ use Rattle.std.proofs.Common.{◌≡◌, List, [], ◌∷◌, refl, ap, subst, i
 use Rattle.std.specs.Prelude.{◌⊎◌, Option, Some, None, is_some, Result, Ok, Err, if◌then◌else◌}
 use Rattle.serde_json.specs.Data.{Data, Members, object}
 use Rattle.serde_json.specs.Find.{as_object}
-use Rattle.adr_value.proofs.Judged.{least_none, answers, number_of_le}
-use Rattle.adr_value.specs.Answer.{Answers, result_map, result_and_then}
-use Rattle.adr_value.specs.Faults.{least, none, Gives, IsRefusedFor, judged}
+use Rattle.adr_refusal.proofs.Judged.{least_none, answers, number_of_le}
+use Rattle.adr_refusal.specs.Answer.{Answers, result_map, result_and_then}
+use Rattle.adr_refusal.specs.Faults.{least, none, Gives, IsRefusedFor, judged}
 use Rattle.adr_value.specs.Payload.{shape_of}
 use Rattle.adr_value.specs.Shapes.{has_shape}
-use Rattle.adr_value.specs.declared.refusal.Refusal.{Refusal}
-use Rattle.adr_value.specs.declared.refusal.Refusal.TheVariants.{BadShape, NoMemory}
+use Rattle.adr_refusal.specs.declared.refusal.Refusal.{Refusal}
+use Rattle.adr_refusal.specs.declared.refusal.Refusal.TheVariants.{BadShape, NoMemory}
 use Rattle.adr_object.specs.declared.event.Payload.{Payload}
 use Rattle.adr_read.specs.Sets.{unless, of_object, if_none}
 use Rattle.adr_read.specs.Values.{map_faults, shape_faults, payload_faults, payload_in}

@@ -5,12 +5,12 @@ use Rattle.std.specs.Option.{ok_or}
 use Rattle.json.specs.Token as json
 use Rattle.json.specs.Token.{string, number, bad}
 use Rattle.serde_json.specs.Data.{string as text}
-use Rattle.adr_value.specs.Faults.{Gives}
+use Rattle.adr_refusal.specs.Faults.{Gives}
 use Rattle.adr_value.specs.Number.{Number as Decimal}
 use Rattle.adr_value.specs.Value.{number_of}
 use Rattle.adr_value.specs.declared.datum.Datum.TheVariants.{Number as NumberDatum}
-use Rattle.adr_value.specs.declared.refusal.Refusal.{Refusal}
-use Rattle.adr_value.specs.declared.refusal.Refusal.TheVariants.{BadJson, NoMemory}
+use Rattle.adr_refusal.specs.declared.refusal.Refusal.{Refusal}
+use Rattle.adr_refusal.specs.declared.refusal.Refusal.TheVariants.{BadJson, NoMemory}
 use Rattle.adr_read.specs.Tokens.{fits, shielded_token, seen}
 use Rattle.adr_read.specs.Values.{datum_faults, datum_in}
 use Rattle.json.proofs.Grammar.{value_is}

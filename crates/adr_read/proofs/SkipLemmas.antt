@@ -12,7 +12,7 @@ use Rattle.json.proofs.Printed.Tokens.{tokens-print}
 use Rattle.serde_json.specs.Data as found
 use Rattle.serde_json.specs.Data.{Data, Members, no_members, put}
 use Rattle.serde_json.specs.Read.{number_of, of_json, of_items, of_members, converted, max_depth, read}
-use Rattle.adr_value.specs.declared.refusal.Refusal.{Refusal}
+use Rattle.adr_refusal.specs.declared.refusal.Refusal.{Refusal}
 use Rattle.adr_read.specs.Coming.{coming, Comes}
 use Rattle.adr_read.proofs.ComingLemmas.{converted_parts, converted-parsed}
 

@@ -2,9 +2,9 @@
 use Rattle.std.proofs.Common.{◌≡◌, ℕ, List, [], Bool, true, false, refl, sym, ap, ◌∙◌, arith}
 use Rattle.std.specs.Prelude.{ℤ, pos, Result, Ok, Err, Some, unwrap_or, if◌then◌else◌}
 use Rattle.serde_json.specs.Data.{Data}
-use Rattle.adr_value.proofs.Judged.{number_of_le}
-use Rattle.adr_value.specs.Faults.{Gives}
-use Rattle.adr_value.specs.declared.refusal.Refusal.{Refusal}
+use Rattle.adr_refusal.proofs.Judged.{number_of_le}
+use Rattle.adr_refusal.specs.Faults.{Gives}
+use Rattle.adr_refusal.specs.declared.refusal.Refusal.{Refusal}
 use Rattle.adr_time.specs.Reading.{is_zero_start, start_named}
 use Rattle.adr_read.specs.Looking.{text_of}
 use Rattle.adr_read.specs.Sets.{faults_of, given, of_kind}

@@ -10,9 +10,9 @@ use Rattle.adr_read.specs.declared.tokens.Token.TheVariants.{BeginObject, EndObj
 use Rattle.serde_json.specs.Data.{Data, Members, object, put}
 use Rattle.serde_json.specs.Find.{get_member, as_object}
 use Rattle.serde_json.proofs.Views.{get_member-put}
-use Rattle.adr_value.specs.Faults.{least}
-use Rattle.adr_value.specs.declared.refusal.Refusal.{Refusal}
-use Rattle.adr_value.specs.declared.refusal.Refusal.TheVariants.{BadJson, NoMemory}
+use Rattle.adr_refusal.specs.Faults.{least}
+use Rattle.adr_refusal.specs.declared.refusal.Refusal.{Refusal}
+use Rattle.adr_refusal.specs.declared.refusal.Refusal.TheVariants.{BadJson, NoMemory}
 use Rattle.adr_read.specs.Gathering.{among_both}
 use Rattle.adr_read.specs.Coming.{Tells}
 use Rattle.adr_read.proofs.ComingLemmas.{Begins, token_is_null, token_str}

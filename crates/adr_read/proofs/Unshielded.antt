@@ -15,8 +15,8 @@ use Rattle.json.specs.Token.{Token}
 use Rattle.memchr.specs.Find.{Nowhere, OccursAt, FindsNeedle}
 use Rattle.serde_json.specs.Data.{Data}
 use Rattle.serde_json.specs.Read.{of_json, max_depth}
-use Rattle.adr_value.specs.declared.refusal.Refusal.{Refusal}
-use Rattle.adr_value.specs.declared.refusal.Refusal.TheVariants.{BadJson, NoMemory}
+use Rattle.adr_refusal.specs.declared.refusal.Refusal.{Refusal}
+use Rattle.adr_refusal.specs.declared.refusal.Refusal.TheVariants.{BadJson, NoMemory}
 use Rattle.adr_read.specs.Body.{value_of, object_or, object_of_shielded, object_named}
 use Rattle.adr_read.specs.Seen.{whole_value, value_seen, nul_first, HasNoNul}
 use Rattle.adr_read.specs.Tokens.{shielded_tokens}

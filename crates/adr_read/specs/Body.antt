@@ -4,12 +4,12 @@ use Rattle.std.specs.Str.{is_utf8}
 use Rattle.serde_json.specs.Data.{Data}
 use Rattle.serde_json.specs.Find.{as_object}
 use Rattle.serde_json.specs.Read.{read}
-use Rattle.adr_value.specs.Answer.{result_and_then}
-use Rattle.adr_value.specs.Faults.{judged}
+use Rattle.adr_refusal.specs.Answer.{result_and_then}
+use Rattle.adr_refusal.specs.Faults.{judged}
 use Rattle.adr_value.specs.Limits.{Limits, limits}
 use Rattle.adr_value.specs.Shield.{shield_of}
-use Rattle.adr_value.specs.declared.refusal.Refusal.{Refusal}
-use Rattle.adr_value.specs.declared.refusal.Refusal.TheVariants.{BadNumber, BadJson, NotObject}
+use Rattle.adr_refusal.specs.declared.refusal.Refusal.{Refusal}
+use Rattle.adr_refusal.specs.declared.refusal.Refusal.TheVariants.{BadNumber, BadJson, NotObject}
 use Rattle.adr_object.specs.declared.event.Event.{Event}
 use Rattle.adr_object.specs.declared.party.Program.{Program}
 use Rattle.adr_object.specs.declared.party.Ven.{Ven}

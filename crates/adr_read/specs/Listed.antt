@@ -2,9 +2,9 @@
 use Rattle.std.specs.Prelude.{◌≡◌, ℕ, min, nat_le, List, length}
 use Rattle.std.specs.List.{flat_map}
 use Rattle.serde_json.specs.Data.{Data}
-use Rattle.adr_value.specs.Faults.{least, none}
-use Rattle.adr_value.specs.declared.refusal.Refusal.{Refusal}
-use Rattle.adr_value.specs.declared.refusal.Refusal.TheVariants.{TooMany}
+use Rattle.adr_refusal.specs.Faults.{least, none}
+use Rattle.adr_refusal.specs.declared.refusal.Refusal.{Refusal}
+use Rattle.adr_refusal.specs.declared.refusal.Refusal.TheVariants.{TooMany}
 use Rattle.adr_read.specs.Sets.{unless, at_places}
 
 -- of that list, the count, up to the limit, the least fault, and where there is none what its elements stand for

@@ -3,8 +3,8 @@ use Rattle.std.specs.Prelude.{ℕ, List, [], ◌∷◌, Bool, true, ◌&&◌, no
 use Rattle.std.specs.List.{list_any}
 use Rattle.std.specs.Str.{bytes_eq}
 use Rattle.serde_json.specs.Data.{Data}
-use Rattle.adr_value.specs.Faults.{Gives}
-use Rattle.adr_value.specs.declared.refusal.Refusal.{Refusal}
+use Rattle.adr_refusal.specs.Faults.{Gives}
+use Rattle.adr_refusal.specs.declared.refusal.Refusal.{Refusal}
 
 -- what was read is what the member gives, and nothing where it is absent or null
 abbrev pub Holds : {T : Type 0} → (Data → List Refusal) → (Data → T) → Option (Result T Refusal) → Option Data → Type 0

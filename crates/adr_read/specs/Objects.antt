@@ -2,8 +2,8 @@
 use Rattle.std.specs.Prelude.{ℕ, ℤ, pos, List, [], ◌++◌, codes, option_map, unwrap_or}
 use Rattle.serde_json.specs.Data.{Data}
 use Rattle.adr_value.specs.Limits.{Limits, limits}
-use Rattle.adr_value.specs.declared.refusal.Refusal.{Refusal}
-use Rattle.adr_value.specs.declared.refusal.Refusal.TheVariants.{WrongKind, IdMismatch}
+use Rattle.adr_refusal.specs.declared.refusal.Refusal.{Refusal}
+use Rattle.adr_refusal.specs.declared.refusal.Refusal.TheVariants.{WrongKind, IdMismatch}
 use Rattle.adr_object.specs.declared.event.Event.{Event}
 use Rattle.adr_object.specs.declared.event.Target.{Target}
 use Rattle.adr_object.specs.declared.party.Program.{Program}

@@ -1,7 +1,7 @@
 -- Starts, lengths, periods and intervals: what is wrong with each, and what it stands for.
 use Rattle.std.specs.Prelude.{ℤ, pos, List, ◌++◌, codes, option_map, unwrap_or}
 use Rattle.serde_json.specs.Data.{Data}
-use Rattle.adr_value.specs.declared.refusal.Refusal.{Refusal}
+use Rattle.adr_refusal.specs.declared.refusal.Refusal.{Refusal}
 use Rattle.adr_time.specs.Lengths.{length_named}
 use Rattle.adr_time.specs.Reading.{start_named}
 use Rattle.adr_time.specs.declared.length.Length.{Length}

@@ -9,8 +9,8 @@ use Rattle.adr_value.specs.Shapes.{has_shape}
 use Rattle.adr_value.specs.declared.datum.Datum.{Datum}
 use Rattle.adr_value.specs.declared.datum.Datum.TheVariants.{Number, Text, Truth, Point}
 use Rattle.adr_value.specs.declared.payload.PayloadType.{PayloadType}
-use Rattle.adr_value.specs.declared.refusal.Refusal.{Refusal}
-use Rattle.adr_value.specs.declared.refusal.Refusal.TheVariants.{WrongType, BadText, BadPriority, BadShape}
+use Rattle.adr_refusal.specs.declared.refusal.Refusal.{Refusal}
+use Rattle.adr_refusal.specs.declared.refusal.Refusal.TheVariants.{WrongType, BadText, BadPriority, BadShape}
 use Rattle.adr_object.specs.Id.{is_id}
 use Rattle.adr_object.specs.declared.event.Target.{Target}
 use Rattle.adr_object.specs.declared.event.Payload.{Payload}

@@ -1,8 +1,8 @@
 //! What it is to be read from a value of a body.
 ghost use Rattle.std.specs.Prelude.{◌≡◌, ◌∷◌, List, pos};
 ghost use Rattle.serde_json.specs.Data.{Data};
-ghost use Rattle.adr_value.specs.Faults.{Gives};
-ghost use Rattle.adr_value.specs.declared.refusal.Refusal.{Refusal};
+ghost use Rattle.adr_refusal.specs.Faults.{Gives};
+ghost use Rattle.adr_refusal.specs.declared.refusal.Refusal.{Refusal};
 ghost use Rattle.adr_read.specs.Coming.{coming, Tells};
 ghost use Rattle.adr_read.specs.Tokens.{token_of, IsSound};
 ghost use Rattle.adr_read.specs.declared.element.Context.{Context};

@@ -4,7 +4,7 @@ ghost use Rattle.json.specs.Json.{items, value, after_end_array};
 ghost use Rattle.serde_json.specs.Data.{Data, array};
 ghost use Rattle.serde_json.specs.Read.{of_items, converted};
 ghost use Rattle.serde_json.specs.View.{items_of};
-ghost use Rattle.adr_value.specs.Faults.{Gives};
+ghost use Rattle.adr_refusal.specs.Faults.{Gives};
 ghost use Rattle.adr_read.specs.Listed.{AreOf};
 ghost use Rattle.adr_read.specs.Sets.{list_faults, list_in};
 ghost use Rattle.adr_read.specs.Tokens.{token_of, IsSound};

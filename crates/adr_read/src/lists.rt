@@ -1,7 +1,7 @@
 //! Lists of values, and the targets and payloads that hold them.
 ghost use Rattle.std.specs.Prelude.{◌≡◌, ◌∷◌, ◌++◌, codes, pos, Option, [], unwrap_or};
 ghost use Rattle.serde_json.specs.Data.{Data};
-ghost use Rattle.adr_value.specs.Faults.{Gives};
+ghost use Rattle.adr_refusal.specs.Faults.{Gives};
 ghost use Rattle.adr_read.specs.Coming.{coming, Tells};
 ghost use Rattle.adr_read.specs.Looking.{the, member_at};
 ghost use Rattle.adr_read.specs.Sets.{of_object, required, list_faults, list_in};

@@ -5,7 +5,7 @@ ghost use Rattle.serde_json.specs.Data.{Data, null, Members as DataMembers, obje
 ghost use Rattle.json.specs.Json.{members, value, read_key};
 ghost use Rattle.serde_json.specs.Find.{as_object};
 ghost use Rattle.serde_json.specs.Read.{of_members, converted};
-ghost use Rattle.adr_value.specs.Faults.{Gives};
+ghost use Rattle.adr_refusal.specs.Faults.{Gives};
 ghost use Rattle.adr_read.specs.Coming.{coming, Tells};
 ghost use Rattle.adr_read.specs.Looking.{present, member_at};
 ghost use Rattle.adr_read.specs.Sets.{required, optional};

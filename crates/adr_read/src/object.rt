@@ -1,8 +1,8 @@
 //! Programs, vens and resources, and what all objects share.
 ghost use Rattle.std.specs.Prelude.{◌≡◌, ◌++◌, codes, Option, None, [], option_map, unwrap_or};
 ghost use Rattle.serde_json.specs.Data.{Data, null};
-ghost use Rattle.adr_value.specs.Faults.{Gives};
-ghost use Rattle.adr_value.specs.declared.refusal.Refusal.TheVariants.{WrongKind, IdMismatch};
+ghost use Rattle.adr_refusal.specs.Faults.{Gives};
+ghost use Rattle.adr_refusal.specs.declared.refusal.Refusal.TheVariants.{WrongKind, IdMismatch};
 ghost use Rattle.adr_read.specs.Looking.{member_at};
 ghost use Rattle.adr_read.specs.Members.{Holds};
 ghost use Rattle.adr_read.specs.Sets.{required, optional};

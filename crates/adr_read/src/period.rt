@@ -1,8 +1,8 @@
 //! Starts, lengths, periods and intervals.
 ghost use Rattle.std.specs.Prelude.{◌≡◌, ◌++◌, ℤ, Option, option_map, unwrap_or};
 ghost use Rattle.serde_json.specs.Data.{Data, null};
-ghost use Rattle.adr_value.specs.Copy.{IsCopyOf};
-ghost use Rattle.adr_value.specs.Faults.{Gives};
+ghost use Rattle.adr_refusal.specs.Copy.{IsCopyOf};
+ghost use Rattle.adr_refusal.specs.Faults.{Gives};
 ghost use Rattle.adr_read.specs.Members.{Holds};
 ghost use Rattle.adr_read.specs.Sets.{required, optional, list_faults, list_in};
 ghost use Rattle.adr_read.specs.Values.{interval_id_faults, interval_id_in, payload_faults, payload_in};

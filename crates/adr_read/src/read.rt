@@ -5,7 +5,7 @@
 //! least of the body's faults; `NoMemory` may come in place of any answer. A body is read once, token by token, in memory
 //! of its length beside the object's; where something is wrong, or the bytes `\u0000` stand in it, once more as a
 //! shielded text, in memory of that too.
-ghost use Rattle.adr_value.specs.Answer.{Answers};
+ghost use Rattle.adr_refusal.specs.Answer.{Answers};
 ghost use Rattle.adr_read.specs.Body.{program_named, ven_named, resource_named, event_named};
 ghost use Rattle.adr_read.specs.Larger.{LargerLimitsReadTheSame};
 

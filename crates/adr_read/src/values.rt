@@ -1,7 +1,7 @@
 //! The plain values: texts, names, ids, types, numbers and data.
 ghost use Rattle.std.specs.Prelude.{◌≡◌, ◌∷◌, ◌++◌, Option, Some, None, pos, unsigned_abs, unwrap_or, if◌then◌else◌};
 ghost use Rattle.serde_json.specs.Data.{Data, null, string};
-ghost use Rattle.adr_value.specs.Faults.{Gives};
+ghost use Rattle.adr_refusal.specs.Faults.{Gives};
 ghost use Rattle.adr_value.specs.declared.datum.Datum.TheVariants.{Point};
 ghost use Rattle.adr_read.specs.Coming.{coming, Tells};
 ghost use Rattle.adr_read.specs.Members.{Holds};

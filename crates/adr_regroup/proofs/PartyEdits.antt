@@ -8,8 +8,8 @@ use Rattle.std.specs.List.{AllByRecursion, IsDistinct}
 use Rattle.std.specs.Option.{option_map, option_map_or}
 use Rattle.std.specs.Str.{bytes_eq}
 use Rattle.adr_value.specs.declared.limits.TheConstants.{MOST_VERSION}
-use Rattle.adr_value.specs.declared.refusal.Refusal.{Refusal}
-use Rattle.adr_value.specs.declared.refusal.Refusal.TheVariants.{Exists, NotThere, InUse, Full}
+use Rattle.adr_refusal.specs.declared.refusal.Refusal.{Refusal}
+use Rattle.adr_refusal.specs.declared.refusal.Refusal.TheVariants.{Exists, NotThere, InUse, Full}
 use Rattle.adr_object.specs.declared.object.Object.{Object}
 use Rattle.adr_object.specs.declared.object.Object.TheVariants.{Program as program_object, Event as event_object, Ven as ven_object, Resource as resource_object}
 use Rattle.adr_object.specs.declared.object.Kind.{Kind}

@@ -1,7 +1,7 @@
 //! The places of the resources of a ven.
 ghost use Rattle.std.specs.Prelude.{◌≡◌, ◌<◌, true, Some, length, slice_get, IfOk, IsOk};
 ghost use Rattle.std.specs.Str.{bytes_eq};
-ghost use Rattle.adr_value.specs.Answer.{OnlyNoMemory};
+ghost use Rattle.adr_refusal.specs.Answer.{OnlyNoMemory};
 ghost use Rattle.adr_object.specs.declared.party.Resource.{Resource as OneResource};
 ghost use Rattle.adr_model.specs.Edits.{step};
 ghost use Rattle.adr_model.specs.Whole.{IsWhole};

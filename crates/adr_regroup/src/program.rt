@@ -1,7 +1,7 @@
 //! What an edit of a program does to the schedule.
 ghost use Rattle.std.specs.Prelude.{◌≡◌, ◌<◌, ◌≤◌, ◌+◌, [], ℕ, Some, not, true, filter, is_some, length, sum_by, IfOk, OnOk};
 ghost use Rattle.std.specs.List.Sorted.{IsStrictlyIncreasing};
-ghost use Rattle.adr_value.specs.Answer.{OnlyNoMemory};
+ghost use Rattle.adr_refusal.specs.Answer.{OnlyNoMemory};
 ghost use Rattle.adr_model.specs.Book.{program_by};
 ghost use Rattle.adr_model.specs.Touches.{touches};
 ghost use Rattle.adr_object.specs.declared.object.Edit.TheVariants.{Change as change_to};

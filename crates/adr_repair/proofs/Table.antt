@@ -3,7 +3,7 @@ use Rattle.std.proofs.Common.{◌≡◌, ℕ, ◌+◌, ◌≤◌, ◌==◌, Bool
 use Rattle.std.specs.Str.{bytes_eq}
 use Rattle.std.specs.Bool.{then_some}
 use Rattle.std.specs.Option.{option_map_or, option_and_then, option_map}
-use Rattle.adr_value.specs.declared.refusal.Refusal.TheVariants.{Exists}
+use Rattle.adr_refusal.specs.declared.refusal.Refusal.TheVariants.{Exists}
 use Rattle.adr_object.specs.declared.party.Program.{Program}
 use Rattle.adr_object.specs.declared.party.Ven.{Ven}
 use Rattle.adr_object.specs.declared.party.Resource.{Resource}

@@ -1,7 +1,7 @@
 //! Groups whose slots get what was made for them.
 ghost use Rattle.std.specs.Prelude.{◌≡◌, ◌==◌, ℕ, IfOk, if◌then◌else◌};
 ghost use Rattle.std.specs.Option.{option_or};
-ghost use Rattle.adr_value.specs.Answer.{OnlyNoMemory};
+ghost use Rattle.adr_refusal.specs.Answer.{OnlyNoMemory};
 ghost use Rattle.adr_schedule.specs.Moves.{is_among};
 ghost use Rattle.adr_schedule.specs.Slots.{in_slot};
 

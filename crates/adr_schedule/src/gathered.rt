@@ -1,7 +1,7 @@
 //! A schedule from the slot of each place and the group of each slot.
 ghost use Rattle.std.specs.Prelude.{◌≡◌, ◌<◌, ◌++◌, ◌∷◌, ◌⊎◌, [], ℕ, Some, length, slice_get, IfOk, OnOk};
 ghost use Rattle.std.specs.Option.{option_and_then};
-ghost use Rattle.adr_value.specs.Answer.{OnlyNoMemory};
+ghost use Rattle.adr_refusal.specs.Answer.{OnlyNoMemory};
 ghost use Rattle.adr_group.specs.Group.{Lines};
 ghost use Rattle.adr_schedule.specs.Seating.{group_at};
 ghost use Rattle.adr_schedule.specs.Slots.{in_slot, AreSeated};

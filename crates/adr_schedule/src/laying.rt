@@ -1,7 +1,7 @@
 //! The groups to which an event only comes: its entries are laid over their timelines.
 ghost use Rattle.std.specs.Prelude.{◌≡◌, ◌<◌, ◌≤◌, ◌+◌, ◌++◌, ◌∷◌, ◌^◌, [], List, Some, None, Ok, option_map, IfOk, IfSome};
 ghost use Rattle.std.specs.Option.{option_copied};
-ghost use Rattle.adr_value.specs.Answer.{OnlyNoMemory};
+ghost use Rattle.adr_refusal.specs.Answer.{OnlyNoMemory};
 ghost use Rattle.adr_lines.specs.declared.indexes.Indexes.{Indexes as AllIndexes};
 ghost use Rattle.adr_group.specs.Repair.{most_repaired};
 ghost use Rattle.adr_schedule.specs.declared.draft.Draft.{Draft as AnyDraft};

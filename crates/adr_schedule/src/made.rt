@@ -1,7 +1,7 @@
 //! The groups that are made of drafts.
 ghost use Rattle.std.specs.Prelude.{◌≡◌, ◌≤◌, ◌<◌, ◌+◌, ◌++◌, ◌∷◌, ◌^◌, List, [], flat_map, sum_by, IfOk, OnOk};
 ghost use Rattle.std.specs.List.{AllZip};
-ghost use Rattle.adr_value.specs.Answer.{OnlyNoMemory};
+ghost use Rattle.adr_refusal.specs.Answer.{OnlyNoMemory};
 ghost use Rattle.adr_shared.specs.Map.{put};
 ghost use Rattle.adr_lines.specs.declared.indexes.Indexes.{Indexes as AllIndexes};
 ghost use Rattle.adr_group.specs.Jobs.{most_done, AreDone, IsCrew, IsDone};

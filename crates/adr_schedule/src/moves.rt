@@ -1,7 +1,7 @@
 //! Places that move to slots of other values.
 ghost use Rattle.std.specs.Prelude.{◌≡◌, ◌∷◌, ◌<◌, [], length, IfOk};
 ghost use Rattle.std.specs.Option.{option_copied};
-ghost use Rattle.adr_value.specs.Answer.{OnlyNoMemory};
+ghost use Rattle.adr_refusal.specs.Answer.{OnlyNoMemory};
 ghost use Rattle.adr_shared.specs.Map.{put, without};
 ghost use Rattle.adr_schedule.specs.Moves.{IsSat};
 ghost use Rattle.adr_schedule.specs.Slots.{in_slot};

@@ -1,6 +1,6 @@
 //! A place comes, goes, or has other writes.
 ghost use Rattle.std.specs.Prelude.{◌≡◌, ◌<◌, ◌≤◌, ◌+◌, ◌^◌, ◌∷◌, ◌++◌, [], ℕ, List, Some, length, slice_get, IfOk, IfSome, if◌then◌else◌};
-ghost use Rattle.adr_value.specs.Answer.{OnlyNoMemory};
+ghost use Rattle.adr_refusal.specs.Answer.{OnlyNoMemory};
 ghost use Rattle.adr_model.specs.declared.entry.Tie.{Tie};
 ghost use Rattle.adr_model.specs.declared.written.Written.{Written};
 ghost use Rattle.adr_shared.specs.Map.{without};

@@ -1,6 +1,6 @@
 //! Whether places are all those that have their slots.
 ghost use Rattle.std.specs.Prelude.{◌≡◌, ◌+◌, ◌++◌, ◌∷◌, [], Some, None, IfSome, IsTrue, OnOk};
-ghost use Rattle.adr_value.specs.Answer.{OnlyNoMemory};
+ghost use Rattle.adr_refusal.specs.Answer.{OnlyNoMemory};
 ghost use Rattle.adr_seats.specs.Law.{AreDistinct};
 ghost use Rattle.adr_seats.specs.Seats.{members_of};
 ghost use Rattle.adr_schedule.specs.Tally.{AreAllOf, IsTallied};

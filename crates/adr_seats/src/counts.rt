@@ -1,10 +1,10 @@
 //! How many places have each slot.
 ghost use Rattle.std.specs.Prelude.{◌≡◌, ℕ, ◌+◌, ◌^◌, ◌<◌, ◌==◌, [], cond, length, get_or, IfOk, OnOk};
-ghost use Rattle.adr_value.specs.Answer.{OnlyNoMemory};
-ghost use Rattle.adr_value.specs.Copy.{IsCopyOf};
+ghost use Rattle.adr_refusal.specs.Answer.{OnlyNoMemory};
+ghost use Rattle.adr_refusal.specs.Copy.{IsCopyOf};
 
 use crate::unused::Unused;
-use adr_value::Refusal;
+use adr_refusal::Refusal;
 use std::alloc::Global;
 use std::marker::Model;
 

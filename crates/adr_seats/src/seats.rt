@@ -1,12 +1,12 @@
 //! Which slot each place has.
 ghost use Rattle.std.specs.Prelude.{◌≡◌, ℕ, ◌^◌, ◌<◌, ◌==◌, ◌++◌, ◌∷◌, [], false, length, set, remove, IfOk, IfSome, OnOk, OnErr};
 ghost use Rattle.std.specs.List.{list_any, slice_get};
-ghost use Rattle.adr_value.specs.Answer.{OnlyNoMemory};
-ghost use Rattle.adr_value.specs.Copy.{IsCopyOf};
+ghost use Rattle.adr_refusal.specs.Answer.{OnlyNoMemory};
+ghost use Rattle.adr_refusal.specs.Copy.{IsCopyOf};
 ghost use Rattle.adr_seats.specs.Seats.{members_of, IsCountOf};
 
 use crate::counts::Counts;
-use adr_value::Refusal;
+use adr_refusal::Refusal;
 use std::alloc::Global;
 use std::marker::Model;
 

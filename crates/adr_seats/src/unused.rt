@@ -1,7 +1,7 @@
 //! Slots that no place has, in a list that is chained through them.
-ghost use Rattle.adr_value.specs.Answer.{OnlyNoMemory};
+ghost use Rattle.adr_refusal.specs.Answer.{OnlyNoMemory};
 
-use adr_value::Refusal;
+use adr_refusal::Refusal;
 use std::alloc::Global;
 
 /// No slot: the end of the list.

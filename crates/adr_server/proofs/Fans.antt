@@ -2,7 +2,7 @@
 use Rattle.std.proofs.Common.{◌≡◌, ℕ, zero, suc, ◌+◌, ◌≤◌, Bool, true, false, List, [], ◌∷◌, ◌++◌, length, nat_lt, refl, ap, ◌∙◌, arith, inl, if◌then◌else◌}
 use Rattle.std.specs.Prelude.{Result, Ok, Err}
 use Rattle.std.specs.Io.BufRead.{strip_last}
-use Rattle.adr_value.specs.declared.refusal.Refusal.{Refusal}
+use Rattle.adr_refusal.specs.declared.refusal.Refusal.{Refusal}
 use Rattle.adr_model.specs.Machine.{State, last_number}
 use Rattle.adr_model.specs.Queries.{Query, at_query, list_query, roll_query, types_query}
 use Rattle.adr_script.specs.Text.{state_but, after_line}

@@ -4,7 +4,7 @@ use Rattle.std.specs.Prelude.{int_le, int_lt, Ok, Err}
 use Rattle.std.proofs.Math.Nat.{le_refl}
 use Rattle.std.proofs.lemmas.Int.{ints}
 use Rattle.adr_value.specs.declared.payload.PayloadType.{PayloadType}
-use Rattle.adr_value.specs.declared.refusal.Refusal.TheVariants.{BadWindow, UnknownResource}
+use Rattle.adr_refusal.specs.declared.refusal.Refusal.TheVariants.{BadWindow, UnknownResource}
 use Rattle.adr_model.specs.declared.entry.Tie.{Tie}
 use Rattle.adr_model.specs.Answer.{at, at_text, until}
 use Rattle.adr_model.specs.Book.{Book, resource_by}

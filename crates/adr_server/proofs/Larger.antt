@@ -6,8 +6,8 @@ use Rattle.std.specs.Option.{option_map_or}
 use Rattle.std.specs.Result.{result_err}
 use Rattle.std.proofs.lemmas.Bool.{false≢true}
 use Rattle.adr_value.specs.Limits.{Limits, AreWithin}
-use Rattle.adr_value.specs.declared.refusal.Refusal.{Refusal}
-use Rattle.adr_value.specs.declared.refusal.Refusal.TheVariants.{Exists, Full, LongLine, NotThere, TooMany}
+use Rattle.adr_refusal.specs.declared.refusal.Refusal.{Refusal}
+use Rattle.adr_refusal.specs.declared.refusal.Refusal.TheVariants.{Exists, Full, LongLine, NotThere, TooMany}
 use Rattle.adr_object.specs.declared.object.Edit.{Edit as Change}
 use Rattle.adr_object.specs.declared.object.Edit.TheVariants.{Create, Change as Changed, Remove}
 use Rattle.adr_object.specs.declared.object.Kind.{Kind}
@@ -21,8 +21,8 @@ use Rattle.adr_model.specs.Machine.{State, after_edit}
 use Rattle.std.specs.Prelude.{not, codes}
 use Rattle.adr_read.specs.Body.{event_named_by}
 use Rattle.adr_read.proofs.Larger.{larger_limits_read_the_same}
-use Rattle.adr_value.specs.Agreeing.{Agrees, IsNot}
-use Rattle.adr_value.proofs.Agreeing.{agrees_map, agrees_then, judged_last}
+use Rattle.adr_refusal.specs.Agreeing.{Agrees, IsNot}
+use Rattle.adr_refusal.proofs.Agreeing.{agrees_map, agrees_then, judged_last}
 use Rattle.std.specs.Str.{bytes_eq}
 use Rattle.adr_script.specs.Lines.{all_lines}
 use Rattle.adr_script.specs.Script.{long_line}

@@ -1,7 +1,7 @@
 -- Worked examples: replies of the machine as the lines that a script is answered.
 use Rattle.std.specs.Prelude.{◌≡◌, codes, refl}
 use Rattle.std.specs.Fmt.{digits}
-use Rattle.adr_value.specs.declared.refusal.Refusal.TheVariants.{Exists}
+use Rattle.adr_refusal.specs.declared.refusal.Refusal.TheVariants.{Exists}
 use Rattle.adr_model.specs.Machine.{condensed, done, published, refused}
 use Rattle.adr_server.specs.Text.{reply_line}
 

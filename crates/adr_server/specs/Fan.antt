@@ -2,7 +2,7 @@
 -- and behind the editor's replies stand those of the readers, one reader after the other.
 use Rattle.std.specs.Prelude.{◌≡◌, ◌⊎◌, ◌≤◌, ℕ, zero, suc, ◌+◌, Bool, List, [], ◌∷◌, ◌++◌, length, nat_lt, codes, Option, Some, None, if◌then◌else◌}
 use Rattle.std.specs.Fmt.{decimal}
-use Rattle.adr_value.specs.declared.refusal.Refusal.TheVariants.{Full}
+use Rattle.adr_refusal.specs.declared.refusal.Refusal.TheVariants.{Full}
 use Rattle.adr_model.specs.declared.entry.Tie.{Tie}
 use Rattle.adr_model.specs.Machine.{State, book_of, last_number}
 use Rattle.adr_model.specs.Queries.{Query, answer}

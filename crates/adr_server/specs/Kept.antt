@@ -1,8 +1,8 @@
 -- The same machine, seen by what the plain machine keeps: the objects, and not the batches that left them.
 use Rattle.std.specs.Prelude.{◌≡◌, ℕ, ◌+◌, nat_lt, List, [], length, Option, Some, None, Result, Ok, Err, if◌then◌else◌}
 use Rattle.adr_value.specs.declared.limits.TheConstants.{MOST_PUBLICATIONS}
-use Rattle.adr_value.specs.declared.refusal.Refusal.{Refusal}
-use Rattle.adr_value.specs.declared.refusal.Refusal.TheVariants.{Full}
+use Rattle.adr_refusal.specs.declared.refusal.Refusal.{Refusal}
+use Rattle.adr_refusal.specs.declared.refusal.Refusal.TheVariants.{Full}
 use Rattle.adr_model.specs.Book.{Book}
 use Rattle.adr_model.specs.Edits.{full_at, step_to}
 use Rattle.adr_model.specs.Machine.{State, last_book}

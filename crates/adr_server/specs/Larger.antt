@@ -5,8 +5,8 @@ use Rattle.std.specs.Option.{option_and_then}
 use Rattle.std.specs.Result.{result_err}
 use Rattle.adr_value.specs.Limits.{Limits, AreWithin, first_limits, limits}
 use Rattle.adr_value.specs.declared.limits.TheConstants.{MOST_PUBLICATIONS}
-use Rattle.adr_value.specs.declared.refusal.Refusal.{Refusal}
-use Rattle.adr_value.specs.declared.refusal.Refusal.TheVariants.{LongLine, TooMany, Full}
+use Rattle.adr_refusal.specs.declared.refusal.Refusal.{Refusal}
+use Rattle.adr_refusal.specs.declared.refusal.Refusal.TheVariants.{LongLine, TooMany, Full}
 use Rattle.adr_model.specs.declared.entry.Tie.{Tie}
 use Rattle.adr_model.specs.Edits.{full_at, step_by}
 use Rattle.adr_model.specs.Machine.{State, last_book, last_number}

@@ -3,12 +3,12 @@
 use Rattle.std.specs.Prelude.{ℕ, ℤ, nat_lt, List, length, codes, Result, Ok, Err, if◌then◌else◌}
 use Rattle.std.specs.Option.{option_map_or}
 use Rattle.std.specs.Str.{bytes_eq, is_utf8}
-use Rattle.adr_value.specs.Answer.{result_map, result_and_then}
+use Rattle.adr_refusal.specs.Answer.{result_map, result_and_then}
 use Rattle.adr_value.specs.Limits.{Limits, limits}
 use Rattle.adr_value.specs.Payload.{type_named}
 use Rattle.adr_value.specs.declared.payload.PayloadType.{PayloadType}
-use Rattle.adr_value.specs.declared.refusal.Refusal.{Refusal}
-use Rattle.adr_value.specs.declared.refusal.Refusal.TheVariants.{LongLine, BadLine, BadMoment, BadId, BadText}
+use Rattle.adr_refusal.specs.declared.refusal.Refusal.{Refusal}
+use Rattle.adr_refusal.specs.declared.refusal.Refusal.TheVariants.{LongLine, BadLine, BadMoment, BadId, BadText}
 use Rattle.adr_time.specs.Reading.{moment_named}
 use Rattle.adr_object.specs.Id.{id_named}
 use Rattle.adr_object.specs.declared.object.Edit.{Edit as Change}

@@ -2,8 +2,8 @@
 use Rattle.std.specs.Prelude.{ℕ, List, [], ◌++◌, codes, Option, Some, None, Result, Ok, Err}
 use Rattle.std.specs.Fmt.{decimal}
 use Rattle.adr_value.specs.Limits.{Limits, limits}
-use Rattle.adr_value.specs.Refusal.{number_of, name_of}
-use Rattle.adr_value.specs.declared.refusal.Refusal.{Refusal}
+use Rattle.adr_refusal.specs.Refusal.{number_of, name_of}
+use Rattle.adr_refusal.specs.declared.refusal.Refusal.{Refusal}
 use Rattle.adr_model.specs.declared.entry.Tie.{Tie}
 use Rattle.adr_model.specs.Edits.{full_at, step_by}
 use Rattle.adr_model.specs.Machine.{State, Reply, refused, done, published, condensed, told, seen, start, after_edit, after_publish, after_condense, last_book}

@@ -1,7 +1,7 @@
 //! Who makes the edits of a script.
 ghost use Rattle.std.specs.Prelude.{◌≡◌, ◌⊎◌, ◌≤◌, OnOk, OnErr, IfOk, IfErr, Ok, Err};
 ghost use Rattle.adr_value.specs.declared.limits.TheConstants.{MOST_VERSION};
-ghost use Rattle.adr_value.specs.declared.refusal.Refusal.TheVariants.{NoMemory};
+ghost use Rattle.adr_refusal.specs.declared.refusal.Refusal.TheVariants.{NoMemory};
 ghost use Rattle.adr_model.specs.Edits.{full_at, step_to};
 ghost use Rattle.adr_server.specs.Shown.{kept_of};
 

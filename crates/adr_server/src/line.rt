@@ -1,6 +1,6 @@
 //! From a line to its command, or the least of its faults.
 ghost use Rattle.std.specs.Prelude.{◌≡◌};
-ghost use Rattle.adr_value.specs.Answer.{Answers};
+ghost use Rattle.adr_refusal.specs.Answer.{Answers};
 ghost use Rattle.adr_server.specs.Line.{moment_word, id_word, type_word, object_of, write_command, delete_command, at_command, list_command, roll_command, types_command, query_named, line_named};
 ghost use Rattle.adr_server.specs.Views.{write_view, delete_view, at_view, list_view, roll_view};
 

@@ -1,6 +1,6 @@
 //! A resolver, as what answers a script's lines.
 ghost use Rattle.std.specs.Prelude.{◌≡◌, ◌≢◌, ◌≤◌, [], OnOk, OnErr, vec_capacity};
-ghost use Rattle.adr_value.specs.Answer.{result_map};
+ghost use Rattle.adr_refusal.specs.Answer.{result_map};
 ghost use Rattle.adr_server.specs.declared.command.Command.TheVariants.{Edit as EditCommand, Publish as PublishCommand, Condense as CondenseCommand, At as AtCommand, List as ListCommand, Roll as RollCommand, Types as TypesCommand};
 ghost use Rattle.adr_server.specs.Kept.{kept_command_reply, kept_command_next};
 ghost use Rattle.adr_server.specs.Text.{answer_line};

@@ -1,8 +1,8 @@
 //! What a script asks of a resolver, and the plain machine as one.
 ghost use Rattle.std.specs.Prelude.{◌≡◌, ◌+◌, ◌⊎◌, ◌<◌, ◌≤◌, OnOk, OnErr, IfOk, IfErr, Ok, Err};
-ghost use Rattle.adr_value.specs.Answer.{Answers, OnlyNoMemory, result_map};
+ghost use Rattle.adr_refusal.specs.Answer.{Answers, OnlyNoMemory, result_map};
 ghost use Rattle.adr_value.specs.declared.limits.TheConstants.{MOST_PUBLICATIONS, MOST_VERSION};
-ghost use Rattle.adr_value.specs.declared.refusal.Refusal.TheVariants.{NoMemory, Full};
+ghost use Rattle.adr_refusal.specs.declared.refusal.Refusal.TheVariants.{NoMemory, Full};
 ghost use Rattle.adr_model.specs.Answer.{at};
 ghost use Rattle.adr_model.specs.Edits.{full_at, step_to};
 ghost use Rattle.adr_model.specs.Queries.{list, roll, types};

@@ -1,7 +1,7 @@
 -- What an edit of a side, balanced again, makes of a tree.
 use Rattle.std.proofs.Common.{◌≡◌, ℕ, ◌+◌, ◌-◌, ◌≤◌, max, List, ◌∷◌, ◌++◌, Result, Ok, Err, sym, subst, ◌∙◌, arith}
-use Rattle.adr_value.specs.Copy.{IsCopyOf}
-use Rattle.adr_value.specs.declared.refusal.Refusal.{Refusal}
+use Rattle.adr_refusal.specs.Copy.{IsCopyOf}
+use Rattle.adr_refusal.specs.declared.refusal.Refusal.{Refusal}
 use Rattle.adr_shared.specs.Sides.{DifferByAtMost}
 use Rattle.adr_shared.specs.Tree.{IsEdited, IsBalanced}
 

@@ -1,7 +1,7 @@
 -- What turning a tree round twice makes of it: the same entries in the same order, at the height of the higher side.
 use Rattle.std.proofs.Common.{◌≡◌, ℕ, ◌+◌, ◌≤◌, max, List, ◌∷◌, ◌++◌, append_assoc, Result, Ok, Err, sym, subst, arith}
-use Rattle.adr_value.specs.Copy.{IsCopyOf}
-use Rattle.adr_value.specs.declared.refusal.Refusal.{Refusal}
+use Rattle.adr_refusal.specs.Copy.{IsCopyOf}
+use Rattle.adr_refusal.specs.declared.refusal.Refusal.{Refusal}
 use Rattle.adr_shared.specs.Sides.{DifferByAtMost}
 use Rattle.adr_shared.specs.Tree.{IsBalanced}
 use Rattle.adr_shared.proofs.Edited.{IsBalancedHeight}

@@ -1,7 +1,7 @@
 -- What the functions on trees promise: a tree is its entries in order, and its height.
 use Rattle.std.specs.Prelude.{◌≡◌, ℕ, ◌+◌, ◌≤◌, max, List, [], ◌∷◌, ◌++◌, Option, Result, MatchResult, MatchOption}
-use Rattle.adr_value.specs.declared.refusal.Refusal.{Refusal}
-use Rattle.adr_value.specs.declared.refusal.Refusal.TheVariants.{NoMemory}
+use Rattle.adr_refusal.specs.declared.refusal.Refusal.{Refusal}
+use Rattle.adr_refusal.specs.declared.refusal.Refusal.TheVariants.{NoMemory}
 use Rattle.adr_shared.specs.Sides.{DifferByAtMost}
 use Rattle.adr_shared.specs.declared.tree.First.{First}
 

@@ -3,7 +3,7 @@ ghost use Rattle.std.specs.Prelude.{◌≡◌, ℕ, List, [], ◌∷◌};
 ghost use Rattle.std.specs.Ordering.{nat_cmp};
 ghost use Rattle.std.specs.Cmp.Lexicographic.{slice_cmp};
 
-use adr_value::TryClone;
+use adr_refusal::TryClone;
 use std::cmp::Ordering;
 
 /// Keys in a total order, which is that of their codes.

@@ -1,10 +1,10 @@
 //! Lists that grow at their end and whose copies share their memory.
 ghost use Rattle.std.specs.Prelude.{◌≡◌, ◌++◌, ◌∷◌, [], length, slice_get};
 ghost use Rattle.std.specs.Option.{option_copied};
-ghost use Rattle.adr_value.specs.Copy.{IsCopyOf};
+ghost use Rattle.adr_refusal.specs.Copy.{IsCopyOf};
 
 use crate::map::SharedMap;
-use adr_value::{Refusal, TryClone};
+use adr_refusal::{Refusal, TryClone};
 use std::alloc::Global;
 use std::marker::Model;
 

@@ -1,13 +1,13 @@
 //! Maps whose copies share their memory.
 ghost use Rattle.std.specs.Prelude.{◌≡◌, ◌+◌, ◌/◌, ◌^◌, ◌≤◌, [], length, slice_get, option_map};
 ghost use Rattle.std.specs.Option.{option_copied};
-ghost use Rattle.adr_value.specs.Copy.{IsCopyOf};
+ghost use Rattle.adr_refusal.specs.Copy.{IsCopyOf};
 ghost use Rattle.adr_shared.specs.Map.{IsAscending, lookup, put, without, place_of};
 ghost use Rattle.adr_shared.specs.Laws.{PutIsFound, TakenIsGone};
 
 use crate::key::Key;
 use crate::tree::Tree;
-use adr_value::{Refusal, TryClone};
+use adr_refusal::{Refusal, TryClone};
 use std::alloc::Global;
 use std::marker::Model;
 

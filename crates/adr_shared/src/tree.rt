@@ -2,14 +2,14 @@
 ghost use Rattle.std.specs.Prelude.{◌≡◌, ◌+◌, ◌/◌, ◌^◌, ◌≤◌, max, [], ◌∷◌, ◌++◌, length, slice_get, option_map, ◌-◌, ◌<◌, IfSome, MatchResult};
 ghost use Rattle.std.specs.Arc.{arc_value};
 ghost use Rattle.std.specs.Option.{option_copied};
-ghost use Rattle.adr_value.specs.Copy.{IsCopyOf};
-ghost use Rattle.adr_value.specs.declared.refusal.Refusal.TheVariants.{NoMemory};
+ghost use Rattle.adr_refusal.specs.Copy.{IsCopyOf};
+ghost use Rattle.adr_refusal.specs.declared.refusal.Refusal.TheVariants.{NoMemory};
 ghost use Rattle.adr_shared.specs.Map.{IsAscending, lookup, put, without, place_of};
 ghost use Rattle.adr_shared.specs.Tree.{IsEdited, IsBalanced, IsSplit};
 ghost use Rattle.adr_shared.specs.Sides.{DifferByAtMost};
 
 use crate::key::Key;
-use adr_value::{Refusal, TryClone};
+use adr_refusal::{Refusal, TryClone};
 use std::alloc::Global;
 use std::cmp::Ordering;
 use std::marker::Model;

@@ -1,7 +1,7 @@
 //! What a timeline says of a moment, and of a window.
 ghost use Rattle.std.specs.Prelude.{◌≡◌, ◌++◌, [], ℤ, None, IfOk, OnOk, if◌then◌else◌};
 ghost use Rattle.std.specs.Option.{option_copied, option_map_or};
-ghost use Rattle.adr_value.specs.Answer.{OnlyNoMemory};
+ghost use Rattle.adr_refusal.specs.Answer.{OnlyNoMemory};
 ghost use Rattle.adr_model.specs.Answer.{IsUntil};
 ghost use Rattle.adr_model.specs.Timeline.{shows, IsCanonical};
 ghost use Rattle.adr_time.specs.Spans.{covers};

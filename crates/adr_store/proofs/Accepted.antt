@@ -3,8 +3,8 @@ use Rattle.std.proofs.Common.{◌≡◌, ℕ, ◌+◌, ◌<◌, ◌≤◌, ◌==
 use borrow.Author.Tests.{leb-false, ltb-false}
 use Rattle.std.proofs.lemmas.Bool.{false≢true}
 use Rattle.adr_value.specs.declared.limits.TheConstants.{MOST_ENTRIES, MOST_EVENTS, MOST_VERSION}
-use Rattle.adr_value.specs.declared.refusal.Refusal.{Refusal}
-use Rattle.adr_value.specs.declared.refusal.Refusal.TheVariants.{Exists, NotThere, InUse, Full}
+use Rattle.adr_refusal.specs.declared.refusal.Refusal.{Refusal}
+use Rattle.adr_refusal.specs.declared.refusal.Refusal.TheVariants.{Exists, NotThere, InUse, Full}
 use Rattle.adr_object.specs.Object.{kind_of, id_of}
 use Rattle.adr_object.specs.declared.object.Kind.{Kind}
 use Rattle.adr_object.specs.declared.object.Object.{Object}

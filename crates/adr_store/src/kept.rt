@@ -1,6 +1,6 @@
 //! An event as the book keeps it.
 ghost use Rattle.std.specs.Prelude.{◌≡◌};
-ghost use Rattle.adr_value.specs.Copy.{IsCopyOf};
+ghost use Rattle.adr_refusal.specs.Copy.{IsCopyOf};
 ghost use Rattle.adr_model.specs.Edits.{entry_count as number_of_entries};
 
 use crate::counting::entry_count;

@@ -6,11 +6,11 @@ use Rattle.std.specs.Prelude.{Result, Ok, Err}
 use Rattle.std.specs.Result.{result_unwrap_or}
 use Rattle.std.specs.Str.{bytes_eq}
 use Rattle.std.proofs.lemmas.Slice.Eq.{bytes_eq-Decides}
-use Rattle.adr_value.specs.Answer.{result_map}
+use Rattle.adr_refusal.specs.Answer.{result_map}
 use Rattle.adr_value.specs.Payload.{name_of}
 use Rattle.adr_value.specs.Same.{same_type}
 use Rattle.adr_value.specs.declared.payload.PayloadType.{PayloadType}
-use Rattle.adr_value.specs.declared.refusal.Refusal.{Refusal}
+use Rattle.adr_refusal.specs.declared.refusal.Refusal.{Refusal}
 use Rattle.adr_time.specs.declared.span.Span.{Span}
 use Rattle.adr_object.specs.declared.event.Interval.{Interval}
 use Rattle.adr_object.specs.declared.event.Payload.{Payload}

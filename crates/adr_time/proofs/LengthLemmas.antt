@@ -7,7 +7,7 @@ use Rattle.jiff_core.specs.declared.span.Span.{Span}
 use Rattle.jiff_core.specs.declared.error.Error.{Error}
 use Rattle.jiff_fmt.specs.Temporal.{parse_span}
 use Rattle.jiff_fmt.specs.Units.{signed_magnitudes}
-use Rattle.adr_value.specs.declared.refusal.Refusal.TheVariants.{NegativeDuration}
+use Rattle.adr_refusal.specs.declared.refusal.Refusal.TheVariants.{NegativeDuration}
 use Rattle.adr_time.specs.declared.length.Length.TheVariants.{Of, Endless}
 use Rattle.adr_time.specs.Lengths.{IsForward, NamesForward, length_named, length_of_read, span_of}
 

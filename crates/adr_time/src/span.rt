@@ -6,7 +6,7 @@ ghost use Rattle.adr_time.specs.Spans.{Covers, Meets, covers, meets};
 ghost use Rattle.adr_time.specs.declared.span.End.TheVariants.{At as EndsAt};
 
 use crate::{Length, Moment};
-use adr_value::Refusal;
+use adr_refusal::Refusal;
 use jiff::tz::TimeZone;
 
 /// When something ends: at a moment, which is no longer part of it, or never.

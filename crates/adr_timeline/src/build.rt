@@ -1,6 +1,6 @@
 //! What wins inside windows, window by window at the end of one line.
 ghost use Rattle.std.specs.Prelude.{◌≡◌, ◌+◌, ◌<◌, ◌≤◌, ◌^◌, ℤ, [], None, IsTrue, OnOk, if◌then◌else◌};
-ghost use Rattle.adr_value.specs.Answer.{OnlyNoMemory};
+ghost use Rattle.adr_refusal.specs.Answer.{OnlyNoMemory};
 ghost use Rattle.adr_model.specs.Entries.{meeting};
 ghost use Rattle.adr_model.specs.Governor.{winner_at};
 ghost use Rattle.adr_model.specs.Timeline.{shows, IsCanonical};
@@ -19,7 +19,7 @@ use std::alloc::Global;
 /// Where the entries are found that compete, window by window.
 pub trait Source {
     ghost use Rattle.std.specs.Prelude.{◌≡◌, IfOk, List};
-    ghost use Rattle.adr_value.specs.Answer.{OnlyNoMemory};
+    ghost use Rattle.adr_refusal.specs.Answer.{OnlyNoMemory};
     ghost use Rattle.adr_model.specs.declared.entry.Entry.{Entry};
     ghost use Rattle.adr_model.specs.Entries.{meeting};
 

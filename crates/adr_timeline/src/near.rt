@@ -1,6 +1,6 @@
 //! Entries that several windows share, found by one look-up.
 ghost use Rattle.std.specs.Prelude.{◌≡◌, IfOk, IsTrue, List, OnOk};
-ghost use Rattle.adr_value.specs.Answer.{OnlyNoMemory};
+ghost use Rattle.adr_refusal.specs.Answer.{OnlyNoMemory};
 ghost use Rattle.adr_model.specs.declared.entry.Entry.{Entry as AnyEntry};
 ghost use Rattle.adr_model.specs.Entries.{meeting};
 ghost use Rattle.adr_timeline.specs.Near.{IsNoLater, Serves};

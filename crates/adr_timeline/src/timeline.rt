@@ -1,8 +1,8 @@
 //! Timelines.
 ghost use Rattle.std.specs.Prelude.{◌≡◌, ◌&&◌, ◌++◌, List, length, IsTrue, true, drop, ◌+◌, ◌*◌, ◌<◌, ◌≤◌, ◌^◌, ℤ, [], if◌then◌else◌, None, IfOk};
 ghost use Rattle.std.specs.Option.{option_map};
-ghost use Rattle.adr_value.specs.Answer.{OnlyNoMemory};
-ghost use Rattle.adr_value.specs.Copy.{IsCopyOf};
+ghost use Rattle.adr_refusal.specs.Answer.{OnlyNoMemory};
+ghost use Rattle.adr_refusal.specs.Copy.{IsCopyOf};
 ghost use Rattle.adr_time.specs.Spans.{covers};
 ghost use Rattle.adr_model.specs.Answer.{IsUntil};
 ghost use Rattle.adr_model.specs.declared.entry.Entry.{Entry};

@@ -1,6 +1,6 @@
 //! What an edit concerns.
 ghost use Rattle.std.specs.Prelude.{◌≡◌, IfOk};
-ghost use Rattle.adr_value.specs.Answer.{OnlyNoMemory};
+ghost use Rattle.adr_refusal.specs.Answer.{OnlyNoMemory};
 ghost use Rattle.adr_repair.specs.Table.{is_event_of as the_is_event_of, is_resource_of as the_is_resource_of};
 ghost use Rattle.adr_touches.specs.Edited.{concern_of as the_concern_of, concern_of_change, concern_of_create, concerns_event, concerns_resource, rows_of as the_rows_of};
 

@@ -1,7 +1,7 @@
 //! The touches of an edit, from what it concerns.
 ghost use Rattle.std.specs.Prelude.{◌≡◌, ◌++◌, ◌∷◌, [], Ok, OnOk, OnErr, IfOk, IfSome, IfNone, flat_map};
 ghost use Rattle.std.specs.Option.{option_map};
-ghost use Rattle.adr_value.specs.Answer.{OnlyNoMemory};
+ghost use Rattle.adr_refusal.specs.Answer.{OnlyNoMemory};
 ghost use Rattle.adr_model.specs.Edits.{step};
 ghost use Rattle.adr_model.specs.Touches.{applying, touches as touches_of_books};
 ghost use Rattle.adr_repair.specs.Table.{spans, spans_if_differs};

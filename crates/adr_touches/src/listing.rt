@@ -1,7 +1,7 @@
 //! The touches of two books, by resource and then by event.
 ghost use Rattle.std.specs.Prelude.{◌≡◌, ◌++◌, OnOk, IfOk, flat_map};
 ghost use Rattle.std.specs.Option.{option_map};
-ghost use Rattle.adr_value.specs.Answer.{OnlyNoMemory};
+ghost use Rattle.adr_refusal.specs.Answer.{OnlyNoMemory};
 ghost use Rattle.adr_model.specs.Touches.{touches as touches_of_books, touches_between};
 ghost use Rattle.adr_touches.specs.Applied.{written_event};
 ghost use Rattle.adr_touches.specs.Windows.{touches_on};

@@ -1,7 +1,7 @@
 //! The plain machine's replies to lines.
 use adr_plain::Plain;
+use adr_refusal::Refusal;
 use adr_server::{Command, parse_line};
-use adr_value::Refusal;
 use std::alloc::{AllocError, Global};
 
 /// What the machine replies to a command, its line's end among it.

@@ -1,7 +1,5 @@
-pub mod Agreeing
 pub mod BodyLemmas
 pub mod Crossing
-pub mod Judged
 pub mod NumbersLemmas
 pub mod OneCutLemmas
 pub mod PackedLemmas
@@ -11,7 +9,6 @@ pub mod PowerLemmas
 pub mod PrefixLemmas
 pub mod PrintedLemmas
 pub mod ReadLemmas
-pub mod Refusals
 pub mod ScalingLemmas
 pub mod SettleLemmas
 pub mod ShieldLemmas

@@ -1,9 +1,5 @@
-pub mod Agreeing
-pub mod Answer
 pub mod Body
-pub mod Copy
 pub mod Digits
-pub mod Faults
 pub mod Items
 pub mod Limits
 pub mod Names
@@ -12,7 +8,6 @@ pub mod Numbers
 pub mod Packed
 pub mod Payload
 pub mod Pieces
-pub mod Refusal
 pub mod Same
 pub mod Scaling
 pub mod Shapes

@@ -1,8 +1,8 @@
 -- The table of payload types.
 use Rattle.std.specs.Prelude.{Result, Ok, Err, if◌then◌else◌, ℕ, ◌==◌, List, [], ◌∷◌, ◌++◌, Option, Some, option_map, unwrap_or, codes, find, bytes_eq, ◌≡◌, ◌<◌, map, All, false}
 use Rattle.adr_value.specs.Names.{is_name}
-use Rattle.adr_value.specs.declared.refusal.Refusal.{Refusal}
-use Rattle.adr_value.specs.declared.refusal.Refusal.TheVariants.{BadText}
+use Rattle.adr_refusal.specs.declared.refusal.Refusal.{Refusal}
+use Rattle.adr_refusal.specs.declared.refusal.Refusal.TheVariants.{BadText}
 use Rattle.adr_value.specs.declared.payload.Shape.{Shape}
 use Rattle.adr_value.specs.declared.payload.Shape.TheVariants.{Whole, Amount, Points, Notes, Any}
 use Rattle.adr_value.specs.declared.payload.PayloadType.{PayloadType}

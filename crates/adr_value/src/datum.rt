@@ -1,16 +1,15 @@
 //! Single values, and whether a payload's values have the shape of its type.
 ghost use Rattle.std.specs.Prelude.{◌≡◌, ◌↔◌, IsTrue, Ok, Err, if◌then◌else◌};
 ghost use Rattle.std.specs.List.{list_all};
-ghost use Rattle.adr_value.specs.Copy.{IsCopyOf};
+ghost use Rattle.adr_refusal.specs.Copy.{IsCopyOf};
 ghost use Rattle.adr_value.specs.Same.{same_datum};
 ghost use Rattle.adr_value.specs.Shapes.{is_number, is_note, is_point, starts_whole, has_shape};
 ghost use Rattle.adr_value.specs.Payload.{shape_of};
 
 use crate::decimal::Decimal;
 use crate::payload::{PayloadType, Shape};
-use crate::refusal::Refusal;
 use crate::text::Text;
-use crate::try_clone::TryClone;
+use adr_refusal::{Refusal, TryClone};
 
 /// One value of a payload or a target.
 #[derive(Debug)]

@@ -1,10 +1,9 @@
 //! Lists with a limit on their length.
 ghost use Rattle.std.specs.Prelude.{◌≡◌, ◌≤◌, ◌<◌, ◌^◌, ◌==◌, ◌∷◌, ◌++◌, [], length, IfOk, OnOk, OnErr};
-ghost use Rattle.adr_value.specs.Answer.{OnlyNoMemory};
-ghost use Rattle.adr_value.specs.Copy.{IsCopyOf};
+ghost use Rattle.adr_refusal.specs.Answer.{OnlyNoMemory};
+ghost use Rattle.adr_refusal.specs.Copy.{IsCopyOf};
 
-use crate::refusal::Refusal;
-use crate::try_clone::TryClone;
+use adr_refusal::{Refusal, TryClone};
 use std::alloc::Global;
 use std::marker::Model;
 use std::{mem, slice};

@@ -1,13 +1,12 @@
 //! The types of payloads, and the one table that their names, codes and shapes come from.
 ghost use Rattle.std.specs.Prelude.{◌≡◌, false, IsTrue};
-ghost use Rattle.adr_value.specs.Answer.{Answers};
-ghost use Rattle.adr_value.specs.Copy.{IsCopyOf};
+ghost use Rattle.adr_refusal.specs.Answer.{Answers};
+ghost use Rattle.adr_refusal.specs.Copy.{IsCopyOf};
 ghost use Rattle.adr_value.specs.Names.{is_name, is_table_name};
 ghost use Rattle.adr_value.specs.Payload.{type_of, type_in, signals, capacities, alerts, type_named, RowsAgree, NamesReturn, CodesReturn, PrivateNamesDiffer};
 
-use crate::refusal::Refusal;
 use crate::text::Name;
-use crate::try_clone::TryClone;
+use adr_refusal::{Refusal, TryClone};
 use std::alloc::Global;
 use std::marker::Model;
 

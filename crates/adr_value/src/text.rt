@@ -1,11 +1,10 @@
 //! Texts that share their memory with their copies.
 ghost use Rattle.std.specs.Prelude.{◌≡◌, IsTrue, length};
 ghost use Rattle.std.specs.Str.{chars};
-ghost use Rattle.adr_value.specs.Copy.{IsCopyOf};
+ghost use Rattle.adr_refusal.specs.Copy.{IsCopyOf};
 ghost use Rattle.adr_value.specs.Names.{is_name};
 
-use crate::refusal::Refusal;
-use crate::try_clone::TryClone;
+use adr_refusal::{Refusal, TryClone};
 use std::alloc::Global;
 use std::marker::Model;
 use std::sync::ArcStr;

@@ -1,8 +1,8 @@
 //! What a body keeps that no reply shows.
 use adr_object::{Id, Period};
 use adr_read::read_event;
+use adr_refusal::Refusal;
 use adr_time::{Length, Moment};
-use adr_value::Refusal;
 use std::alloc::Global;
 use std::test::Fail;
 

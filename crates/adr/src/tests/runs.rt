@@ -1,7 +1,7 @@
 //! Whole runs over readers and writers that give and take little, and that fail.
 use crate::tests::streams::{Pieces, Sink};
+use adr_refusal::Refusal;
 use adr_server::{Fault, Tie, parse_line, run, status};
-use adr_value::Refusal;
 use std::alloc::{AllocError, Global};
 use std::sync::Wait;
 use std::test::Fail;

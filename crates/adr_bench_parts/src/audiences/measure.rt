@@ -2,8 +2,8 @@
 use crate::audiences::objects::{resource, ven};
 use adr_audience::Audience;
 use adr_object::{Event, Program, Resource, Ven};
+use adr_refusal::Refusal;
 use adr_test_values::telling::taken;
-use adr_value::Refusal;
 use std::alloc::Global;
 use std::io;
 use std::rt::Clock;

@@ -1,8 +1,8 @@
 //! The resources of the table, their vens, and what events ask for.
 use adr_object::{Event, Id, Program, Resource, Ven};
 use adr_read::{read_event, read_program, read_resource, read_ven};
+use adr_refusal::Refusal;
 use adr_time::Moment;
-use adr_value::Refusal;
 use std::alloc::Global;
 
 /// The ven of a number, in one of eight regions.

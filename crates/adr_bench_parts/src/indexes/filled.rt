@@ -6,9 +6,9 @@ ghost use Rattle.adr_bench_parts.specs.Numbers.{AreBelow, AreRising};
 
 use crate::indexes::shape::{entries, event};
 use adr_index::{Entry, Index};
+use adr_refusal::Refusal;
 use adr_test_values::telling::{since, taken};
 use adr_time::Span;
-use adr_value::Refusal;
 use std::alloc::Global;
 use std::io;
 use std::rt::Clock;

@@ -1,5 +1,5 @@
 use Rattle.std.specs.Prelude.{Err}
-use Rattle.adr_value.proofs.Judged.{answers}
+use Rattle.adr_refusal.proofs.Judged.{answers}
 use Rattle.adr_model.specs.Edits.{faults_to, made, step_by}
 use Rattle.adr_book.specs.Judged.{layout_faults_of}
 use Rattle.adr_book.proofs.Verdict.{laid_out, layout_verdict}

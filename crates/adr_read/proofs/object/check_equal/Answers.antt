@@ -1,8 +1,8 @@
 use Rattle.std.proofs.Common.{arith, true, false, sym, ◌≡◌, ◌∙◌, refl, ap}
 use Rattle.std.specs.Prelude.{bytes_eq}
 use Rattle.std.proofs.lemmas.Result.{err_from_is_err_and}
-use Rattle.adr_value.proofs.Judged.{number_of_le}
-use Rattle.adr_value.specs.Faults.{least}
+use Rattle.adr_refusal.proofs.Judged.{number_of_le}
+use Rattle.adr_refusal.specs.Faults.{least}
 use Rattle.adr_read.specs.Sets.{unless}
 use Rattle.adr_read.proofs.Parts.{anywhere, absent_equal, present_equal, refused_equal}
 use Rattle.adr_read.proofs.object.check_equal.Goals as goal

@@ -1,5 +1,5 @@
 use Rattle.std.proofs.Common.{refl}
-use Rattle.adr_value.specs.declared.refusal.Refusal.TheVariants.{WrongKind, IdMismatch}
+use Rattle.adr_refusal.specs.declared.refusal.Refusal.TheVariants.{WrongKind, IdMismatch}
 use Rattle.adr_read.specs.Sets.{optional}
 use Rattle.adr_read.specs.Values.{equal_faults}
 use Rattle.adr_read.proofs.object.check_line.Goals as goal

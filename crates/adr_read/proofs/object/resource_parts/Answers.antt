@@ -1,6 +1,6 @@
 use Rattle.std.proofs.Common.{◌++◌, [], codes, option_map, unwrap_or}
 use Rattle.serde_json.specs.Data.{null}
-use Rattle.adr_value.specs.declared.refusal.Refusal.TheVariants.{WrongKind, IdMismatch}
+use Rattle.adr_refusal.specs.declared.refusal.Refusal.TheVariants.{WrongKind, IdMismatch}
 use Rattle.adr_read.specs.Sets.{required, optional}
 use Rattle.adr_read.specs.Values.{name_faults, id_faults, equal_faults, text_in, targets_faults, targets_in}
 use Rattle.adr_read.proofs.Parts.{anywhere}

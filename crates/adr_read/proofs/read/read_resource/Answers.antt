@@ -1,6 +1,6 @@
 use Rattle.std.proofs.Common.{◌≡◌, ◌∙◌, [], codes, get_or, ap}
 use Rattle.std.proofs.lemmas.Result.{err_from_is_err_and}
-use Rattle.adr_value.specs.Faults.{judged}
+use Rattle.adr_refusal.specs.Faults.{judged}
 use Rattle.adr_read.specs.Body.{object_named, resource_named}
 use Rattle.adr_read.specs.Names.{member_text}
 use Rattle.adr_read.specs.Objects.{resource_faults, resource_in}

@@ -7,7 +7,7 @@ use Rattle.adr_read.specs.declared.tokens.Token.{Token}
 use Rattle.json.proofs.Grammar.{left, left-parse_map, left_none, left_some, value_is, read_key-shorter, items_end, members_end, members_no_key}
 use Rattle.serde_json.specs.Data.{array, object, item, no_members, put}
 use Rattle.serde_json.specs.Read.{of_json, of_items, of_members, converted}
-use Rattle.adr_value.specs.declared.refusal.Refusal.{Refusal}
+use Rattle.adr_refusal.specs.declared.refusal.Refusal.{Refusal}
 use Rattle.adr_read.specs.Coming.{coming, Comes, coming_items}
 use Rattle.adr_read.proofs.ComingLemmas.{coming-shorter, coming-string, coming-boolean, coming-null, coming-begin_array, coming-begin_object}
 use Rattle.adr_read.proofs.SkipLemmas.{refused, or_refused, if_err, number_comes, number_missing, item_passed, item_refused, member_passed, member_refused}

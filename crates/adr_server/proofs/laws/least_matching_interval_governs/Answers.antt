@@ -1,6 +1,6 @@
 use Rattle.std.proofs.Common.{◌≡◌, refl, ap}
 use Rattle.std.specs.Prelude.{Result, Some}
-use Rattle.adr_value.specs.declared.refusal.Refusal.{Refusal}
+use Rattle.adr_refusal.specs.declared.refusal.Refusal.{Refusal}
 use Rattle.adr_model.specs.Book.{Book}
 use Rattle.adr_model.specs.Machine.{State, after_edit, last_book}
 use Rattle.adr_model.specs.Queries.{Query}

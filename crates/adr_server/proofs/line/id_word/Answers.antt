@@ -1,8 +1,8 @@
 use Rattle.std.proofs.Common.{◌≡◌, ◌∙◌, sym, ap, subst, inr}
 use Rattle.std.specs.Prelude.{Result, Ok, Err}
-use Rattle.adr_value.specs.Answer.{Answers}
-use Rattle.adr_value.specs.declared.refusal.Refusal.{Refusal}
-use Rattle.adr_value.specs.declared.refusal.Refusal.TheVariants.{BadId}
+use Rattle.adr_refusal.specs.Answer.{Answers}
+use Rattle.adr_refusal.specs.declared.refusal.Refusal.{Refusal}
+use Rattle.adr_refusal.specs.declared.refusal.Refusal.TheVariants.{BadId}
 use Rattle.adr_object.specs.Id.{id_named}
 use Rattle.std.specs.Prelude.{ℕ, List}
 use Rattle.adr_server.proofs.Words.{is_text, no_text}

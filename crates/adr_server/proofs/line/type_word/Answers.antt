@@ -1,8 +1,8 @@
 use Rattle.std.proofs.Common.{◌≡◌, ◌∙◌, sym, ap, subst, inr}
 use Rattle.std.specs.Prelude.{Result, Ok, Err}
-use Rattle.adr_value.specs.Answer.{Answers}
-use Rattle.adr_value.specs.declared.refusal.Refusal.{Refusal}
-use Rattle.adr_value.specs.declared.refusal.Refusal.TheVariants.{BadText}
+use Rattle.adr_refusal.specs.Answer.{Answers}
+use Rattle.adr_refusal.specs.declared.refusal.Refusal.{Refusal}
+use Rattle.adr_refusal.specs.declared.refusal.Refusal.TheVariants.{BadText}
 use Rattle.adr_value.specs.Payload.{type_named}
 use Rattle.adr_value.specs.declared.payload.PayloadType.{PayloadType}
 use Rattle.adr_server.proofs.Words.{is_text, no_text}

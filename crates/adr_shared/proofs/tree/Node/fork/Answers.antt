@@ -1,5 +1,5 @@
 use Rattle.std.proofs.Common.{◌+◌, max, ◌∷◌, ◌++◌, subst}
-use Rattle.adr_value.specs.Copy.{IsCopyOf}
+use Rattle.adr_refusal.specs.Copy.{IsCopyOf}
 use Rattle.adr_shared.proofs.tree.Node.fork.Goals as goal
 
 pub fork-requires : goal.fork-requires

@@ -1,5 +1,5 @@
 use Rattle.std.proofs.Common.{◌+◌, max, ◌∷◌, ◌++◌, subst, sym}
-use Rattle.adr_value.specs.Copy.{IsCopyOf}
+use Rattle.adr_refusal.specs.Copy.{IsCopyOf}
 use Rattle.adr_shared.specs.Sides.{DifferByAtMost}
 use Rattle.adr_shared.proofs.tree.Node.fork_after.Goals as goal
 

@@ -1,6 +1,6 @@
 use Rattle.std.proofs.Common.{arith, max, ◌∷◌, ◌++◌, ◌≡◌, ◌+◌, ◌∙◌, sym, ap}
 use Rattle.std.specs.Arc.{arc_value}
-use Rattle.adr_value.specs.Copy.{IsCopyOf}
+use Rattle.adr_refusal.specs.Copy.{IsCopyOf}
 use Rattle.adr_shared.specs.Map.{IsAscending, put}
 use Rattle.adr_shared.proofs.Edited.{rebalanced, forked, left_raised, right_raised}
 use Rattle.adr_shared.proofs.Opened.{opened, opened_ascends, left_shorter, right_shorter, node_holds}

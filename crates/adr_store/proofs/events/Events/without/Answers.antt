@@ -1,7 +1,7 @@
 use Rattle.std.proofs.Common.{◌∙◌, ap, sym, subst, eqb, map, refl}
 use Rattle.std.specs.List.{IsDistinct}
 use Rattle.std.specs.Option.{option_copied}
-use Rattle.adr_value.specs.Copy.{IsCopyOf}
+use Rattle.adr_refusal.specs.Copy.{IsCopyOf}
 use Rattle.adr_model.proofs.Keyed.{event_id}
 use Rattle.adr_store.proofs.Found.{the_one, without_none}
 use Rattle.adr_store.proofs.Counted.{counted_some, counted_within, counted_drop, number_of_write, program_of}

@@ -1,6 +1,6 @@
 use Rattle.std.proofs.Common.{◌∙◌, ap, sym, subst}
 use Rattle.std.specs.Option.{option_copied}
-use Rattle.adr_value.specs.Copy.{IsCopyOf}
+use Rattle.adr_refusal.specs.Copy.{IsCopyOf}
 use Rattle.adr_value.specs.declared.limits.TheConstants.{MOST_RESOURCES}
 use Rattle.adr_model.proofs.Keyed.{resource_id}
 use Rattle.adr_store.proofs.Found.{the_one, without_none}

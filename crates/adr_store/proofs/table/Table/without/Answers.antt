@@ -1,6 +1,6 @@
 use Rattle.std.proofs.Common.{◌∙◌, ap, sym, subst}
 use Rattle.std.specs.Option.{option_copied}
-use Rattle.adr_value.specs.Copy.{IsCopyOf}
+use Rattle.adr_refusal.specs.Copy.{IsCopyOf}
 use Rattle.adr_store.specs.Table.{find_by, without}
 use Rattle.adr_store.proofs.Tables.{taken, taken_values, none_there}
 use Rattle.adr_store.proofs.Found.{without_none}

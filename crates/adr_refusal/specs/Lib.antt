@@ -1,0 +1,5 @@
+pub mod Agreeing
+pub mod Answer
+pub mod Copy
+pub mod Faults
+pub mod Refusal

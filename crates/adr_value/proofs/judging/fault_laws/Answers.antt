@@ -1,8 +1,0 @@
-use Rattle.adr_value.proofs.Judged.{least_is_least, none_is_none}
-use Rattle.adr_value.proofs.judging.fault_laws.Goals as goal
-
-pub returns-clause-least : goal.returns-clause-least
-returns-clause-least c = least_is_least
-
-pub returns-clause-none : goal.returns-clause-none
-returns-clause-none c = none_is_none

@@ -1,5 +1,0 @@
-use Rattle.adr_value.proofs.Refusals.{of_number-number_of}
-use Rattle.adr_value.proofs.refusal.refusal_laws.Goals as goal
-
-pub returns : goal.returns
-returns c = of_number-number_of
