@@ -1,4 +1,4 @@
-use Rattle.std.proofs.Common.{[], ◌∷◌, ◌++◌, sym, subst}
+use Rattle.std.proofs.Common.{[], ◌∷◌, ◌++◌, sym, subst, rules}
 use Rattle.std.proofs.lemmas.Result.{err_from_is_err_and, on_ok_weaker, on_err_weaker}
 use Rattle.adr_script.specs.Begun.{Holds}
 use Rattle.adr_script.specs.Script.{Told}
@@ -32,6 +32,9 @@ returns-in_err-answer_line-clause-err g c = let p = err_from_is_err_and c.from_r
     let cut = sends-as _ _ _ _ lost (out ++ reply) c.requires.none (sends-trans _ _ _ _ _ _ out reply sent more) in
     let (written, appended, part) = sends-told g.M.Machine.answers _ _ _ _ _ (out ++ reply) lost all cut in
     (written, appended, told_short g.M.Machine.answers _ _ line _ front _ end _ written split c.in-Some.ensures.found.0 part))
+
+pub returns-clause-none : goal.returns-clause-none
+returns-clause-none g c = search rules
 
 pub returns-clause-ok : goal.returns-clause-ok
 returns-clause-ok g c = on_ok_weaker c.flush.result (λ written line holds.

@@ -71,3 +71,8 @@ loop-preserved g c =
             told = (bytes, out, Consumes-kept _ _ _ _ consumed given, appended, kept, told);
           })
     ]
+
+pub returns-clause-ends : goal.returns-clause-ends
+returns-clause-ends g c =
+    let (bytes, out, consumed, appended, kept, told) = c.loop.invariant.told in
+    ((bytes, out, consumed, appended, told), omega arith, c.loop.invariant.no_read, c.loop.invariant.no_write)
