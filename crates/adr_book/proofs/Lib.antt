@@ -1,3 +1,4 @@
+pub mod Refused
 pub mod Verdict
 pub mod Joined
 pub mod Bounds

@@ -1,8 +1,9 @@
-use Rattle.std.proofs.Common.{◌≡◌, ◌∙◌, ◌++◌, ◌∷◌, [], IsOk, Ok, ap, subst, sym}
+use Rattle.std.proofs.Common.{◌≡◌, ◌∙◌, IsOk, Ok, ap, subst, sym}
 use Rattle.adr_model.specs.Edits.{full_at, step, step_to}
-use Rattle.adr_book.specs.Ledger.{joined}
+use Rattle.adr_book.specs.Ledger.{Leads, joined}
 use Rattle.adr_book.proofs.Bounds.{accepted_too, same_step}
 use Rattle.adr_book.proofs.Joined.{led_whole, led_by_one_more}
+use Rattle.adr_book.proofs.Refused.{on_err}
 use Rattle.adr_book.proofs.book.Book.commit.Goals as goal
 
 pub make-requires-clause-accepted : goal.make-requires-clause-accepted
@@ -13,6 +14,13 @@ make-requires-clause-accepted c =
 
 pub make-requires-clause-whole : goal.make-requires-clause-whole
 make-requires-clause-whole c = led_whole c.self.inside.base (joined c.self.inside.journal.closed c.self.inside.journal.pending) c.self.inside.objects c.self.invariant
+
+pub invariant_of-self : goal.invariant_of-self
+invariant_of-self c =
+    subst (λ objects. Leads c.self.inside.base (joined c.self.inside.journal.closed c.self.inside.journal.pending) objects) (sym (c.in_err-make.ensures.err)) c.self.invariant
+
+pub returns-in_err-make-clause-unchanged : goal.returns-in_err-make-clause-unchanged
+returns-in_err-make-clause-unchanged c = rw (c.in_err-make.ensures.err) (on_err _ c.self.view_is)
 
 pub invariant_of-self-2 : goal.invariant_of-self-2
 invariant_of-self-2 c =

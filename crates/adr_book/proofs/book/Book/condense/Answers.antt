@@ -11,3 +11,11 @@ invariant_of-self c =
     rw (c.condense.ensures.closed)
     (subst (λ edits. Leads c.in_ok-base.base edits c.self.inside.objects) pending
     (led_from c.self.inside.base c.self.inside.journal.closed c.self.inside.journal.pending c.self.inside.objects c.in_ok-base.base c.self.invariant (copied ∙ sealed)))
+
+pub returns-clause-base : goal.returns-clause-base
+returns-clause-base c = c.in_ok-base.ensures ∙ c.in_ok-copy.ensures ∙ ap (λ b. b.objects) c.at.view_is
+
+pub returns-clause-version : goal.returns-clause-version
+returns-clause-version c =
+    let copied = c.in_ok-base.ensures ∙ c.in_ok-copy.ensures ∙ ap (λ b. b.objects) c.at.view_is in
+    c.version.ensures.value ∙ ap (λ b. b.version) copied
