@@ -1,9 +1,16 @@
-use Rattle.std.proofs.Common.{◌≡◌, ◌+◌, ◌*◌, List, ◌∙◌, ap, subst, length, arith}
+use Rattle.std.proofs.Common.{◌≡◌, ◌+◌, ◌*◌, List, ◌∙◌, ap, subst, length, le_refl, arith}
 use Rattle.adr_model.specs.declared.entry.Entry.{Entry}
 use Rattle.adr_model.specs.Entries.{meeting}
 use Rattle.adr_timeline.specs.Build.{most_compared, most_compared_all, Takes}
-use Rattle.adr_timeline.proofs.Built.{window_taken, all_taken}
+use Rattle.adr_timeline.proofs.Built.{all_taken, begun, window_taken}
 use Rattle.adr_timeline.proofs.build.join_windows.Goals as goal
+
+pub loop-window-init : goal.loop-window-init
+loop-window-init g c = (
+  begun (g.S.Source.entries c.args.source.now) c.args.windows.now c.args.line.now c.requires.empty c.requires.apart,
+  le_refl _,
+  c.nothing-near.ensures (g.S.Source.entries c.args.source.now),
+)
 
 pub loop-window-preserved : goal.loop-window-preserved
 loop-window-preserved g c =

@@ -1,0 +1,27 @@
+use Rattle.std.proofs.Common.{◌≡◌, ℤ, Bool, true, false, if◌then◌else◌, List, Option, None, ◌∙◌}
+use Rattle.std.proofs.lemmas.Result.{IfOk-weaker}
+use Rattle.adr_model.specs.declared.entry.Entry.{Entry}
+use Rattle.adr_model.specs.declared.timeline.Segment.{Segment}
+use Rattle.adr_model.specs.declared.timeline.Winner.{Winner}
+use Rattle.adr_model.specs.Timeline.{shows}
+use Rattle.adr_stretch.specs.Grouped.{any_covers_at}
+use Rattle.adr_group.specs.Jobs.{IsInside}
+use Rattle.adr_group.proofs.repair.line_with.Goals as goal
+
+-- what is spliced shows what wins inside the windows, and elsewhere what was shown
+inside_shown : (windows : List Entry) (inner new : List Segment) (line shown wins : ℤ → Option Winner)
+    → IsInside wins windows inner
+    → ((t : ℤ) → shows new t ≡ (if any_covers_at windows t then shows inner t else line t)) → ((t : ℤ) → line t ≡ shown t)
+    → (t : ℤ) → shows new t ≡ (if any_covers_at windows t then wins t else shown t)
+inside_shown windows inner new line shown wins inside made was t = made t ∙ by (any_covers_at windows t) (shows inner t) (wins t) (line t) (shown t) (inside t) (was t)
+  where
+    by : (m : Bool) (i w l s : Option Winner) → i ≡ (if m then w else None) → l ≡ s → (if m then i else l) ≡ (if m then w else s)
+    by true i w l s h k = h
+    by false i w l s h k = k
+
+pub returns-in-Some-clause-shows : goal.returns-in-Some-clause-shows
+returns-in-Some-clause-shows c =
+    IfOk-weaker c.spliced.result _ _
+        (λ line made wins inside. inside_shown c.args.windows.now.entries.items c.args.inner.now line (shows c.in-Some.line.now) _ wins inside
+            (rw c.as_slice.ensures.value at made) c.in-Some.ensures.shows)
+        c.spliced.ensures.shows
