@@ -16,3 +16,9 @@ grouped-requires-clause-accepted g c =
       layout = c.layout.ensures ∙ ap placed_by (sym c.edit-2.ensures);
       desk = rw (c.tie.ensures, c.book-book.ensures) (record { keys_are = c.requires.desk.keys_are; indexed = c.requires.desk.indexed; seated = c.schedule.ensures });
     }
+
+pub returns-clause-touched : goal.returns-clause-touched
+returns-clause-touched g c = rw (c.between-touched.ensures, c.in_ok-copy.ensures, c.in_ok-copy-2.ensures, c.of.ensures.book, c.book-book.ensures)
+
+pub returns-clause-compares : goal.returns-clause-compares
+returns-clause-compares g c = rw (c.count.ensures.value, c.of.ensures.book, c.between-touched.ensures, c.in_ok-copy.ensures, c.in_ok-copy-2.ensures) c.in_ok-schedule.ensures.least

@@ -22,6 +22,6 @@ inside_shown windows inner new line shown wins inside made was t = made t ∙ by
 pub returns-in-Some-clause-shows : goal.returns-in-Some-clause-shows
 returns-in-Some-clause-shows c =
     IfOk-weaker c.spliced.result _ _
-        (λ line made wins inside. inside_shown c.args.windows.now.entries.items c.args.inner.now line (shows c.in-Some.line.now) _ wins inside
-            (rw c.as_slice.ensures.value at made) c.in-Some.ensures.shows)
-        c.spliced.ensures.shows
+    (λ line made wins inside. inside_shown c.args.windows.now.entries.items c.args.inner.now line (shows c.in-Some.line.now) _ wins inside
+    (rw c.as_slice.ensures.value at made) c.in-Some.ensures.shows)
+    c.spliced.ensures.shows

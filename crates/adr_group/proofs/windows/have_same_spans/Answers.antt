@@ -17,4 +17,4 @@ pub rest-preserved : goal.rest-preserved
 rest-preserved c same =
     let span : c.in-Some.window.now.span ≡ c.in-Some-split_first.other.now.span = search rules in
     c.rest.invariant (same_with_one c.rest.left.now c.in-Some.more.now c.rest.right.now c.in-Some-split_first.others_more.now c.in-Some.window.now c.in-Some-split_first.other.now
-        c.in-Some.ensures.cases.0 c.in-Some-split_first.ensures.cases.0 span same)
+    c.in-Some.ensures.cases.0 c.in-Some-split_first.ensures.cases.0 span same)
