@@ -18,3 +18,6 @@ new-requires-2-clause-rule g c =
     let number : (showing x).snapshot.number ≡ 0 = search rules in
     let publication : publication_in (showing x).snapshot ≡ opening = search rules in
     starts _ _ x number (search rules) publication (first_carried _ (showing x) number publication (search rules) (ap (λ p. p.log) c.of-first.ensures.page ∙ (ap (λ p. p.log) c.again-page.ensures ∙ log)) (c.of-first.ensures.attempt ∙ place))
+
+pub returns-in-Ok-new-clause-tie : goal.returns-in-Ok-new-clause-tie
+returns-in-Ok-new-clause-tie g c = cc (c.in-Ok.ensures.ok, c.in_ok-snapshot.ensures.tie)
