@@ -5,6 +5,7 @@ use crate::lives::lived;
 use crate::looking::looked;
 use crate::publishing::{held, published};
 use adr_board::NewBoard;
+use adr_test_values::rows::{print_lines, print_row};
 use adr_test_values::telling::told;
 use std::io;
 use std::marker::Brand;
@@ -18,17 +19,17 @@ fn print_publications<R: AllocGlobal + Print + Clock + Wait>(
     is_timed: bool,
 ) -> io::Result<()> {
     let published = told(published::<Brand, R>(rt, NewBoard::new(), resources))??;
-    print!(rt; "| {resources} | {} |", published.last)?;
+    let (resources, last) = (resources as u128, u128::from(published.last));
     if is_timed {
-        print!(rt; " {} |", published.nanoseconds)?;
+        return print_row(rt, &[resources, last, published.nanoseconds]);
     }
-    println!(rt)
+    print_row(rt, &[resources, last])
 }
 
 /// Holds so many publications at once, for a measurement of memory from outside.
 pub(crate) fn print_held<R: AllocGlobal + Print + Wait>(rt: &R, count: u64) -> io::Result<()> {
     let last = told(held::<Brand, R>(rt, NewBoard::new(), count))?;
-    println!(rt; "held {count} up to {last}")
+    print_row(rt, &[count.into(), last.into()])
 }
 
 /// A board that lives for so many thousand edits.
@@ -43,17 +44,18 @@ fn print_lookers<R: AllocGlobal + Print + Clock + Threads + Wait + Sync>(
     requires { (0 < readers) × (readers ≤ 64) }
 {
     let looked = told(looked::<Brand, R>(rt, NewBoard::new(), readers))?;
-    println!(rt;
-        "| {readers} | {} | {} |",
-        looked.looks, looked.publications
-    )
+    let (looks, publications) = (looked.looks, looked.publications);
+    print_row(rt, &[readers as u128, looks.into(), publications.into()])
 }
 
 /// The table of looks in a second beside an editor that publishes.
 pub(crate) fn print_looks<R: AllocGlobal + Print + Clock + Threads + Wait + Sync>(
     rt: &R,
 ) -> io::Result<()> {
-    println!(rt; "| Readers | Looks a second | Publications a second |\n|---|---|---|")?;
+    print_lines(
+        rt,
+        "| Readers | Looks a second | Publications a second |\n|---|---|---|",
+    )?;
     print_lookers(rt, 1)?;
     print_lookers(rt, 2)?;
     print_lookers(rt, 4)
@@ -64,13 +66,13 @@ pub(crate) fn print_boards<R: AllocGlobal + Print + Clock + Wait>(
     rt: &R,
     is_timed: bool,
 ) -> io::Result<()> {
-    println!(rt;
-        "{}",
+    print_lines(
+        rt,
         if is_timed {
             "| Resources | Publications | ns a publication |\n|---|---|---|"
         } else {
             "| Resources | Publications |\n|---|---|"
-        }
+        },
     )?;
     print_publications(rt, 64, is_timed)?;
     print_publications(rt, 1024, is_timed)?;

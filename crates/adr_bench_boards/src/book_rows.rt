@@ -3,6 +3,7 @@ use crate::book_times::Measure;
 use crate::books::{book_of_event, book_of_many, change, changes, publish_often};
 use adr_book::Book;
 use adr_object::{Edit, Kind};
+use adr_test_values::rows::{end_row, print_cells, print_lines, print_microseconds};
 use adr_test_values::telling::told;
 use std::io;
 use std::rt::Clock;
@@ -14,10 +15,10 @@ const CHANGES: usize = 10;
 fn print_times(rt: &impl Print, times: &[u128], is_timed: bool) -> io::Result<()> {
     if is_timed {
         for time in times {
-            print!(rt; " {}.{:02} |", *time / 1000, *time % 1000 / 10)?;
+            print_microseconds(rt, *time)?;
         }
     }
-    println!(rt)
+    end_row(rt)
 }
 
 /// The nanoseconds of a judgement of the edit, and of its commit.
@@ -55,25 +56,25 @@ fn print_edited<R: AllocGlobal + Print + Clock>(
     is_timed: bool,
 ) -> io::Result<()> {
     let (version, pending, times) = edited(rt, intervals)?;
-    print!(rt; "| {intervals} | {version} | {pending} |")?;
+    print_cells(rt, &[intervals as u128, version.into(), pending as u128])?;
     print_times(rt, &times, is_timed)
 }
 
 /// The table of edits: the intervals of an event, and the version and the open batch after it was changed again and
 /// again.
 fn print_edits<R: AllocGlobal + Print + Clock>(rt: &R, is_timed: bool) -> io::Result<()> {
-    println!(rt;
-        "{}",
+    print_lines(
+        rt,
         if is_timed {
             "| Intervals | Version | Open batch | µs a judge | µs a commit |\n|---|---|---|---|---|"
         } else {
             "| Intervals | Version | Open batch |\n|---|---|---|"
-        }
+        },
     )?;
     for intervals in [1, 16, 256, 4096] {
         print_edited(rt, intervals, is_timed)?;
     }
-    println!(rt)
+    print_lines(rt, "")
 }
 
 /// The nanoseconds of a copy of the book, of the edits beside a copy that is kept, and of the edits alone.
@@ -97,41 +98,23 @@ fn copy_times<R: AllocGlobal + Clock>(
     times
 }
 
-/// How a book stands: its resources and events, its version, its closed batches and its open one.
-#[derive(Clone, Copy)]
-struct Counts {
-    resources: usize,
-    events: usize,
-    version: u64,
-    closed: usize,
-    pending: usize,
-}
-
-impl Counts {
-    fn of(book: &Book) -> Counts {
-        let journal = book.journal();
-        Counts {
-            resources: book.count(Kind::Resource),
-            events: book.count(Kind::Event),
-            version: book.version(),
-            closed: journal.closed().len(),
-            pending: journal.pending().len(),
-        }
-    }
-
-    fn print(self, rt: &impl Print) -> io::Result<()> {
-        print!(rt;
-            "| {} | {} | {} | {} | {} |",
-            self.resources, self.events, self.version, self.closed, self.pending
-        )
-    }
+/// The resources, the events, the version, the closed batches and the open one of a book.
+fn counts_of(book: &Book) -> [u128; 5] {
+    let journal = book.journal();
+    [
+        book.count(Kind::Resource) as u128,
+        book.count(Kind::Event) as u128,
+        book.version().into(),
+        journal.closed().len() as u128,
+        journal.pending().len() as u128,
+    ]
 }
 
 /// How a book of so many stands after all edits, and the times of copies.
-fn copied<R: AllocGlobal + Clock>(rt: &R, count: usize) -> io::Result<(Counts, [u128; 3])> {
+fn copied<R: AllocGlobal + Clock>(rt: &R, count: usize) -> io::Result<([u128; 5], [u128; 3])> {
     let mut book = told(book_of_many(rt.alloc(), count))?;
     let times = copy_times(rt, &mut book, count);
-    let counts = Counts::of(&book);
+    let counts = counts_of(&book);
     drop(book);
     Ok((counts, times?))
 }
@@ -142,24 +125,24 @@ fn print_copied<R: AllocGlobal + Print + Clock>(
     is_timed: bool,
 ) -> io::Result<()> {
     let (counts, times) = copied(rt, count)?;
-    counts.print(rt)?;
+    print_cells(rt, &counts)?;
     print_times(rt, &times, is_timed)
 }
 
 /// The table of copies.
 fn print_copies<R: AllocGlobal + Print + Clock>(rt: &R, is_timed: bool) -> io::Result<()> {
-    println!(rt;
-        "{}",
+    print_lines(
+        rt,
         if is_timed {
             "| Resources | Events | Version | Closed batches | Open batch | µs a copy | µs 10 changes beside a copy | µs 10 changes |\n|---|---|---|---|---|---|---|---|"
         } else {
             "| Resources | Events | Version | Closed batches | Open batch |\n|---|---|---|---|---|"
-        }
+        },
     )?;
     for count in [256, 4096, 16_384] {
         print_copied(rt, count, is_timed)?;
     }
-    println!(rt)
+    print_lines(rt, "")
 }
 
 /// The nanoseconds of a copy after so many publications of the edit, and of one publication more.
@@ -206,19 +189,19 @@ fn print_published<R: AllocGlobal + Print + Clock>(
     is_timed: bool,
 ) -> io::Result<()> {
     let (version, closed, times) = published(rt, publications)?;
-    print!(rt; "| {publications} | {version} | {closed} |")?;
+    print_cells(rt, &[publications.into(), version.into(), closed as u128])?;
     print_times(rt, &times, is_timed)
 }
 
 /// The table of publications: their number, and the version and the closed batches after some more of them.
 fn print_publications<R: AllocGlobal + Print + Clock>(rt: &R, is_timed: bool) -> io::Result<()> {
-    println!(rt;
-        "{}",
+    print_lines(
+        rt,
         if is_timed {
             "| Publications | Version | Closed batches | µs a copy | µs a seal |\n|---|---|---|---|---|"
         } else {
             "| Publications | Version | Closed batches |\n|---|---|---|"
-        }
+        },
     )?;
     for publications in [1, 100, 10_000] {
         print_published(rt, publications, is_timed)?;

@@ -13,6 +13,7 @@ mod publishing;
 
 use crate::board_rows::{print_boards, print_held, print_life, print_looks};
 use crate::book_rows::print_books;
+use adr_test_values::rows::print_lines;
 use std::io;
 use std::rt::Clock;
 use std::sync::Wait;
@@ -38,6 +39,6 @@ pub fn print_board_times<R: AllocGlobal + Print + Clock + Threads + Wait + Sync>
 /// Books and boards by count.
 pub fn print_board_counts<R: AllocGlobal + Print + Clock + Wait>(rt: &R) -> io::Result<()> {
     print_books(rt, false)?;
-    println!(rt)?;
+    print_lines(rt, "")?;
     print_boards(rt, false)
 }

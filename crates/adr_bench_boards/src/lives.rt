@@ -7,6 +7,7 @@ use adr_board::{Board, Editor, Naming, NewBoard, Reader};
 use adr_model::Tie;
 use adr_refusal::Refusal;
 use adr_snapshot::Snapshot;
+use adr_test_values::rows::print_row;
 use adr_test_values::telling::told;
 use std::alloc::Global;
 use std::io;
@@ -71,11 +72,7 @@ fn live_with<J: Naming, R: Print + Wait>(
     for _ in 0..thousands {
         told(live(rt, alloc, editor, reader, held))?;
         let last = editor.last();
-        println!(rt;
-            "{} publications, version {}",
-            last.number(),
-            last.version()
-        )?;
+        print_row(rt, &[last.number().into(), last.version().into()])?;
     }
     Ok(())
 }

@@ -9,6 +9,7 @@ use crate::audiences::measure::{
 use crate::audiences::objects::{event, program};
 use adr_audience::Audience;
 use adr_object::{Event, Program, Resource, Ven};
+use adr_test_values::rows::{end_row, print_cells, print_lines, print_microseconds, print_name};
 use adr_test_values::telling::told;
 use std::io;
 use std::rt::Clock;
@@ -37,9 +38,9 @@ const ASKED: [(&str, &str); 5] = [
 /// The end of a row: nanoseconds as microseconds, where it is timed.
 fn print_end(rt: &impl Print, nanoseconds: Option<u128>) -> io::Result<()> {
     if let Some(time) = nanoseconds {
-        print!(rt; " {}.{} |", time / 1000, time % 1000 / 100)?;
+        print_microseconds(rt, time)?;
     }
-    println!(rt)
+    end_row(rt)
 }
 
 /// A row of the table: the resources, what is asked for, and how many places; and where it is timed the microseconds.
@@ -50,7 +51,9 @@ fn print_places(
     places: usize,
     time: Option<u128>,
 ) -> io::Result<()> {
-    print!(rt; "| {resources} | {asked} | {places} |")?;
+    print_cells(rt, &[resources as u128])?;
+    print_name(rt, asked)?;
+    print_cells(rt, &[places as u128])?;
     print_end(rt, time)
 }
 
@@ -107,7 +110,9 @@ fn print_audiences<R: AllocGlobal + Print + Clock>(
 
 /// A row of what takes a time and has no places.
 fn print_edit(rt: &impl Print, count: usize, made: &str, nanoseconds: u128) -> io::Result<()> {
-    print!(rt; "| {count} | {made} | |")?;
+    print_cells(rt, &[count as u128])?;
+    print_name(rt, made)?;
+    print_name(rt, "")?;
     print_end(rt, Some(nanoseconds))
 }
 
@@ -192,9 +197,12 @@ pub(crate) fn print_all_audiences<R: AllocGlobal + Print + Clock>(
     is_timed: bool,
 ) -> io::Result<()> {
     if is_timed {
-        println!(rt; "| Resources | Asked for | Places | µs |\n|---|---|---|---|")?;
+        print_lines(
+            rt,
+            "| Resources | Asked for | Places | µs |\n|---|---|---|---|",
+        )?;
     } else {
-        println!(rt; "| Resources | Asked for | Places |\n|---|---|---|")?;
+        print_lines(rt, "| Resources | Asked for | Places |\n|---|---|---|")?;
     }
     print_table(rt, is_timed)
 }

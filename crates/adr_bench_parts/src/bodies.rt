@@ -7,6 +7,7 @@ use crate::bodies::measure::time_of;
 use adr_object::Id;
 use adr_read::read_event;
 use adr_refusal::Refusal;
+use adr_test_values::rows::{print_lines, print_named_row};
 use adr_test_values::telling::told;
 use adr_time::Moment;
 use std::alloc::Global;
@@ -36,12 +37,10 @@ fn print_counts(
     (intervals, values): (usize, u64),
     time: Option<u128>,
 ) -> io::Result<()> {
+    let (bytes, intervals, values) = (bytes as u128, intervals as u128, u128::from(values));
     match time {
-        Some(time) => println!(rt;
-            "| {name} | {bytes} | {intervals} | {values} | {} |",
-            time / 1000
-        ),
-        None => println!(rt; "| {name} | {bytes} | {intervals} | {values} |"),
+        Some(time) => print_named_row(rt, name, &[bytes, intervals, values, time / 1000]),
+        None => print_named_row(rt, name, &[bytes, intervals, values]),
     }
 }
 
@@ -58,13 +57,13 @@ fn print_row<R: AllocGlobal + Print + Clock>(
 }
 
 fn print_rows<R: AllocGlobal + Print + Clock>(rt: &R, id: &Id, is_timed: bool) -> io::Result<()> {
-    println!(rt;
-        "{}",
+    print_lines(
+        rt,
         if is_timed {
             "| Contents | Bytes | Intervals | Values | µs a reading |\n|---|---|---|---|---|"
         } else {
             "| Contents | Bytes | Intervals | Values |\n|---|---|---|---|"
-        }
+        },
     )?;
     for contents in CONTENTS {
         print_row(rt, contents, id, is_timed)?;

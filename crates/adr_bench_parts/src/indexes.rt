@@ -10,8 +10,8 @@ mod shape;
 use crate::indexes::filled::{fastest_edit, fastest_fill, index_of, met};
 use crate::indexes::list::{fastest_list_edit, fastest_sort, met_in, sorted};
 use crate::indexes::shape::{entries, window_of};
-use crate::print_microseconds;
 use adr_index::Entry;
+use adr_test_values::rows::{end_row, print_cells, print_lines, print_microseconds};
 use std::io;
 use std::rt::Clock;
 
@@ -88,24 +88,25 @@ fn print_times<R: AllocGlobal + Print + Clock>(
 /// the index and in the list, and where it is timed the microseconds of filling both and of an edit of both.
 fn print_row<R: AllocGlobal + Print + Clock>(rt: &R, count: u32, is_timed: bool) -> io::Result<()> {
     let (index, list) = standings(rt, count)?;
-    print!(rt;
-        "| {count} | {} | {} | {} | {} |",
-        index.entries, list.entries, index.met, list.met
-    )?;
+    let entries = [index.entries as u128, list.entries as u128];
+    let met = [index.met as u128, list.met as u128];
+    print_cells(rt, &[count.into()])?;
+    print_cells(rt, &entries)?;
+    print_cells(rt, &met)?;
     if is_timed {
         print_times(rt, count, index, list)?;
     }
-    println!(rt)
+    end_row(rt)
 }
 
 fn print_heading(rt: &impl Print, is_timed: bool) -> io::Result<()> {
-    println!(rt;
-        "{}",
+    print_lines(
+        rt,
         if is_timed {
             "| Entries | In the index | In the list | Met in the index | In the list | µs filled | µs sorted | µs an event | In the list |\n|---|---|---|---|---|---|---|---|---|"
         } else {
             "| Entries | In the index | In the list | Met in the index | In the list |\n|---|---|---|---|---|"
-        }
+        },
     )
 }
 

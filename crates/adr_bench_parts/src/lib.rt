@@ -10,13 +10,9 @@ use crate::audiences::print_all_audiences;
 use crate::bodies::print_bodies;
 use crate::indexes::print_indexes;
 use crate::timelines::print_timelines;
+use adr_test_values::rows::print_lines;
 use std::io;
 use std::rt::Clock;
-
-/// Nanoseconds as microseconds.
-fn print_microseconds(rt: &impl Print, nanoseconds: u128) -> io::Result<()> {
-    print!(rt; " {}.{} |", nanoseconds / 1000, nanoseconds % 1000 / 100)
-}
 
 /// The part of that name, `timelines`, `indexes`, `audiences` or `bodies`, and how long it takes.
 pub fn print_part_times<R: AllocGlobal + Print + Clock>(rt: &R, part: &str) -> io::Result<()> {
@@ -31,10 +27,10 @@ pub fn print_part_times<R: AllocGlobal + Print + Clock>(rt: &R, part: &str) -> i
 /// All parts by count.
 pub fn print_part_counts<R: AllocGlobal + Print + Clock>(rt: &R) -> io::Result<()> {
     print_timelines(rt, false)?;
-    println!(rt)?;
+    print_lines(rt, "")?;
     print_indexes(rt, false)?;
-    println!(rt)?;
+    print_lines(rt, "")?;
     print_all_audiences(rt, false)?;
-    println!(rt)?;
+    print_lines(rt, "")?;
     print_bodies(rt, false)
 }

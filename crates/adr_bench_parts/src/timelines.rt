@@ -7,18 +7,19 @@ mod repair;
 mod shape;
 mod sweep;
 
-use crate::print_microseconds;
 use crate::timelines::measure::{Times, measured};
 use crate::timelines::repair::Repair;
 use crate::timelines::shape::{Shape, entries};
+use adr_test_values::rows::{
+    end_row, print_cells, print_hundredths, print_lines, print_microseconds, print_name,
+};
 use adr_timeline::Entry;
 use std::io;
 use std::rt::Clock;
 
 /// A ratio, with two places.
 fn print_ratio(rt: &impl Print, time: u128, other: u128) -> io::Result<()> {
-    let parts = time.saturating_mul(100) / other.max(1);
-    print!(rt; " {}.{:02} |", parts / 100, parts % 100)
+    print_hundredths(rt, time.saturating_mul(100) / other.max(1))
 }
 
 fn print_times(rt: &impl Print, times: Times) -> io::Result<()> {
@@ -27,7 +28,7 @@ fn print_times(rt: &impl Print, times: Times) -> io::Result<()> {
     print_microseconds(rt, sweep)?;
     print_ratio(rt, build, sweep)?;
     print_microseconds(rt, pass)?;
-    print!(rt; " {} |", build / pass.max(1))
+    print_cells(rt, &[build / pass.max(1)])
 }
 
 fn print_row_of<R: AllocGlobal + Print + Clock>(
@@ -40,11 +41,12 @@ fn print_row_of<R: AllocGlobal + Print + Clock>(
 {
     let (segments, compares) = measured(rt.alloc(), entries)?;
     let count = entries.len();
-    print!(rt; "| {name} | {count} | {segments} | {compares} |")?;
+    print_name(rt, name)?;
+    print_cells(rt, &[count as u128, segments as u128, compares])?;
     if is_timed {
         print_times(rt, Times::of(rt, entries)?)?;
     }
-    println!(rt)
+    end_row(rt)
 }
 
 /// A row of the table: how the entries lie, their number, the segments and the comparisons of a build, and where it is
@@ -63,13 +65,13 @@ fn print_row<R: AllocGlobal + Print + Clock>(
 }
 
 fn print_heading(rt: &impl Print, is_timed: bool) -> io::Result<()> {
-    println!(rt;
-        "{}",
+    print_lines(
+        rt,
         if is_timed {
             "| Entries lie | Entries | Segments | Comparisons | µs a build | µs a sweep | Ratio | µs a pass | Ratio |\n|---|---|---|---|---|---|---|---|---|"
         } else {
             "| Entries lie | Entries | Segments | Comparisons |\n|---|---|---|---|"
-        }
+        },
     )
 }
 
@@ -90,11 +92,11 @@ fn print_repair_of<R: Print + Clock>(
     is_timed: bool,
 ) -> io::Result<()> {
     let segments = repair.segments()?;
-    print!(rt; "| {count} | {segments} |")?;
+    print_cells(rt, &[count.into(), segments as u128])?;
     if is_timed {
         print_microseconds(rt, repair.fastest(rt)?)?;
     }
-    println!(rt)
+    end_row(rt)
 }
 
 /// A row of the table of repairs: the segments of the line, those of the repaired one, and where it is timed the
@@ -111,13 +113,13 @@ fn print_repair<R: AllocGlobal + Print + Clock>(
 }
 
 fn print_repairs<R: AllocGlobal + Print + Clock>(rt: &R, is_timed: bool) -> io::Result<()> {
-    println!(rt;
-        "{}",
+    print_lines(
+        rt,
         if is_timed {
             "| Segments | Repaired | µs a repair |\n|---|---|---|"
         } else {
             "| Segments | Repaired |\n|---|---|"
-        }
+        },
     )?;
     for count in [256, 4096, 65_536] {
         print_repair(rt, count, is_timed)?;
@@ -131,6 +133,6 @@ pub(crate) fn print_timelines<R: AllocGlobal + Print + Clock>(
     is_timed: bool,
 ) -> io::Result<()> {
     print_table(rt, is_timed)?;
-    println!(rt)?;
+    print_lines(rt, "")?;
     print_repairs(rt, is_timed)
 }

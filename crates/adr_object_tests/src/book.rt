@@ -6,59 +6,6 @@ use adr_value::Refusal;
 use std::alloc::Global;
 use std::test::Fail;
 
-/// Edits, each behind the number that it is refused with, or 0.
-const EDITS: &str = "0 create program p1 - 0 on
-22 create program p1 - 0 on
-23 change program p2 - 0 on
-23 delete program p2 - 0 on
-0 create ven v1 - 0 on
-22 create ven v1 - 0 on
-0 create resource r1 v1 0 on
-25 create resource r2 v9 0 on
-22 create resource r1 v9 0 on
-25 change resource r1 v9 0 on
-23 change resource r9 v9 0 on
-0 change resource r1 v1 0 on
-26 delete ven v1 - 0 on
-19 create event e1 p1 1 off
-0 create event e1 p1 1 on
-24 create event e2 p9 0 on
-22 create event e1 p9 1 on
-19 create event e1 p9 1 off
-20 create event e2 p9 2 endless
-20 create event e1 p9 2 endless
-0 change event e1 p1 1 endless
-20 change event e1 p1 2 endless
-20 change event e9 p9 2 endless
-21 create event e1 p9 1 late
-19 change event e9 p9 1 off
-23 change event e9 p9 1 on
-24 change event e1 p9 1 on
-0 create event e2 p1 0 off
-26 delete program p1 - 0 on
-23 delete event e9 - 0 on
-0 delete event e1 - 0 on
-26 delete program p1 - 0 on
-0 create program p2 - 0 on
-0 change event e2 p2 0 on
-0 delete program p1 - 0 on
-26 delete program p2 - 0 on
-0 delete event e2 - 0 on
-0 delete program p2 - 0 on
-0 delete resource r1 - 0 on
-0 delete ven v1 - 0 on";
-
-#[test]
-fn edits_meet_the_least_fault(rt: HostRuntime) -> Result<(), Fail> {
-    let mut book = Book::new(rt.alloc());
-    let unmet = unmet(rt.alloc(), &mut book, EDITS);
-    let version = book.version();
-    drop(book);
-    assert_eq!(rt; unmet?, "");
-    assert_eq!(rt; version, 15);
-    Ok(())
-}
-
 /// Whether the journal has one closed batch of so many edits, and so many since.
 fn has_one_batch(book: &Book, closed: usize, pending: usize) -> bool {
     let journal = book.journal();
@@ -69,7 +16,7 @@ fn has_one_batch(book: &Book, closed: usize, pending: usize) -> bool {
 
 /// Whether an accepted edit stands in the journal as one batch, and a refused one nowhere.
 fn has_batch(alloc: Global, book: &mut Book) -> Result<bool, Refusal> {
-    let lines = "0 create program p1 - 0 on\n22 create program p1 - 0 on";
+    let lines = "0 create program p1 - 0\n22 create program p1 - 0";
     let unmet = unmet(alloc, book, lines)?;
     book.seal()?;
     Ok(unmet.is_empty() && has_one_batch(book, 1, 0) && book.version() == 1)
@@ -135,24 +82,24 @@ fn has_events(book: &Book, wanted: &[(&str, u64)]) -> bool {
     book.count(Kind::Event) == wanted.len()
 }
 
-const PLACES: &str = "0 create program p1 - 0 on
-0 create program p2 - 0 on
-0 create program p3 - 0 on
-0 change program p2 - 0 on
-0 delete program p1 - 0 on
-0 create program p1 - 0 on
-0 create event e1 p1 0 on
-0 create event e2 p1 0 on
-0 create event e3 p2 0 on
-0 change event e1 p3 0 on
-0 delete event e2 - 0 on
-0 create event e2 p1 0 on
-0 create ven v1 - 0 on
-0 create resource r1 v1 0 on
-0 create resource r2 v1 0 on
-0 create resource r3 v1 0 on
-0 change resource r1 v1 0 on
-0 delete resource r2 - 0 on";
+const PLACES: &str = "0 create program p1 - 0
+0 create program p2 - 0
+0 create program p3 - 0
+0 change program p2 - 0
+0 delete program p1 - 0
+0 create program p1 - 0
+0 create event e1 p1 0
+0 create event e2 p1 0
+0 create event e3 p2 0
+0 change event e1 p3 0
+0 delete event e2 - 0
+0 create event e2 p1 0
+0 create ven v1 - 0
+0 create resource r1 v1 0
+0 create resource r2 v1 0
+0 create resource r3 v1 0
+0 change resource r1 v1 0
+0 delete resource r2 - 0";
 
 /// Whether the objects stand as the edits of `PLACES` leave them.
 fn has_places(book: &Book) -> bool {
@@ -184,7 +131,7 @@ fn is_copied(copy: &Book) -> bool {
 /// Whether the book of `PLACES` goes on after a copy, which stays as it is.
 fn goes_on(alloc: Global, book: &mut Book, copy: &Book) -> Result<bool, Refusal> {
     let was_copied = is_copied(copy);
-    let edits = "0 delete event e1 - 0 on\n0 delete program p3 - 0 on";
+    let edits = "0 delete event e1 - 0\n0 delete program p3 - 0";
     let unmet = unmet(alloc, book, edits)?;
     let is_next = has_one_batch(book, 18, 2);
     Ok(unmet.is_empty() && was_copied && is_copied(copy) && is_next)
@@ -226,23 +173,23 @@ fn fill(
     Ok(true)
 }
 
-const FULL_KINDS: &str = "27 create program p - 0 on
-22 create program p1 - 0 on
-27 create ven v - 0 on
-27 create resource r v1 0 on
-27 create event e p1 0 on
-0 change event e1 p1 0 on
-0 delete event e1 - 0 on
-0 create event e p1 0 on
-27 create event f p1 0 on";
+const FULL_KINDS: &str = "27 create program p - 0
+22 create program p1 - 0
+27 create ven v - 0
+27 create resource r v1 0
+27 create event e p1 0
+0 change event e1 p1 0
+0 delete event e1 - 0
+0 create event e p1 0
+27 create event f p1 0";
 
 /// Whether as many objects of each kind are accepted as there may be.
 fn fills_kinds(alloc: Global, book: &mut Book) -> Result<bool, Refusal> {
     Ok(
-        fill(alloc, book, "create program p", " - 0 on", 1024)?
-            && fill(alloc, book, "create ven v", " - 0 on", 16384)?
-            && fill(alloc, book, "create resource r", " v1 0 on", 16384)?
-            && fill(alloc, book, "create event e", " p1 0 on", 16384)?,
+        fill(alloc, book, "create program p", " - 0", 1024)?
+            && fill(alloc, book, "create ven v", " - 0", 16384)?
+            && fill(alloc, book, "create resource r", " v1 0", 16384)?
+            && fill(alloc, book, "create event e", " p1 0", 16384)?,
     )
 }
 
@@ -257,21 +204,21 @@ fn each_kind_has_a_limit(rt: HostRuntime) -> Result<(), Fail> {
     Ok(())
 }
 
-const FULL_ENTRIES: &str = "27 create event f p1 1 on
-0 create event f p1 0 on
-27 change event f p1 1 on
-0 change event e1 p1 16384 on
-0 change event e1 p1 16383 on
-27 change event f p1 2 on
-0 change event f p1 1 on
-0 delete event e0 - 0 on
-0 create event g p1 16384 on
-27 create event h p1 1 on";
+const FULL_ENTRIES: &str = "27 create event f p1 1
+0 create event f p1 0
+27 change event f p1 1
+0 change event e1 p1 16384
+0 change event e1 p1 16383
+27 change event f p1 2
+0 change event f p1 1
+0 delete event e0 - 0
+0 create event g p1 16384
+27 create event h p1 1";
 
 /// Whether as many entries are accepted as there may be.
 fn fills_entries(alloc: Global, book: &mut Book) -> Result<bool, Refusal> {
-    let created = answer(alloc, book, "create program p1 - 0 on")?;
-    Ok(created == 0 && fill(alloc, book, "create event e", " p1 16384 on", 16)?)
+    let created = answer(alloc, book, "create program p1 - 0")?;
+    Ok(created == 0 && fill(alloc, book, "create event e", " p1 16384", 16)?)
 }
 
 #[test]

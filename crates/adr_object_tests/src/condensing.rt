@@ -10,7 +10,7 @@ use adr_value::Refusal;
 use std::alloc::Global;
 use std::test::Fail;
 
-const CHANGE: &str = "change program p1 - 0 on";
+const CHANGE: &str = "change program p1 - 0";
 
 /// Makes a change so many times; whether it is accepted each time.
 fn change_often(book: &mut Book, change: &Edit, times: u32) -> bool
@@ -31,9 +31,9 @@ fn is_full(alloc: Global, book: &mut Book) -> Result<bool, Refusal>
     ensures closed { book.new.closed ≡ book.old.closed }
 {
     let change = answer(alloc, book, CHANGE)?;
-    let delete = answer(alloc, book, "delete program p1 - 0 on")?;
-    let again = answer(alloc, book, "create program p1 - 0 on")?;
-    let absent = answer(alloc, book, "delete program p2 - 0 on")?;
+    let delete = answer(alloc, book, "delete program p1 - 0")?;
+    let again = answer(alloc, book, "create program p1 - 0")?;
+    let absent = answer(alloc, book, "delete program p2 - 0")?;
     Ok(change == 27 && delete == 27 && again == 22 && absent == 23)
 }
 
@@ -50,7 +50,7 @@ fn fills(alloc: Global, book: &mut Book) -> Result<bool, Refusal>
     ensures base { book.new.base ≡ book.old.base }
     ensures closed { book.new.closed ≡ book.old.closed }
 {
-    let created = answer(alloc, book, "create program p1 - 0 on")?;
+    let created = answer(alloc, book, "create program p1 - 0")?;
     let change = short_edit(alloc, CHANGE)?;
     let is_changed = change_often(book, &change, 999_999);
     drop(change);

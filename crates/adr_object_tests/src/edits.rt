@@ -11,30 +11,13 @@ use std::alloc::Global;
 const INTERVAL: &str =
     r#"{"payloads":[{"type":"PRICE","values":[1]},{"type":"PRICE","values":[1]}]},"#;
 
-/// The period of an event: without end, one that ends after the last moment, with no duration, or none.
-fn period(word: &str) -> &'static str {
-    match word {
-        "endless" => r#"{"start":"0000-00-00","duration":"P9999Y"}"#,
-        "late" => r#"{"start":"9999-12-30T22:00Z","duration":"PT1S"}"#,
-        "on" => r#"{"start":"0000-00-00"}"#,
-        _ => "null",
-    }
-}
-
-/// The line of a row's edit, whose body has what an object of any kind needs: the program or ven that it names, as many
-/// intervals, and a period.
-fn spelled(
-    alloc: Global,
-    edit: &str,
-    named: &str,
-    count: usize,
-    when: &str,
-) -> Result<String, Refusal> {
+/// The line of a row's edit, whose body has what an object of any kind needs: the program or ven that it names, and as many
+/// intervals.
+fn spelled(alloc: Global, edit: &str, named: &str, count: usize) -> Result<String, Refusal> {
     let intervals = INTERVAL.repeat(alloc, count)?;
     let intervals = intervals.as_str().strip_suffix(',').unwrap_or_default();
-    let period = period(when);
     Ok(format!(in alloc;
-        r#"{edit} {{"programName":"P","venName":"V","resourceName":"R","venID":"{named}","programID":"{named}","intervalPeriod":{period},"intervals":[{intervals}]}}"#
+        r#"{edit} {{"programName":"P","venName":"V","resourceName":"R","venID":"{named}","programID":"{named}","intervalPeriod":{{"start":"0000-00-00"}},"intervals":[{intervals}]}}"#
     )?)
 }
 
@@ -42,14 +25,12 @@ fn last_word(row: &str) -> Result<(&str, &str), Refusal> {
     row.rsplit_once(' ').ok_or(Refusal::BadLine)
 }
 
-/// The edit of a row: what it does, a kind, an id, the program or ven that is named, how many intervals an event has,
-/// and its period by a word of `period`.
+/// The edit of a row: what it does, a kind, an id, the program or ven that is named, and how many intervals an event has.
 pub(crate) fn short_edit(alloc: Global, row: &str) -> Result<Edit, Refusal> {
-    let (row, when) = last_word(row)?;
     let (row, count) = last_word(row)?;
     let (row, named) = last_word(row)?;
     let count = count.parse::<usize>().ok().ok_or(Refusal::BadLine)?;
-    let line = spelled(alloc, row, named, count, when)?;
+    let line = spelled(alloc, row, named, count)?;
     edit(alloc, line.as_str())
 }
 

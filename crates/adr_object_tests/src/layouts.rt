@@ -108,7 +108,7 @@ pub(crate) fn is_row(alloc: Global, line: &str) -> Result<bool, Refusal> {
 
 #[test]
 fn intervals_lie_where_their_periods_say(rt: HostRuntime) -> Result<(), Fail> {
-    check(rt.alloc(), Asked::Layout, LAYOUTS, '\n')
+    check(rt.alloc(), Asked::Layout, LAYOUTS)
 }
 
 /// How many spans an event has that has no intervals.

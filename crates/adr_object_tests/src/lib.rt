@@ -1,11 +1,9 @@
 #![tactic(auto)]
-//! Tests of what goes over objects, by what public functions answer: ids, bodies, values, objects, layouts, targets, the book and
-//! the touches of an edit.
+//! Tests of what goes over objects and no script shows, by what public functions answer: objects and their copies, layouts, the
+//! book and the touches of an edit.
 
 #[cfg(test)]
 mod alike;
-#[cfg(test)]
-mod bodies;
 #[cfg(test)]
 mod book;
 #[cfg(test)]
@@ -15,16 +13,10 @@ mod copies;
 #[cfg(test)]
 mod edits;
 #[cfg(test)]
-mod ids;
-#[cfg(test)]
 mod layouts;
 #[cfg(test)]
 mod objects;
 #[cfg(test)]
 mod rows;
 #[cfg(test)]
-mod targets;
-#[cfg(test)]
 mod touches;
-#[cfg(test)]
-mod values;

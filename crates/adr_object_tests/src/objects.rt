@@ -44,7 +44,7 @@ resource r1 {"resourceName":"R","venID":"v1","targets":[{"type":"GROUP","values"
 
 #[test]
 fn objects_are_copied(rt: HostRuntime) -> Result<(), Fail> {
-    check(rt.alloc(), Asked::Object, OBJECTS, '\n')
+    check(rt.alloc(), Asked::Object, OBJECTS)
 }
 
 fn is_edit_copied(edit: &Edit) -> Result<bool, Refusal> {
@@ -67,5 +67,5 @@ delete ven v1 {}"#;
 
 #[test]
 fn edits_are_copied(rt: HostRuntime) -> Result<(), Fail> {
-    check(rt.alloc(), Asked::Edit, EDITS, '\n')
+    check(rt.alloc(), Asked::Edit, EDITS)
 }

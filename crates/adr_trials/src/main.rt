@@ -8,15 +8,17 @@
 #![tactic(auto)]
 
 mod alike;
+mod edits;
 mod lines;
 mod plain;
 mod scripts;
 
 use crate::alike::print_random;
+use crate::edits::{print_desk_counts, print_desk_times};
 use adr_bench_boards::{print_board_counts, print_board_times};
-use adr_bench_desks::{print_desk_counts, print_desk_times};
 use adr_bench_parts::{print_part_counts, print_part_times};
 use adr_growths::try_parts;
+use adr_test_values::rows::print_lines;
 use adr_test_values::word;
 use std::io;
 use std::rt::{Clock, Env};
@@ -26,11 +28,11 @@ use std::thread::Threads;
 /// All that is measured, by count.
 fn print_counts<R: AllocGlobal + Print + Clock + Wait>(rt: &R) -> io::Result<()> {
     print_part_counts(rt)?;
-    println!(rt)?;
+    print_lines(rt, "")?;
     print_desk_counts(rt)?;
-    println!(rt)?;
+    print_lines(rt, "")?;
     print_board_counts(rt)?;
-    println!(rt)
+    print_lines(rt, "")
 }
 
 /// The number that stands behind the first word, or 1.

@@ -31,7 +31,7 @@ pub fn shared<T: Drop>(alloc: Global, value: Result<T, Refusal>) -> Result<Share
 }
 
 /// The object of a body on a line of that kind and id.
-pub fn read_object(alloc: Global, kind: &str, id: &Id, body: &[u8]) -> Result<Object, Refusal> {
+fn read_object(alloc: Global, kind: &str, id: &Id, body: &[u8]) -> Result<Object, Refusal> {
     match kind {
         "program" => {
             let program = read_program(alloc, body, id, Moment::MIN);

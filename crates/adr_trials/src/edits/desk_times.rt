@@ -1,5 +1,5 @@
 //! How much an edit compares, and how long it takes.
-use crate::works::Work;
+use crate::edits::works::Work;
 use adr_desk::Desk;
 use adr_object::Edit;
 use adr_test_values::telling::{since, told};

@@ -1,6 +1,6 @@
 //! The edits that are measured.
-use crate::bodies::{MEMBERS, Shape, event, program, removal, resource, ven};
-use crate::desks::PRIORITY;
+use crate::edits::bodies::{MEMBERS, Shape, event, program, removal, resource, ven};
+use crate::edits::desks::PRIORITY;
 use adr_object::Edit;
 use adr_refusal::Refusal;
 use std::alloc::Global;

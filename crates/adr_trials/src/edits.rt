@@ -1,6 +1,5 @@
 //! How much the repairs of edits of desks compare, edit by edit and in the kinds of work that servers do; and how long edits
 //! take, by one worker or several, and a desk to be loaded.
-#![tactic(auto)]
 
 mod bodies;
 mod crews;
@@ -10,15 +9,16 @@ mod desks;
 mod workloads;
 mod works;
 
-use crate::crews::print_crews;
-use crate::desk_rows::print_desks;
-use crate::workloads::print_workloads;
+use crate::edits::crews::print_crews;
+use crate::edits::desk_rows::print_desks;
+use crate::edits::workloads::print_workloads;
+use adr_test_values::rows::print_lines;
 use std::io;
 use std::rt::Clock;
 use std::thread::Threads;
 
 /// What is measured under that name, `desks`, `workloads` or `crews`, and how long it takes.
-pub fn print_desk_times<R: AllocGlobal + Print + Clock + Threads + Sync>(
+pub(crate) fn print_desk_times<R: AllocGlobal + Print + Clock + Threads + Sync>(
     rt: &R,
     part: &str,
 ) -> io::Result<()> {
@@ -30,8 +30,8 @@ pub fn print_desk_times<R: AllocGlobal + Print + Clock + Threads + Sync>(
 }
 
 /// Desks and workloads by count.
-pub fn print_desk_counts<R: AllocGlobal + Print + Clock>(rt: &R) -> io::Result<()> {
+pub(crate) fn print_desk_counts<R: AllocGlobal + Print + Clock>(rt: &R) -> io::Result<()> {
     print_desks(rt, false)?;
-    println!(rt)?;
+    print_lines(rt, "")?;
     print_workloads(rt, false)
 }

@@ -1,8 +1,9 @@
 //! Rows of how much the repairs of edits of desks compare, and of how long edits take.
-use crate::desk_times::{Round, least_round};
-use crate::desks::desk_of;
-use crate::works::Work;
+use crate::edits::desk_times::{Round, least_round};
+use crate::edits::desks::desk_of;
+use crate::edits::works::Work;
 use adr_desk::Desk;
+use adr_test_values::rows::{print_lines, print_named_row};
 use adr_test_values::telling::told;
 use std::io;
 use std::rt::Clock;
@@ -18,15 +19,13 @@ fn print_round(
     is_timed: bool,
 ) -> io::Result<()> {
     let Round { there, back } = round;
-    print!(rt;
-        "| {name} | {count} | {} | {} |",
-        there.compares, back.compares
-    )?;
+    let count = count as u128;
     if is_timed {
         let (time, time_back) = (there.nanoseconds / 1000, back.nanoseconds / 1000);
-        print!(rt; " {time} | {time_back} |")?;
+        let cells = [count, there.compares, back.compares, time, time_back];
+        return print_named_row(rt, name, &cells);
     }
-    println!(rt)
+    print_named_row(rt, name, &[count, there.compares, back.compares])
 }
 
 /// A row for each work: its name, the resources, the comparisons there and back and, where it is timed, the microseconds.
@@ -60,13 +59,13 @@ pub(crate) fn print_desks<R: AllocGlobal + Print + Clock>(
     rt: &R,
     is_timed: bool,
 ) -> io::Result<()> {
-    println!(rt;
-        "{}",
+    print_lines(
+        rt,
         if is_timed {
             "| Edit | Resources | Comparisons | back | µs | back |\n|---|---|---|---|---|---|"
         } else {
             "| Edit | Resources | Comparisons | back |\n|---|---|---|---|"
-        }
+        },
     )?;
     print_rows(rt, 1024, is_timed)?;
     if is_timed {

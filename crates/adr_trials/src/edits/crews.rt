@@ -1,11 +1,12 @@
 //! How long an edit takes that several workers make, and how long a desk takes to be loaded.
-use crate::desk_rows::NEARLY_ALL;
-use crate::desk_times::ROUNDS;
-use crate::desks::{desk_of, edits_of, made_of};
-use crate::works::Work;
+use crate::edits::desk_rows::NEARLY_ALL;
+use crate::edits::desk_times::ROUNDS;
+use crate::edits::desks::{desk_of, edits_of, made_of};
+use crate::edits::works::Work;
 use adr_desk::{Desk, NoGate};
 use adr_model::Tie;
 use adr_object::Edit;
+use adr_test_values::rows::{print_lines, print_row};
 use adr_test_values::telling::{taken, told};
 use std::alloc::Global;
 use std::io;
@@ -52,12 +53,10 @@ fn print_workers<R: AllocGlobal + Print + Clock + Threads + Sync>(
     desk: &mut Desk,
     count: usize,
 ) -> io::Result<()> {
-    print!(rt; "| {count} |")?;
-    for workers in [1, 2, 4] {
-        let least = least_by(rt, rt.alloc(), workers, desk, count)?;
-        print!(rt; " {} |", least / 1000)?;
-    }
-    println!(rt)
+    let one = least_by(rt, rt.alloc(), 1, desk, count)? / 1000;
+    let two = least_by(rt, rt.alloc(), 2, desk, count)? / 1000;
+    let four = least_by(rt, rt.alloc(), 4, desk, count)? / 1000;
+    print_row(rt, &[count as u128, one, two, four])
 }
 
 /// The row of a desk of so many resources.
@@ -73,11 +72,14 @@ fn print_workers_of<R: AllocGlobal + Print + Clock + Threads + Sync>(
 
 /// The table of workers.
 fn print_all_workers<R: AllocGlobal + Print + Clock + Threads + Sync>(rt: &R) -> io::Result<()> {
-    println!(rt; "| Resources | µs by 1 worker | by 2 | by 4 |\n|---|---|---|---|")?;
+    print_lines(
+        rt,
+        "| Resources | µs by 1 worker | by 2 | by 4 |\n|---|---|---|---|",
+    )?;
     for count in COUNTS {
         print_workers_of(rt, count)?;
     }
-    println!(rt)
+    print_lines(rt, "")
 }
 
 /// The nanoseconds in which a desk is loaded with the edits.
@@ -98,11 +100,11 @@ fn apply_taken<C: Clock>(clock: &C, alloc: Global, count: usize) -> io::Result<u
 
 /// The table of loads: the resources, and the milliseconds of the edits one by one and at once.
 fn print_loads<R: AllocGlobal + Print + Clock + Threads + Sync>(rt: &R) -> io::Result<()> {
-    println!(rt; "| Resources | ms one by one | at once |\n|---|---|---|")?;
+    print_lines(rt, "| Resources | ms one by one | at once |\n|---|---|---|")?;
     for count in COUNTS {
         let one_by_one = apply_taken(rt, rt.alloc(), count)? / 1_000_000;
         let at_once = load_taken(rt, rt.alloc(), count)? / 1_000_000;
-        println!(rt; "| {count} | {one_by_one} | {at_once} |")?;
+        print_row(rt, &[count as u128, one_by_one, at_once])?;
     }
     Ok(())
 }

@@ -1,5 +1,5 @@
 //! The desks of the tables.
-use crate::bodies::{MEMBERS, Shape, event, program, resource, ven};
+use crate::edits::bodies::{MEMBERS, Shape, event, program, resource, ven};
 use adr_desk::Desk;
 use adr_model::Tie;
 use adr_object::Edit;

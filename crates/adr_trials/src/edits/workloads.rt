@@ -1,11 +1,12 @@
 //! The kinds of work that servers do, on small desks: how many windows edits touch, how many ranks their repairs compare,
 //! and how long they take.
-use crate::bodies::{MEMBERS, Shape, event};
-use crate::desk_times::{Taken, take};
-use crate::desks::{PRIORITY, edits_of, edits_with, made_of};
+use crate::edits::bodies::{MEMBERS, Shape, event};
+use crate::edits::desk_times::{Taken, take};
+use crate::edits::desks::{PRIORITY, edits_of, edits_with, made_of};
 use adr_desk::Desk;
 use adr_object::Edit;
 use adr_refusal::Refusal;
+use adr_test_values::rows::{print_lines, print_named_row};
 use adr_test_values::telling::told;
 use std::alloc::Global;
 use std::io;
@@ -137,12 +138,11 @@ fn print_workload<R: AllocGlobal + Print + Clock>(
     is_timed: bool,
 ) -> io::Result<()> {
     let (windows, taken) = done(rt, workload)?;
-    let (name, compares) = (workload.name(), taken.compares);
-    print!(rt; "| {name} | {windows} | {compares} |")?;
+    let (name, windows, compares) = (workload.name(), windows as u128, taken.compares);
     if is_timed {
-        print!(rt; " {} |", taken.nanoseconds / 1000)?;
+        return print_named_row(rt, name, &[windows, compares, taken.nanoseconds / 1000]);
     }
-    println!(rt)
+    print_named_row(rt, name, &[windows, compares])
 }
 
 /// The table of the kinds of work.
@@ -150,13 +150,13 @@ pub(crate) fn print_workloads<R: AllocGlobal + Print + Clock>(
     rt: &R,
     is_timed: bool,
 ) -> io::Result<()> {
-    println!(rt;
-        "{}",
+    print_lines(
+        rt,
         if is_timed {
             "| Edits | Windows of the first | Comparisons of the others | their µs |\n|---|---|---|---|"
         } else {
             "| Edits | Windows of the first | Comparisons of the others |\n|---|---|---|"
-        }
+        },
     )?;
     for workload in Workload::ALL {
         print_workload(rt, workload, is_timed)?;
