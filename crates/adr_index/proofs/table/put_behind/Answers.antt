@@ -1,8 +1,8 @@
-use Rattle.std.proofs.Common.{rules, ◌≡◌, ◌<◌, List, length, take, get_or, arith, sym, ◌∙◌, refl, subst}
+use Rattle.std.proofs.Common.{rules, ◌≡◌, ◌<◌, List, length, take, get_or, arith, ap, sym, ◌∙◌, refl, subst}
 use Rattle.std.proofs.lemmas.List.{get_or_read}
 use Rattle.adr_model.specs.declared.entry.Entry.{Entry}
 use Rattle.adr_index.specs.declared.chunk.Chunk.{Chunk}
-use Rattle.adr_index.specs.Chunks.{all_listed, GoTogether}
+use Rattle.adr_index.specs.Chunks.{all_listed, listed, GoTogether}
 use Rattle.adr_index.proofs.Placed.{chunk_at, chunk_ordered}
 use Rattle.adr_index.proofs.Runs.{first_together, fresh_there, new_start, put_run, take_fewer}
 use Rattle.adr_index.proofs.table.put_behind.Goals as goal
@@ -35,3 +35,12 @@ returns-clause-entries c =
 
 pub returns-clause-changed : goal.returns-clause-changed
 returns-clause-changed c = record { inside = search rules; chunk = c.put_each.new.self; is = refl }
+
+pub put_each-requires-clause-room : goal.put_each-requires-clause-room
+put_each-requires-clause-room c =
+    let inside : c.home-place.result < length c.args.chunks.now.items = search rules in
+    let looked : c.index.result.now ≡ get_or c.args.chunks.now.items c.home-place.result c.index.result.now = search rules in
+    let read : c.index_mut.result.now ≡ get_or c.args.chunks.now.items c.home-place.result c.index_mut.result.now = search rules in
+    let one : c.index.result.now ≡ c.index_mut.result.now = get_or_read c.args.chunks.now.items c.home-place.result c.index.result.now inside looked c.index_mut.result.now ∙ sym read in
+    let same = ap (λ (d : Chunk). length (listed d)) one in
+    omega arith
