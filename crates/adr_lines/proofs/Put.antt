@@ -1,5 +1,5 @@
 -- The entries under each type, after an index is put in its place.
-use Rattle.std.proofs.Common.{◌≡◌, ℕ, ◌≤◌, ◌+◌, Bool, true, false, cond, if◌then◌else◌, List, [], Option, Some, None, refl, ap, sym, ◌∙◌, arith}
+use Rattle.std.proofs.Common.{◌≡◌, ℕ, ◌≤◌, ◌+◌, Bool, true, false, cond, if◌then◌else◌, List, [], Option, Some, None, refl, ap, subst, sym, ◌∙◌, arith}
 use Rattle.std.proofs.lemmas.Map.Text.{hash_map_updates_text}
 use Rattle.std.proofs.lemmas.Slice.Eq.{bytes_eq-Decides}
 use Rattle.std.specs.HashMap.{HashMap, UpdatesBy, get_by_text}
@@ -30,6 +30,12 @@ module _ {Y S : Type 0} (m n : HashMap (String Y) Indexed S) (key : List ℕ) (v
       by : (b : Bool) → option_map_or (λ i. i.spare) (cond b (Some v) (get_by_text m id)) 0 ≡ (if b then v.spare else spare_at m id)
       by true = refl
       by false = refl
+
+-- under the name itself there is the room of what was put there
+pub spare_first : {Y S : Type 0} (m n : HashMap (String Y) Indexed S) (key : List ℕ) (v : Indexed) → UpdatesBy string_eq (λ k. bytes_eq key (string_bytes k)) m n (Some v)
+    → (id : List ℕ) → key ≡ id → (more : ℕ) → more ≤ v.spare → more ≤ spare_at n id
+spare_first m n key v u id same more room =
+    subst (λ (spare : ℕ). more ≤ spare) (sym (spare_put m n key v u id ∙ ap (λ (b : Bool). if b then v.spare else spare_at m id) ((bytes_eq-Decides key id).1 same))) room
 
 module _ {Y S : Type 0} (m : HashMap (String Y) Indexed S) (key : List ℕ) (i : Indexed) (there : get_by_text m key ≡ Some i) where
   pub entries_there : entries_at m key ≡ i.entries

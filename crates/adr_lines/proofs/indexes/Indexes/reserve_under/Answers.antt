@@ -6,7 +6,7 @@ use Rattle.adr_model.specs.declared.entry.Entry.{Entry}
 use Rattle.adr_index.specs.Index.{AreDistinct}
 use Rattle.adr_lines.specs.Distinct.{AreAllDistinct}
 use Rattle.adr_lines.proofs.Distinct.{distinct_either, distinct_put, distinct_there}
-use Rattle.adr_lines.proofs.Put.{entries_same, spare_more, entries_new, spare_new}
+use Rattle.adr_lines.proofs.Put.{entries_same, spare_more, entries_new, spare_first, spare_new}
 use Rattle.std.specs.String.{string_bytes}
 use Rattle.adr_lines.proofs.indexes.Indexes.reserve_under.Goals as goal
 
@@ -33,6 +33,13 @@ returns-clause-entries c k =
     entries_new here c.insert.new.self (string_bytes c.in_ok-name.name) c.reserve-2.new.self c.in_ok-insert.ensures.updates
     (rw same none) (c.in_ok-reserve.ensures.entries ∙ c.new-index.ensures) (name_of k)
     ∙ rw same refl
+
+pub returns-clause-room : goal.returns-clause-room
+returns-clause-room c =
+    let here = c.get_mut.follows.lender-at-none in
+    let own = c.in_ok-name.ensures.ok ∙ c.name-2.ensures in
+    spare_first here c.insert.new.self (string_bytes c.in_ok-name.name) c.reserve-2.new.self c.in_ok-insert.ensures.updates
+    (name_of c.args.payload_type.now) own c.args.more c.in_ok-reserve.ensures.spare
 
 pub returns-clause-kept : goal.returns-clause-kept
 returns-clause-kept c k =
