@@ -21,3 +21,7 @@ returns-in-Remove-clause-places c =
     (subst (λ (e : Edit). AreOfVen book (id_of_edit e) (length book.resources) []) (sym c.in-Remove.is)
     (none_goes book c.in-Remove.field-0 c.in-Remove.field-1 (subst (λ (e : Edit). is_of_ven e ≡ true) c.in-Remove.is c.requires.ven)
     (subst (λ (e : Edit). IsOk (step book e)) c.in-Remove.is c.requires.accepted)))
+
+pub returns-in_ok-places-in-Change-clause-places : goal.returns-in_ok-places-in-Change-clause-places
+returns-in_ok-places-in-Change-clause-places c =
+    rw (c.in-Change.is) (rw (c.id.ensures) at c.in_ok-places-in-Change.ensures.places)

@@ -1,4 +1,4 @@
-use Rattle.std.proofs.Common.{◌≡◌, ◌+◌, ◌*◌, ◌<◌, ◌≤◌, ℕ, List, suc, true, length, sum_by, ap, ◌∙◌, arith, subst}
+use Rattle.std.proofs.Common.{◌≡◌, ◌+◌, ◌*◌, ◌<◌, ◌≤◌, ℕ, List, suc, true, length, sum_by, ap, ◌∙◌, arith, le_refl, subst}
 use Rattle.std.proofs.lemmas.List.Sums.{sum_by-cons}
 use Rattle.adr_schedule.specs.Moves.{is_among}
 use Rattle.adr_regroup.specs.Compared.{most_reseated_at}
@@ -11,6 +11,15 @@ left after meter n rest start all h e l = by most_reseated h (subst (λ k. meter
   where
     by : (m : ℕ) → after ≤ meter + m → meter + suc n * m ≤ start + all → after + n * m ≤ start + all
     by m h l = omega (arith, h, l)
+
+pub rest-init : goal.rest-init
+rest-init g c = record {
+  within = c.requires.places;
+  seated = c.requires.seated;
+  compared = le_refl _;
+  fewer = λ p. le_refl _;
+  least = le_refl _;
+}
 
 pub reseated-requires-clause-place : goal.reseated-requires-clause-place
 reseated-requires-clause-place g c =
