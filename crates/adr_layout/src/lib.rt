@@ -18,7 +18,6 @@ use std::alloc::Global;
 /// The earliest interval that has a fault decides the refusal: `NoStart` where the first has no start anywhere,
 /// `AfterEndless` where one without its own period follows an endless one, `TimeRange` where an end is out of
 /// range. `NoMemory` where there is no room for the list. One pass, with one growth.
-#[tactic(auto, unfolding(adr_model::specs::Layout::layout))]
 pub fn lay_out(alloc: Global, event: &Event) -> Result<Vec<Placed>, Refusal>
     ensures { Answers (result_map (λ placed. placed.items) result) (result_map (placed_from 0) (layout event.now)) }
 {
