@@ -2,8 +2,6 @@
 #![tactic(auto)]
 
 mod start;
-#[cfg(test)]
-mod tests;
 
 use start::start_program;
 use std::process::ExitCode;

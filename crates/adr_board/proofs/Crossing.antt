@@ -12,14 +12,14 @@ use Rattle.adr_book.proofs.Crossing.{book_send, book_sync}
 use Rattle.adr_group.proofs.Crossing.{group_send, group_sync}
 use Rattle.adr_seats.specs.contracts.seats.Seats as Seats
 use Rattle.adr_schedule.specs.contracts.schedule.Schedule as Schedule
-use Rattle.adr_resolution.specs.contracts.resolution.Resolution as Resolution
+use Rattle.adr_schedule.specs.contracts.resolution.Resolution as Resolution
 use Rattle.adr_snapshot.specs.contracts.snapshot.Snapshot as Snapshot
 use Rattle.logbook.proofs.tokens.Seen.TheSendSync as seen
 use Rattle.left_right.proofs.part.Part.TheSendSync as part
 use Rattle.atomic_table.proofs.shared.Seat.TheSendSync as seat
 use Rattle.atomic_table.proofs.send_lease.SendLease.TheSendSync as lease
 use Rattle.atomic_table.proofs.shared.Shared.TheSendSync as table
-use Rattle.adr_diary.specs.contracts.diary.Publication as Publication
+use Rattle.adr_board.specs.contracts.diary.Publication as Publication
 use Rattle.std.specs.contracts.alloc.Global as Global
 use Rattle.std.specs.contracts.collections.LinkedList as LinkedList
 use Rattle.std.specs.contracts.impls.GlobalAllocator.TheImpl.{ghosts}

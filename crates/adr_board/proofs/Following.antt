@@ -9,11 +9,11 @@ use Rattle.adr_model.specs.Edits.{after_from}
 use Rattle.adr_model.specs.Machine.{Publication, opening}
 use Rattle.adr_model.proofs.EditLemmas.{journals_go_on}
 use Rattle.adr_book.specs.Ledger.{Ledger, closed_edits, journal_of, sealed_of}
-use Rattle.adr_diary.specs.declared.diary.Entry.{Entry}
-use Rattle.adr_diary.specs.History.{begun, published_by, EndsInAttempt}
-use Rattle.adr_diary.specs.Publications.{publication_of}
-use Rattle.adr_diary.proofs.Histories.{first_attempt}
-use Rattle.adr_diary.proofs.Linked.{ends_opened}
+use Rattle.adr_board.specs.declared.diary.Entry.{Entry}
+use Rattle.adr_board.specs.History.{begun, published_by, EndsInAttempt}
+use Rattle.adr_board.specs.Publications.{publication_of}
+use Rattle.adr_board.proofs.Histories.{first_attempt}
+use Rattle.adr_board.proofs.Linked.{ends_opened}
 use Rattle.adr_board.specs.declared.shown.Showing.{Showing}
 use Rattle.adr_snapshot.specs.Published.{PublishedBook}
 use Rattle.adr_board.specs.Rules.{IsCarried, IsLast, MayFollow, publication_in}

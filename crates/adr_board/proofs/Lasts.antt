@@ -3,7 +3,7 @@ use Rattle.std.proofs.Common.{◌≡◌, ℕ, List, [], ◌∷◌, ◌++◌, tak
 use Rattle.adr_object.specs.declared.object.Edit.{Edit}
 use Rattle.adr_model.specs.Machine.{Publication}
 use Rattle.adr_book.specs.Ledger.{Ledger}
-use Rattle.adr_diary.specs.Publications.{EndsWith, publication_of}
+use Rattle.adr_board.specs.Publications.{EndsWith, publication_of}
 use Rattle.adr_board.specs.Boards.{last_of}
 use Rattle.adr_board.specs.Rules.{publication_in}
 use Rattle.adr_snapshot.specs.Published.{PublishedBook, last_batch}

@@ -9,3 +9,7 @@ pub mod Reached
 pub mod Runs
 pub mod Settled
 pub mod Taken
+pub mod Prefixes
+pub mod Linked
+pub mod Turns
+pub mod Histories

@@ -5,7 +5,7 @@ use Rattle.std.proofs.lemmas.List.{get_or_append_left}
 use mathlib.Core.List.{IsPrefix}
 use Rattle.adr_model.specs.declared.entry.Tie.{Tie}
 use Rattle.adr_model.specs.Machine.{Publication, opening}
-use Rattle.adr_diary.proofs.Prefixes.{prefix_length, prefix_trans, prefix_whole}
+use Rattle.adr_board.proofs.Prefixes.{prefix_length, prefix_trans, prefix_whole}
 use Rattle.adr_snapshot.specs.Published.{PublishedBook}
 use Rattle.adr_board.specs.Boards.{View, Grows}
 use Rattle.adr_board.specs.Rules.{IsLast, IsLastBy, publication_in}

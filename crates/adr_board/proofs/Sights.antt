@@ -10,10 +10,10 @@ use Rattle.adr_refusal.specs.declared.refusal.Refusal.TheVariants.{NoMemory, NoR
 use Rattle.adr_refusal.specs.Answer.{OnlyNoMemory}
 use Rattle.adr_model.specs.declared.entry.Tie.{Tie}
 use Rattle.adr_model.specs.Machine.{Publication}
-use Rattle.adr_diary.specs.declared.diary.Entry.{Entry}
-use Rattle.adr_diary.specs.History.{seen_by, EndsInAttempt}
-use Rattle.adr_diary.proofs.Prefixes.{prefix_trans, prefix_whole}
-use Rattle.adr_diary.proofs.Histories.{seen_at}
+use Rattle.adr_board.specs.declared.diary.Entry.{Entry}
+use Rattle.adr_board.specs.History.{seen_by, EndsInAttempt}
+use Rattle.adr_board.proofs.Prefixes.{prefix_trans, prefix_whole}
+use Rattle.adr_board.proofs.Histories.{seen_at}
 use Rattle.adr_board.specs.declared.shown.Showing.{Showing}
 use Rattle.adr_board.specs.Boards.{View, Grows}
 use Rattle.adr_snapshot.specs.Published.{PublishedBook}

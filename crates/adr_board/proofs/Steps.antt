@@ -8,9 +8,9 @@ use Rattle.atomic_table.proofs.Lists.{at_set, at_snoc}
 use Rattle.logbook.specs.Pages.{Book as History}
 use Rattle.adr_model.specs.declared.entry.Tie.{Tie}
 use Rattle.adr_model.specs.Machine.{Publication, opening}
-use Rattle.adr_diary.specs.Publications.{EndsWith}
-use Rattle.adr_diary.proofs.Prefixes.{prefix_self, prefix_trans, prefix_whole}
-use Rattle.adr_diary.proofs.Linked.{ends_snoc, ends_opened}
+use Rattle.adr_board.specs.Publications.{EndsWith}
+use Rattle.adr_board.proofs.Prefixes.{prefix_self, prefix_trans, prefix_whole}
+use Rattle.adr_board.proofs.Linked.{ends_snoc, ends_opened}
 use Rattle.adr_board.specs.declared.shown.Shown.{Shown}
 use Rattle.adr_board.specs.declared.shown.Showing.{Showing}
 use Rattle.adr_board.specs.Rules.{IsLast, IsLastBy, IsCarried, Keeps, Looks, Adds, MayFollow, publication_in, showing}

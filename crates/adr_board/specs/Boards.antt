@@ -4,7 +4,7 @@ use mathlib.Core.List.{IsPrefix}
 use Rattle.adr_model.specs.declared.entry.Tie.{Tie}
 use Rattle.adr_model.specs.Machine.{Publication, opening}
 use Rattle.adr_book.specs.Ledger.{Ledger}
-use Rattle.adr_diary.specs.Publications.{publication_of}
+use Rattle.adr_board.specs.Publications.{publication_of}
 
 -- the rule for ties, the book of the desk, and what was published so far
 pub record Board : Type 0 where

@@ -1,3 +1,5 @@
 pub mod Boards
 pub mod Rules
 pub mod Replay
+pub mod History
+pub mod Publications

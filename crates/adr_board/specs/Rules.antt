@@ -17,9 +17,9 @@ use Rattle.adr_refusal.specs.declared.refusal.Refusal.{Refusal}
 use Rattle.adr_model.specs.declared.entry.Tie.{Tie}
 use Rattle.adr_model.specs.Edits.{after_from}
 use Rattle.adr_model.specs.Machine.{Publication}
-use Rattle.adr_diary.specs.declared.diary.Entry.{Entry}
-use Rattle.adr_diary.specs.History.{EndsInAttempt}
-use Rattle.adr_diary.specs.Publications.{EndsWith}
+use Rattle.adr_board.specs.declared.diary.Entry.{Entry}
+use Rattle.adr_board.specs.History.{EndsInAttempt}
+use Rattle.adr_board.specs.Publications.{EndsWith}
 use Rattle.adr_snapshot.specs.Published.{PublishedBook, last_batch}
 use Rattle.adr_board.specs.declared.shown.Shown.{Shown}
 use Rattle.adr_board.specs.declared.shown.Showing.{Showing}

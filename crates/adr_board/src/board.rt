@@ -16,20 +16,19 @@ ghost use Rattle.adr_book.specs.Ledger.{sealed_of};
 ghost use Rattle.adr_regroup.specs.Compared.{most_compared_in};
 ghost use Rattle.adr_snapshot.specs.Published.{PublishedBook};
 ghost use Rattle.adr_snapshot.specs.Types.{ArePrivate, edit_names, HasPrivateNames};
-ghost use Rattle.adr_diary.specs.History.{HasLast, begun, published_by, seen_by};
-ghost use Rattle.adr_diary.specs.Publications.{publication_of};
+ghost use Rattle.adr_board.specs.History.{HasLast, begun, published_by, seen_by};
+ghost use Rattle.adr_board.specs.Publications.{publication_of};
 ghost use Rattle.adr_board.specs.Boards.{Grows, last_of, newcomer, with_published};
 ghost use Rattle.adr_board.specs.Rules.{IsCarried, IsLast, IsLastBy, IsSight, IsTaken, MayFollow, publication_in, showing};
 
 use crate::rule::{Add, Look, Naming, RuledReader, RuledWriter};
 use crate::shown::Shown;
+use crate::{Diary, Page};
 use adr_book::{Book, SharedList};
-use adr_desk::{Desk, Receipt};
-use adr_diary::{Diary, Page};
-use adr_gate::Gate;
+use adr_desk::{Desk, Gate, Receipt};
 use adr_model::Tie;
 use adr_object::Edit;
-use adr_resolution::Resolution;
+use adr_schedule::Resolution;
 use adr_snapshot::{Snapshot, has_private_names, names_stay_private};
 use adr_value::Refusal;
 use adr_value::limits::MOST_PUBLICATIONS;
@@ -58,7 +57,7 @@ pub struct Told<J: Naming> {
 impl<J: Naming> Model for Told<J> {
     ghost use Rattle.std.specs.Prelude.{◌≡◌, List};
     ghost use Rattle.adr_model.specs.Machine.{Publication};
-    ghost use Rattle.adr_diary.specs.History.{HasLast, published_by};
+    ghost use Rattle.adr_board.specs.History.{HasLast, published_by};
 
     ghost Value = { List Publication };
 
@@ -139,7 +138,7 @@ impl<J: Naming> Model for Reader<J> {
     ghost use Rattle.std.specs.Arc.{arc_value};
     ghost use mathlib.Core.List.{IsPrefix};
     ghost use Rattle.left_right.specs.Sides.{view as known};
-    ghost use Rattle.adr_diary.specs.History.{seen_by};
+    ghost use Rattle.adr_board.specs.History.{seen_by};
     ghost use Rattle.adr_board.specs.Rules.{IsLastBy};
 
     ghost view = { λ r. record { seen = seen_by r.page.log; learnt = r.told } };
@@ -373,7 +372,7 @@ impl<J: Naming> Model for Editor<J> {
     ghost use Rattle.std.specs.Arc.{arc_value};
     ghost use Rattle.left_right.specs.Sides.{view as known};
     ghost use Rattle.adr_book.specs.Ledger.{sealed_of};
-    ghost use Rattle.adr_diary.specs.History.{HasLast, published_by};
+    ghost use Rattle.adr_board.specs.History.{HasLast, published_by};
     ghost use Rattle.adr_snapshot.specs.Types.{HasPrivateNames};
     ghost use Rattle.adr_board.specs.Rules.{IsLast, showing};
 

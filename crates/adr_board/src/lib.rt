@@ -1,16 +1,21 @@
 #![tactic(auto)]
 //! A desk whose publications many threads read while one thread goes on editing.
+//!
+//! The history of its publications, attempts and successes, exists in proofs alone. Snapshots that go to readers and tokens
+//! that the editor tells carry it, each up to some attempt. As of two of them one begins the other, what a reader was told
+//! can be compared with what it sees.
 
 mod board;
+mod diary;
 mod rule;
 mod run;
 mod run_steps;
 mod shown;
 
-pub use adr_desk::{Desk, Receipt};
-pub use adr_gate::{Gate, NoGate};
+pub use adr_desk::{Desk, Gate, NoGate, Receipt};
 pub use adr_snapshot::Snapshot;
 pub use board::{Board, Editor, NewBoard, Published, Reader, Told};
+pub use diary::{Attempt, Diary, Entry, Law, Page, Publication};
 pub use rule::Naming;
 pub use run::replay;
 pub use run_steps::{Shown, Step};

@@ -1,6 +1,6 @@
 //! The rule under which readers and the editor share the last publication.
+use crate::Publication;
 use crate::shown::Shown;
-use adr_diary::Publication;
 use crossbeam_utils::rule::{Outcome, Protocol};
 use left_right::reader::Reader;
 use left_right::writer::Writer;

@@ -2,7 +2,7 @@
 ghost use Rattle.std.specs.Prelude.{◌≡◌};
 ghost use Rattle.adr_board.specs.Rules.{showing};
 
-use adr_diary::Page;
+use crate::Page;
 use adr_snapshot::Snapshot;
 use left_right::Absorb;
 use std::alloc::AllocError;

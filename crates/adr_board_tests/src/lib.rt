@@ -1,15 +1,7 @@
 #![tactic(auto)]
-//! Tests of a board: what runs of its steps show, what a reader keeps, and what many readers see beside its editor.
+//! Tests of a board: what readers see and keep; and that two workers of its desk run at once.
 
 #[cfg(test)]
-mod alone;
+mod readers;
 #[cfg(test)]
-mod beside;
-#[cfg(test)]
-mod filled;
-#[cfg(test)]
-mod loaded;
-#[cfg(test)]
-mod replayed;
-#[cfg(test)]
-mod steps;
+mod workers;

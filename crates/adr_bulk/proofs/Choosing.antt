@@ -8,8 +8,8 @@ use Rattle.adr_store.specs.Numbers.{by_number}
 use Rattle.adr_model.specs.declared.written.Written.{Written}
 use Rattle.adr_model.specs.Lists.{In}
 use Rattle.adr_model.proofs.Lists.{filter_all}
-use Rattle.adr_stretch.specs.Grouped.{written_event}
-use Rattle.adr_stretch.specs.Right.{has_number}
+use Rattle.adr_lines.specs.Grouped.{written_event}
+use Rattle.adr_lines.specs.Right.{has_number}
 use Rattle.adr_regroup.proofs.PartyWindows.{found_event, found_number}
 use Rattle.adr_bulk.specs.Bulk.{chosen}
 

@@ -10,11 +10,11 @@ use Rattle.adr_value.specs.declared.payload.PayloadType.{PayloadType}
 use Rattle.adr_time.specs.Spans.{covers, is_before}
 use Rattle.adr_model.specs.declared.entry.Entry.{Entry}
 use Rattle.adr_model.proofs.Lists.{bytes_eq_self}
-use Rattle.adr_stretch.specs.declared.grouped.TypeEntries.{TypeEntries}
-use Rattle.adr_stretch.specs.Counted.{entries_in_groups}
-use Rattle.adr_stretch.specs.Grouped.{any_covers_at, entries_under}
-use Rattle.adr_stretch.proofs.Covered.{any_left, any_right}
-use Rattle.adr_stretch.proofs.Groups.{same_as_each}
+use Rattle.adr_lines.specs.declared.grouped.TypeEntries.{TypeEntries}
+use Rattle.adr_lines.specs.Counted.{entries_in_groups}
+use Rattle.adr_lines.specs.Grouped.{any_covers_at, entries_under}
+use Rattle.adr_lines.proofs.Covered.{any_left, any_right}
+use Rattle.adr_lines.proofs.Groups.{same_as_each}
 use Rattle.adr_lines.specs.Indexes.{has_type, own_entries}
 use Rattle.adr_bulk.specs.Bulk.{AreFrom, IsFrom}
 

@@ -18,11 +18,11 @@ use Rattle.adr_model.specs.Governor.{entries_of}
 use Rattle.adr_model.specs.Lists.{In}
 use Rattle.adr_model.specs.Rank.{ranked}
 use Rattle.adr_model.proofs.Lists.{each_from_In, none_in_part, passing_in, In-filter, In-flat_map, In-from_filter, In-from_flat_map, In-from_map}
-use Rattle.adr_stretch.specs.declared.grouped.TypeEntries.{TypeEntries}
-use Rattle.adr_stretch.specs.Grouped.{any_covers_at, entries_under, HaveOwnTypes}
-use Rattle.adr_stretch.specs.Right.{all_of, has_number}
-use Rattle.adr_stretch.proofs.Covered.{any_ranked}
-use Rattle.adr_stretch.proofs.Groups.{none_under, same_as_each}
+use Rattle.adr_lines.specs.declared.grouped.TypeEntries.{TypeEntries}
+use Rattle.adr_lines.specs.Grouped.{any_covers_at, entries_under, HaveOwnTypes}
+use Rattle.adr_lines.specs.Right.{all_of, has_number}
+use Rattle.adr_lines.proofs.Covered.{any_ranked}
+use Rattle.adr_lines.proofs.Groups.{none_under, same_as_each}
 use Rattle.adr_lines.specs.Exchange.{AreEntriesOf, HaveOwnNumbers}
 use Rattle.adr_lines.specs.Indexes.{own_entries}
 use Rattle.adr_group.specs.Group.{AreWindowsOf}

@@ -10,10 +10,10 @@ use Rattle.adr_model.specs.Edits.{entry_count}
 use Rattle.adr_model.specs.Governor.{entries_of}
 use Rattle.adr_model.specs.Within.{EntriesAreCounted}
 use Rattle.adr_model.proofs.Lists.{In-filter, In-from_filter}
-use Rattle.adr_stretch.specs.declared.grouped.TypeEntries.{TypeEntries}
-use Rattle.adr_stretch.specs.Counted.{entries_in_groups}
-use Rattle.adr_stretch.specs.Grouped.{any_covers_at, entries_under}
-use Rattle.adr_stretch.specs.Right.{has_number}
+use Rattle.adr_lines.specs.declared.grouped.TypeEntries.{TypeEntries}
+use Rattle.adr_lines.specs.Counted.{entries_in_groups}
+use Rattle.adr_lines.specs.Grouped.{any_covers_at, entries_under}
+use Rattle.adr_lines.specs.Right.{has_number}
 use Rattle.adr_lines.specs.declared.indexes.Indexes.{Indexes}
 use Rattle.adr_lines.specs.Exchange.{HoldsNoMore, IsIndexOf}
 use Rattle.adr_lines.specs.Indexes.{under}

@@ -18,7 +18,7 @@ use Rattle.adr_model.specs.Book.{Book}
 use Rattle.adr_model.specs.Governor.{applies_to}
 use Rattle.adr_model.specs.Lists.{In}
 use Rattle.adr_audience.specs.Keys.{AreKeysOf, Keys}
-use Rattle.adr_stretch.specs.Right.{has_number}
+use Rattle.adr_lines.specs.Right.{has_number}
 use Rattle.adr_group.specs.Group.{IsRightOf, Lines}
 use Rattle.adr_schedule.specs.Seating.{group_at, has_at, AreSeatedFor, Seating}
 use Rattle.adr_schedule.proofs.Shifts.{place_inside, place_there}

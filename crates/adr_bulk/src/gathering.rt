@@ -6,8 +6,8 @@ ghost use Rattle.adr_value.specs.Same.{same_type};
 ghost use Rattle.adr_value.specs.declared.payload.PayloadType.{PayloadType as AnyType};
 ghost use Rattle.adr_model.specs.Rank.{ranked};
 ghost use Rattle.adr_index.specs.Index.{AreNew};
-ghost use Rattle.adr_stretch.specs.Grouped.{entries_under, HaveOwnTypes};
-ghost use Rattle.adr_stretch.specs.Right.{all_of, HaveSame};
+ghost use Rattle.adr_lines.specs.Grouped.{entries_under, HaveOwnTypes};
+ghost use Rattle.adr_lines.specs.Right.{all_of, HaveSame};
 ghost use Rattle.adr_lines.specs.declared.indexes.Indexes.{Indexes as AnyIndexes};
 ghost use Rattle.adr_lines.specs.Exchange.{IsIndexOf};
 ghost use Rattle.adr_lines.specs.Indexes.{own_entries, under};
@@ -16,10 +16,9 @@ ghost use Rattle.adr_bulk.specs.Bulk.{chosen, numbered};
 
 use adr_book::Book;
 use adr_group::Writes;
-use adr_lines::{Indexes, filling_laws};
+use adr_lines::{Indexes, TypeEntries, event_entries, filling_laws};
 use adr_model::Tie;
 use adr_object::Kind;
-use adr_stretch::{TypeEntries, event_entries};
 use adr_value::{PayloadType, Refusal};
 use std::alloc::Global;
 

@@ -3,13 +3,13 @@ ghost use Rattle.std.specs.Prelude.{◌≡◌, ◌≤ℤ◌, ◌<◌, ◌^◌, �
 ghost use Rattle.jiff.specs.Words.{IsTimestampNanos};
 ghost use Rattle.adr_refusal.specs.Answer.{OnlyNoMemory};
 ghost use Rattle.adr_value.specs.declared.payload.PayloadType.{PayloadType as AnyType};
-ghost use Rattle.adr_stretch.specs.Counted.{entries_in_groups};
-ghost use Rattle.adr_stretch.specs.Grouped.{any_covers_at, entries_under};
+ghost use Rattle.adr_lines.specs.Counted.{entries_in_groups};
+ghost use Rattle.adr_lines.specs.Grouped.{any_covers_at, entries_under};
 ghost use Rattle.adr_lines.specs.Indexes.{has_type as the_has_type, own_entries};
 ghost use Rattle.adr_bulk.specs.Bulk.{AreFrom, IsFrom};
 
+use adr_lines::TypeEntries;
 use adr_model::{Entry, Rank};
-use adr_stretch::TypeEntries;
 use adr_time::{End, Moment, Span};
 use adr_value::{PayloadType, Refusal};
 use std::alloc::Global;

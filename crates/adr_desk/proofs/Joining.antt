@@ -12,7 +12,7 @@ use Rattle.adr_model.specs.Book.{Book, program_by, ven_by}
 use Rattle.adr_model.specs.Governor.{applies_to}
 use Rattle.adr_model.specs.Matching.{applies}
 use Rattle.adr_audience.specs.Laws.{applies_in, applying_places}
-use Rattle.adr_stretch.specs.Grouped.{written_event}
+use Rattle.adr_lines.specs.Grouped.{written_event}
 use Rattle.adr_schedule.specs.Moves.{is_among}
 use Rattle.adr_desk.specs.Edited.{made_of}
 use Rattle.adr_regroup.proofs.Applying.{among_applying}

@@ -26,8 +26,8 @@ use Rattle.adr_model.proofs.Events.{numbers, one_write}
 use Rattle.adr_model.proofs.Lists.{In-append_right, In-append_cases, In-flat_map, In-from_flat_map, In-from_map, In-map}
 use Rattle.adr_repair.proofs.Inside.{number_of_entry}
 use Rattle.adr_store.specs.Numbers.{by_number}
-use Rattle.adr_stretch.specs.Grouped.{entries_under}
-use Rattle.adr_stretch.specs.Right.{all_of}
+use Rattle.adr_lines.specs.Grouped.{entries_under}
+use Rattle.adr_lines.specs.Right.{all_of}
 use Rattle.adr_lines.specs.declared.indexes.Indexes.{Indexes}
 use Rattle.adr_lines.specs.Exchange.{IsIndexOf}
 use Rattle.adr_lines.specs.Indexes.{under}

@@ -8,8 +8,8 @@ use Rattle.adr_model.specs.declared.written.Written.{Written}
 use Rattle.adr_model.specs.Book.{Book}
 use Rattle.adr_model.specs.Governor.{applies_to}
 use Rattle.adr_index.specs.Index.{inserted_all, others_all, AreNew}
-use Rattle.adr_stretch.specs.declared.grouped.TypeEntries.{TypeEntries}
-use Rattle.adr_stretch.specs.Grouped.{entries_under}
+use Rattle.adr_lines.specs.declared.grouped.TypeEntries.{TypeEntries}
+use Rattle.adr_lines.specs.Grouped.{entries_under}
 use Rattle.adr_lines.specs.declared.indexes.Indexes.{Indexes}
 use Rattle.adr_lines.specs.Exchange.{AreEntriesOf, FitsTheIndex, IsIndexOf, IsUndone, MakesTheIndex}
 use Rattle.adr_lines.specs.Indexes.{under}

@@ -9,9 +9,9 @@ use Rattle.adr_model.specs.declared.written.Written.{Written}
 use Rattle.adr_model.specs.Book.{Book}
 use Rattle.adr_model.specs.Edits.{entry_count}
 use Rattle.adr_model.specs.Within.{IsWithin}
-use Rattle.adr_stretch.specs.declared.grouped.TypeEntries.{TypeEntries}
-use Rattle.adr_stretch.specs.Counted.{entries_in_groups}
-use Rattle.adr_stretch.proofs.Counted.{groups_are_counted}
+use Rattle.adr_lines.specs.declared.grouped.TypeEntries.{TypeEntries}
+use Rattle.adr_lines.specs.Counted.{entries_in_groups}
+use Rattle.adr_lines.proofs.Counted.{groups_are_counted}
 use Rattle.adr_group.proofs.Room.{repairs_have_room}
 use Rattle.adr_regroup.proofs.EventCosts.{event_fits}
 use Rattle.adr_desk.specs.Edited.{with_come}

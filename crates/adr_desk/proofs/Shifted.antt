@@ -10,7 +10,7 @@ use Rattle.adr_model.specs.Book.{Book}
 use Rattle.adr_model.specs.Governor.{applies_to}
 use Rattle.adr_model.specs.Lists.{In}
 use Rattle.adr_model.proofs.Lists.{In-append_left, In-append_right, In-append_cases}
-use Rattle.adr_stretch.specs.Right.{has_number}
+use Rattle.adr_lines.specs.Right.{has_number}
 use Rattle.adr_group.specs.Group.{RightMoves}
 use Rattle.adr_group.specs.Writes.{is_number}
 use Rattle.adr_schedule.specs.Moves.{is_among}

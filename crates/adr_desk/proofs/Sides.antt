@@ -11,7 +11,7 @@ use Rattle.adr_model.specs.Governor.{entries_of}
 use Rattle.adr_model.specs.Lists.{In}
 use Rattle.adr_model.specs.Rank.{ranked}
 use Rattle.adr_model.proofs.Lists.{In-append_left, In-append_right, In-append_cases}
-use Rattle.adr_stretch.specs.Grouped.{entries_under}
+use Rattle.adr_lines.specs.Grouped.{entries_under}
 use Rattle.adr_lines.specs.Exchange.{AreEntriesOf, HaveOwnNumbers, IsExchange}
 use Rattle.adr_group.specs.Writes.{is_number}
 use Rattle.adr_schedule.specs.declared.change.Change.{Change}

@@ -20,13 +20,11 @@ use crate::receipt::Receipt;
 use adr_audience::Audiences;
 use adr_book::{Book, Judged, judged};
 use adr_bulk::{commit_all, index_all, seat_all};
-use adr_gate::{Gate, NoGate};
-use adr_group::{Done, Job, do_all, do_jobs};
+use adr_group::{Done, Gate, Job, NoGate, do_all, do_jobs};
 use adr_lines::{Indexes, exchange_laws};
 use adr_model::Tie;
 use adr_object::{Edit, Id};
-use adr_resolution::Resolution;
-use adr_schedule::Schedule;
+use adr_schedule::{Resolution, Schedule};
 use adr_shared::Shared;
 use adr_timeline::Timeline;
 use adr_value::{PayloadType, Refusal};
@@ -62,7 +60,7 @@ impl Drop for Desk {
 }
 
 impl Model for Desk {
-    ghost use Rattle.adr_resolution.specs.Resolved.{Resolved};
+    ghost use Rattle.adr_schedule.specs.Resolved.{Resolved};
     ghost use Rattle.adr_desk.specs.Desk.{AreOf};
 
     ghost Value = { Resolved };

@@ -10,7 +10,7 @@ ghost use Rattle.adr_model.specs.Governor.{applies_to};
 ghost use Rattle.adr_model.specs.Whole.{IsWhole};
 ghost use Rattle.adr_audience.specs.Keys.{AreKeysOf};
 ghost use Rattle.adr_index.specs.Index.{inserted_all, others_all, AreNew};
-ghost use Rattle.adr_stretch.specs.Grouped.{entries_under, written_event};
+ghost use Rattle.adr_lines.specs.Grouped.{entries_under, written_event};
 ghost use Rattle.adr_lines.specs.Exchange.{IsIndexOf};
 ghost use Rattle.adr_lines.specs.Indexes.{under};
 ghost use Rattle.adr_schedule.specs.Moves.{is_among};
@@ -23,12 +23,11 @@ ghost use Rattle.adr_desk.specs.Edited.{come_of, gone_for, gone_of, is_of_event,
 use crate::side::{come_side, gone_side};
 use adr_audience::Audiences;
 use adr_book::Book;
-use adr_lines::{Indexes, exchange_laws};
+use adr_lines::{Indexes, TypeEntries, exchange_laws};
 use adr_model::Tie;
 use adr_object::{Edit, Event, Id, Kind, Object};
 use adr_rule::Meter;
 use adr_schedule::{Change, Schedule, Side};
-use adr_stretch::TypeEntries;
 use adr_value::Refusal;
 use std::alloc::Global;
 

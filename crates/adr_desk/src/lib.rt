@@ -14,7 +14,7 @@ mod ranks;
 mod receipt;
 mod side;
 
-pub use adr_gate::{Gate, NoGate};
+pub use adr_group::{Gate, NoGate};
 pub use adr_model::Touch;
 pub use adr_touches::EditTouches;
 pub use desk::Desk;

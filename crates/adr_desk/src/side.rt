@@ -2,16 +2,16 @@
 ghost use Rattle.std.specs.Prelude.{◌≡◌, ◌+◌, Some, IfOk};
 ghost use Rattle.adr_refusal.specs.Answer.{OnlyNoMemory};
 ghost use Rattle.adr_model.specs.Book.{event_by};
-ghost use Rattle.adr_stretch.specs.Grouped.{written_event};
+ghost use Rattle.adr_lines.specs.Grouped.{written_event};
 ghost use Rattle.adr_book.specs.Judged.{placed_by, placed_of};
 ghost use Rattle.adr_desk.specs.Desk.{IsSideOf};
 ghost use Rattle.adr_desk.specs.Edited.{come_of, gone_for, gone_of, made_of};
 
 use adr_book::Book;
+use adr_lines::{event_entries, placed_entries};
 use adr_model::{Placed, Tie};
 use adr_object::{Edit, Event, Id, Kind, Object};
 use adr_schedule::Side;
-use adr_stretch::{event_entries, placed_entries};
 use adr_value::Refusal;
 use std::alloc::Global;
 

@@ -2,7 +2,7 @@
 use Rattle.std.proofs.Common.{◌≡◌, ℕ, ◌+◌, ◌-◌, List, [], ◌∷◌, length, take, get_or, refl, sym, ap, ◌∙◌, arith}
 use Rattle.std.proofs.lemmas.List.{length_push, get_or_push}
 use Rattle.adr_model.specs.Machine.{Publication, opening}
-use Rattle.adr_diary.specs.Publications.{EndsWith}
+use Rattle.adr_board.specs.Publications.{EndsWith}
 use Rattle.adr_board.specs.Boards.{last_of}
 
 last_from : (p : Publication) (ps : List Publication) → last_of (p ∷ ps) ≡ get_or (p ∷ ps) (length ps) opening

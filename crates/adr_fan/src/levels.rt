@@ -7,8 +7,7 @@ ghost use Rattle.adr_fan.specs.Parts.{AreParts, AreTrue};
 
 use crate::reading::{Answers, Part, Reply, start};
 use crate::script::FanDesk;
-use adr_board::{Naming, Reader};
-use adr_gate::Gate;
+use adr_board::{Gate, Naming, Reader};
 use adr_script::{Fault, Logs, serve};
 use std::io::{Read, Write};
 use std::sync::{Arc, Wait};

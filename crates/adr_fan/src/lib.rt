@@ -12,6 +12,6 @@ mod reading;
 mod script;
 mod writing;
 
-pub use adr_gate::{Gate, NoGate};
+pub use adr_board::{Gate, NoGate};
 pub use fanning::{fan, fan_logged};
 pub use laws::reader_laws;

@@ -19,12 +19,12 @@ use Rattle.adr_model.specs.Rank.{goes_before}
 use Rattle.adr_model.proofs.Lists.{In-append_cases, In-append_left, In-append_right, In-filter, In-from_filter}
 use Rattle.adr_timeline.specs.Steps.{lesser, rank_at, winner_of_rank}
 use Rattle.adr_timeline.proofs.Least.{lesser_none, rank_append, winner_rank}
-use Rattle.adr_stretch.specs.declared.grouped.TypeEntries.{TypeEntries}
-use Rattle.adr_stretch.specs.Grouped.{entries_under, HaveOwnTypes}
-use Rattle.adr_stretch.specs.Right.{has_number, written_in}
-use Rattle.adr_stretch.proofs.Groups.{own_same}
-use Rattle.adr_stretch.proofs.Right.{held_wins}
-use Rattle.adr_stretch.proofs.Winners.{AreAt, winner_same}
+use Rattle.adr_lines.specs.declared.grouped.TypeEntries.{TypeEntries}
+use Rattle.adr_lines.specs.Grouped.{entries_under, HaveOwnTypes}
+use Rattle.adr_lines.specs.Right.{has_number, written_in}
+use Rattle.adr_lines.proofs.Groups.{own_same}
+use Rattle.adr_lines.proofs.Right.{held_wins}
+use Rattle.adr_lines.proofs.Winners.{AreAt, winner_same}
 use Rattle.adr_lines.specs.declared.indexes.Indexes.{Indexes}
 use Rattle.adr_lines.specs.Exchange.{IsIndexOf}
 use Rattle.adr_lines.specs.Indexes.{has_type, own_entries, under}

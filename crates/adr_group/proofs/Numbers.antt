@@ -11,7 +11,7 @@ use Rattle.std.proofs.lemmas.List.Sorted.{searched, list_any-IsPermutation}
 use Rattle.std.proofs.lemmas.Map.Keys.{sorted_from_strictly_increasing, non_decreasing_from_sorted}
 use Rattle.std.proofs.lemmas.Map.Views.{any-filter_same}
 use Rattle.std.proofs.lemmas.Bool.{cases_lt}
-use Rattle.adr_stretch.specs.Right.{has_number}
+use Rattle.adr_lines.specs.Right.{has_number}
 use Rattle.adr_group.specs.Writes.{is_number, stays, changed_number}
 
 -- ---- what a search finds

@@ -7,9 +7,9 @@ use Rattle.adr_model.specs.declared.entry.Tie.{Tie}
 use Rattle.adr_model.specs.declared.timeline.Segment.{Segment}
 use Rattle.adr_model.specs.declared.written.Written.{Written}
 use Rattle.adr_model.specs.Governor.{entries_of}
-use Rattle.adr_stretch.specs.Grouped.{any_covers_at}
-use Rattle.adr_stretch.specs.Right.{among, has_number, winner_under}
-use Rattle.adr_stretch.proofs.Right.{held_wins, same_wins}
+use Rattle.adr_lines.specs.Grouped.{any_covers_at}
+use Rattle.adr_lines.specs.Right.{among, has_number, winner_under}
+use Rattle.adr_lines.proofs.Right.{held_wins, same_wins}
 use Rattle.adr_lines.specs.declared.indexes.Indexes.{Indexes}
 use Rattle.adr_lines.specs.Exchange.{IsIndexOf}
 use Rattle.adr_lines.specs.Indexes.{under}

@@ -9,8 +9,8 @@ use Rattle.adr_model.specs.declared.timeline.Winner.{Winner}
 use Rattle.adr_model.specs.Entries.{meeting}
 use Rattle.adr_timeline.specs.Build.{most_compared, most_compared_all}
 use Rattle.adr_timeline.specs.Windows.{all_last, any_covers, are_apart, is_followed_by}
-use Rattle.adr_stretch.specs.Grouped.{any_covers_at}
-use Rattle.adr_stretch.specs.Right.{has_number, written_in}
+use Rattle.adr_lines.specs.Grouped.{any_covers_at}
+use Rattle.adr_lines.specs.Right.{has_number, written_in}
 use Rattle.adr_group.specs.Repair.{most_inside}
 
 -- ---- the entries that meet a window

@@ -13,9 +13,9 @@ use Rattle.adr_model.specs.declared.written.Written.{Written}
 use Rattle.adr_model.specs.Governor.{entries_of}
 use Rattle.adr_model.specs.Lists.{In}
 use Rattle.adr_model.specs.Timeline.{shows}
-use Rattle.adr_stretch.specs.Grouped.{any_covers_at}
-use Rattle.adr_stretch.specs.Laws.{AgreeAt}
-use Rattle.adr_stretch.specs.Right.{among, has_number, winner_under}
+use Rattle.adr_lines.specs.Grouped.{any_covers_at}
+use Rattle.adr_lines.specs.Laws.{AgreeAt}
+use Rattle.adr_lines.specs.Right.{among, has_number, winner_under}
 
 -- the numbers of the writes that apply, and the timelines by the names of their types
 pub record Lines : Type 0 where

@@ -10,9 +10,9 @@ use Rattle.adr_model.specs.declared.timeline.Segment.{Segment}
 use Rattle.adr_model.specs.declared.timeline.Winner.{Winner}
 use Rattle.adr_model.specs.Governor.{winner_at}
 use Rattle.adr_model.specs.Timeline.{shows}
-use Rattle.adr_stretch.specs.declared.grouped.TypeEntries.{TypeEntries}
-use Rattle.adr_stretch.specs.Grouped.{any_covers_at, entries_under}
-use Rattle.adr_stretch.specs.Right.{written_in}
+use Rattle.adr_lines.specs.declared.grouped.TypeEntries.{TypeEntries}
+use Rattle.adr_lines.specs.Grouped.{any_covers_at, entries_under}
+use Rattle.adr_lines.specs.Right.{written_in}
 use Rattle.adr_lines.specs.declared.indexes.Indexes.{Indexes}
 use Rattle.adr_lines.specs.Indexes.{under}
 use Rattle.adr_group.specs.declared.job.Done.{Done}

@@ -13,8 +13,8 @@ use Rattle.adr_model.specs.Timeline.{shows}
 use Rattle.adr_timeline.specs.Overlay.{spans_of}
 use Rattle.adr_timeline.specs.Steps.{is_run, lesser, rank_at, winner_of_rank}
 use Rattle.adr_timeline.specs.Windows.{any_covers}
-use Rattle.adr_stretch.specs.declared.grouped.TypeEntries.{TypeEntries}
-use Rattle.adr_stretch.specs.Grouped.{entries_under, HaveOwnTypes}
+use Rattle.adr_lines.specs.declared.grouped.TypeEntries.{TypeEntries}
+use Rattle.adr_lines.specs.Grouped.{entries_under, HaveOwnTypes}
 use Rattle.adr_lines.specs.declared.indexes.Indexes.{Indexes}
 use Rattle.adr_lines.specs.Indexes.{under}
 use Rattle.adr_group.specs.Group.{shown_in}

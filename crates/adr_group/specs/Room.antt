@@ -5,8 +5,8 @@ use Rattle.adr_value.specs.declared.payload.PayloadType.{PayloadType}
 use Rattle.adr_model.specs.declared.entry.Tie.{Tie}
 use Rattle.adr_model.specs.declared.written.Written.{Written}
 use Rattle.adr_model.specs.Edits.{entry_count}
-use Rattle.adr_stretch.specs.declared.grouped.TypeEntries.{TypeEntries}
-use Rattle.adr_stretch.specs.Counted.{entries_in_groups}
+use Rattle.adr_lines.specs.declared.grouped.TypeEntries.{TypeEntries}
+use Rattle.adr_lines.specs.Counted.{entries_in_groups}
 use Rattle.adr_lines.specs.declared.indexes.Indexes.{Indexes}
 use Rattle.adr_lines.specs.Exchange.{IsIndexOf}
 use Rattle.adr_lines.specs.Indexes.{under}

@@ -1,7 +1,7 @@
 -- The numbers of writes, after an event has come or gone.
 use Rattle.std.specs.Prelude.{◌==◌, not, ℕ, Bool, true, false, List, Option, if◌then◌else◌}
 use Rattle.std.specs.Option.{option_map_or}
-use Rattle.adr_stretch.specs.Right.{has_number}
+use Rattle.adr_lines.specs.Right.{has_number}
 
 -- the number is there, and is this one
 abbrev pub is_number : Option ℕ → ℕ → Bool

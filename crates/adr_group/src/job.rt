@@ -5,13 +5,12 @@ ghost use Rattle.adr_refusal.specs.Copy.{IsCopyOf};
 ghost use Rattle.adr_value.specs.Same.{same_type};
 ghost use Rattle.adr_group.specs.Jobs.{most_done, AreAlike, AreDone, IsDone};
 
+use crate::gate::Gate;
 use crate::line::built;
 use crate::writes::Writes;
-use adr_gate::Gate;
-use adr_lines::Indexes;
+use adr_lines::{Indexes, TypeEntries};
 use adr_rule::Meter;
 use adr_shared::Shared;
-use adr_stretch::TypeEntries;
 use adr_timeline::Timeline;
 use adr_value::{PayloadType, Refusal};
 use std::alloc::Global;

@@ -5,14 +5,14 @@ ghost use Rattle.adr_refusal.specs.Answer.{OnlyNoMemory};
 ghost use Rattle.adr_value.specs.Same.{same_type};
 ghost use Rattle.adr_value.specs.declared.payload.PayloadType.{PayloadType as AnyType};
 ghost use Rattle.adr_model.specs.Timeline.{shows};
-ghost use Rattle.adr_stretch.specs.Counted.{entries_in_groups};
-ghost use Rattle.adr_stretch.specs.Grouped.{entries_under, HaveOwnTypes};
+ghost use Rattle.adr_lines.specs.Counted.{entries_in_groups};
+ghost use Rattle.adr_lines.specs.Grouped.{entries_under, HaveOwnTypes};
 ghost use Rattle.adr_group.specs.Group.{shown_in};
 ghost use Rattle.adr_group.specs.Laid.{least_shown, IsMet};
 
 use crate::timelines::Timelines;
+use adr_lines::TypeEntries;
 use adr_rule::Meter;
-use adr_stretch::TypeEntries;
 use adr_timeline::{Ranks, Timeline, is_run};
 use adr_value::Refusal;
 use std::alloc::Global;

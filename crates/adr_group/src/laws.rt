@@ -2,7 +2,7 @@
 //! nothing.
 ghost use Rattle.std.specs.Prelude.{◌≡◌, ℕ, ◌+◌, ◌≤◌, List, ◌++◌};
 ghost use Rattle.adr_model.specs.declared.entry.Tie.{Tie};
-ghost use Rattle.adr_stretch.specs.declared.grouped.TypeEntries.{TypeEntries};
+ghost use Rattle.adr_lines.specs.declared.grouped.TypeEntries.{TypeEntries};
 ghost use Rattle.adr_lines.specs.declared.indexes.Indexes.{Indexes};
 ghost use Rattle.adr_group.specs.Group.{RightMoves};
 ghost use Rattle.adr_group.specs.Repair.{most_possible, most_repaired};

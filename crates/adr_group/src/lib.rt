@@ -1,7 +1,8 @@
 #![tactic(auto)]
 //! The timelines of resources to which the same events apply, their repair where events differ, and workers that do the jobs
-//! of a repair at once.
+//! of a repair at once, and the gates that they pass.
 
+mod gate;
 mod group;
 mod job;
 mod laid;
@@ -14,6 +15,7 @@ mod type_name;
 mod windows;
 mod writes;
 
+pub use gate::{Gate, NoGate};
 pub use group::Group;
 pub use job::{Done, Job, do_jobs, shared_windows};
 pub use laws::{repairs_compare_little, repairs_have_room, right_moves};

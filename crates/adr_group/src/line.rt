@@ -7,8 +7,8 @@ ghost use Rattle.adr_model.specs.Governor.{winner_at};
 ghost use Rattle.adr_model.specs.Timeline.{shows};
 ghost use Rattle.adr_timeline.specs.Build.{most_compared_all};
 ghost use Rattle.adr_timeline.specs.Windows.{all_last, any_covers, are_apart};
-ghost use Rattle.adr_stretch.specs.Grouped.{any_covers_at};
-ghost use Rattle.adr_stretch.specs.Right.{written_in};
+ghost use Rattle.adr_lines.specs.Grouped.{any_covers_at};
+ghost use Rattle.adr_lines.specs.Right.{written_in};
 ghost use Rattle.adr_lines.specs.Indexes.{under};
 ghost use Rattle.adr_group.specs.Repair.{given_entries, indexed, most_inside};
 

@@ -5,8 +5,8 @@ ghost use Rattle.adr_refusal.specs.Answer.{OnlyNoMemory};
 ghost use Rattle.adr_lines.specs.declared.indexes.Indexes.{Indexes as AllIndexes};
 ghost use Rattle.adr_group.specs.Jobs.{most_done, AreDone};
 
+use crate::gate::Gate;
 use crate::job::{Done, Job, do_jobs};
-use adr_gate::Gate;
 use adr_lines::Indexes;
 use adr_refusal::Refusal;
 use std::alloc::Global;

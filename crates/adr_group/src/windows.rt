@@ -4,8 +4,8 @@ ghost use Rattle.adr_refusal.specs.Answer.{OnlyNoMemory};
 ghost use Rattle.adr_model.specs.declared.entry.Entry.{Entry as AnyEntry};
 ghost use Rattle.adr_timeline.specs.Build.{most_compared_all};
 ghost use Rattle.adr_timeline.specs.Windows.{all_last, any_covers};
-ghost use Rattle.adr_stretch.specs.Grouped.{any_covers_at};
-ghost use Rattle.adr_stretch.specs.Right.{written_in};
+ghost use Rattle.adr_lines.specs.Grouped.{any_covers_at};
+ghost use Rattle.adr_lines.specs.Right.{written_in};
 ghost use Rattle.adr_group.specs.Repair.{most_inside};
 
 use adr_model::Entry;

@@ -3,7 +3,7 @@ ghost use Rattle.std.specs.Prelude.{◌≡◌, ◌==◌, ◌||◌, ◌↔◌, �
 ghost use Rattle.std.specs.List.Sorted.{IsStrictlyIncreasing};
 ghost use Rattle.adr_refusal.specs.Answer.{OnlyNoMemory};
 ghost use Rattle.adr_refusal.specs.Copy.{IsCopyOf};
-ghost use Rattle.adr_stretch.specs.Right.{has_number};
+ghost use Rattle.adr_lines.specs.Right.{has_number};
 ghost use Rattle.adr_group.specs.Writes.{changed_number, is_number, stays};
 
 use adr_value::Refusal;

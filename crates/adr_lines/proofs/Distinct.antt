@@ -17,7 +17,7 @@ use Rattle.adr_model.specs.Entries.{is_listed_before}
 use Rattle.adr_model.specs.Lists.{In}
 use Rattle.adr_model.specs.Rank.{ranked}
 use Rattle.adr_model.proofs.Lists.{filter_none, none_passes, passing_in, In-filter}
-use Rattle.adr_stretch.specs.Right.{all_of}
+use Rattle.adr_lines.specs.Right.{all_of}
 use Rattle.adr_index.specs.Index.{inserted, inserted_all, is_entry, others, others_all, AreDistinct, AreNew, Indexed}
 use Rattle.adr_lines.specs.Distinct.{AreAllDistinct}
 use Rattle.adr_lines.specs.Exchange.{HoldsNoMore, IsIndexOf}

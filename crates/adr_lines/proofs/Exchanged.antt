@@ -14,7 +14,7 @@ use Rattle.adr_model.proofs.Lists.{In-flat_map, In-from_flat_map, In-from_map, I
 use Rattle.adr_repair.proofs.Inside.{number_of_entry}
 use Rattle.adr_repair.proofs.Marks.{events_apart}
 use Rattle.adr_index.specs.Index.{inserted_all, others_all, AreNew}
-use Rattle.adr_stretch.specs.Right.{all_of, HaveSame}
+use Rattle.adr_lines.specs.Right.{all_of, HaveSame}
 use Rattle.adr_lines.specs.Exchange.{AreApart, FillsTheIndex, FitsTheIndex, IsExchange, IsIndexOf, IsUndone, KeepsTheIndex, MakesTheIndex}
 use Rattle.adr_lines.proofs.Held.{are_new, elsewhere, not_elsewhere, ranked_apart, In-inserted_all, In-from_inserted_all, In-others_all, In-from_others_all}
 

@@ -10,10 +10,10 @@ use Rattle.adr_model.specs.declared.entry.Entry.{Entry}
 use Rattle.adr_model.specs.Lists.{In}
 use Rattle.adr_model.proofs.Lists.{Contains-from_In, In-append_cases, In-append_left, In-append_right, In-from_Contains}
 use Rattle.adr_index.specs.Index.{inserted, inserted_all, is_entry, AreDistinct, AreNew}
-use Rattle.adr_stretch.specs.declared.grouped.TypeEntries.{TypeEntries}
-use Rattle.adr_stretch.specs.Grouped.{entries_under, HaveOwnTypes}
-use Rattle.adr_stretch.specs.Right.{HaveSame}
-use Rattle.adr_stretch.proofs.Groups.{own_same}
+use Rattle.adr_lines.specs.declared.grouped.TypeEntries.{TypeEntries}
+use Rattle.adr_lines.specs.Grouped.{entries_under, HaveOwnTypes}
+use Rattle.adr_lines.specs.Right.{HaveSame}
+use Rattle.adr_lines.proofs.Groups.{own_same}
 use Rattle.adr_lines.specs.declared.indexes.Indexes.{Indexes}
 use Rattle.adr_lines.specs.Indexes.{has_type, own_entries, under}
 use Rattle.adr_lines.proofs.Distinct.{count_cons, distinct_inserted_all, one_more}

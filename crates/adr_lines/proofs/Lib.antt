@@ -5,3 +5,10 @@ pub mod Filled
 pub mod Held
 pub mod Put
 pub mod Turns
+pub mod Counted
+pub mod Covered
+pub mod Groups
+pub mod Intervals
+pub mod Right
+pub mod Types
+pub mod Winners

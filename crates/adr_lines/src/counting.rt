@@ -1,9 +1,9 @@
 //! How many entries groups have under a type.
 ghost use Rattle.std.specs.Prelude.{◌≡◌, length, IfSome};
-ghost use Rattle.adr_stretch.specs.Grouped.{entries_under};
+ghost use Rattle.adr_lines.specs.Grouped.{entries_under};
 ghost use Rattle.adr_lines.specs.Indexes.{own_entries, wanted_under};
 
-use adr_stretch::TypeEntries;
+use crate::TypeEntries;
 use adr_value::PayloadType;
 
 /// How many of the group's entries are under the type.

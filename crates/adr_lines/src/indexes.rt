@@ -1,10 +1,10 @@
 //! The entries of all events, by payload type.
 ghost use Rattle.adr_lines.specs.Distinct.{AreAllDistinct};
 
+use crate::TypeEntries;
 use crate::counting::wanted;
 use adr_index::Index;
 use adr_model::Entry;
-use adr_stretch::TypeEntries;
 use adr_value::{PayloadType, Refusal};
 use indexmap::IndexMap;
 use std::alloc::Global;
@@ -32,8 +32,8 @@ impl Indexes {
     ghost use Rattle.adr_value.specs.declared.payload.PayloadType.{PayloadType as AnyType};
     ghost use Rattle.adr_model.specs.declared.entry.Tie.{Tie};
     ghost use Rattle.adr_index.specs.Index.{inserted_all, others_all, AreDistinct, AreNew};
-    ghost use Rattle.adr_stretch.specs.Grouped.{entries_under, HaveOwnTypes};
-    ghost use Rattle.adr_stretch.specs.Right.{HaveSame};
+    ghost use Rattle.adr_lines.specs.Grouped.{entries_under, HaveOwnTypes};
+    ghost use Rattle.adr_lines.specs.Right.{HaveSame};
     ghost use Rattle.adr_lines.specs.Exchange.{IsIndexOf};
     ghost use Rattle.adr_lines.specs.Indexes.{has_type, own_entries, spare_under, under, wanted_under};
 

@@ -1,39 +1,26 @@
 #![tactic(auto)]
-//! Tests of values, times, ranks, seats, the index and the timeline, by what their public functions answer.
+//! Tests of what no script shows, by what public functions answer: numbers, moments and bodies behind the shield, seats, the
+//! index and the timeline, copies of objects and of a book.
 
 #[cfg(test)]
-mod decimals;
+mod book;
 #[cfg(test)]
-mod exchanges;
+mod decimals;
 #[cfg(test)]
 mod faults;
 #[cfg(test)]
 mod index;
 #[cfg(test)]
-mod lengths;
-#[cfg(test)]
 mod moments;
 #[cfg(test)]
-mod payloads;
-#[cfg(test)]
-mod plain;
-#[cfg(test)]
-mod random;
-#[cfg(test)]
-mod ranks;
-#[cfg(test)]
-mod repairs;
+mod objects;
 #[cfg(test)]
 mod rows;
 #[cfg(test)]
 mod seats;
 #[cfg(test)]
-mod segments;
-#[cfg(test)]
 mod shields;
 #[cfg(test)]
 mod spans;
-#[cfg(test)]
-mod texts;
 #[cfg(test)]
 mod timeline;

@@ -5,10 +5,6 @@ use adr_value::Refusal;
 use std::alloc::Global;
 use std::test::Fail;
 
-pub(crate) const LAST: i128 = 253_402_207_200_999_999_999;
-
-const FIRST: i128 = -377_705_023_201_000_000_000;
-
 pub(crate) fn at(nanoseconds: i128) -> Moment {
     match Moment::of(nanoseconds) {
         Some(moment) => moment,
@@ -16,33 +12,22 @@ pub(crate) fn at(nanoseconds: i128) -> Moment {
     }
 }
 
-#[test]
-fn moments_are_numbers_in_range(rt: HostRuntime) {
-    for nanoseconds in [-1, LAST, FIRST] {
-        assert!(rt;
-            at(nanoseconds).nanoseconds() == nanoseconds,
-            "{nanoseconds}"
-        );
-    }
-    assert!(rt; Moment::of(LAST + 1).is_none() && Moment::of(FIRST - 1).is_none());
-    assert!(rt; Moment::first().nanoseconds() == FIRST);
-}
-
-/// The nanoseconds of a moment, or the refusal, and the text of it.
-const MOMENTS: &str = "1000000000 = 1970-01-01T00:00:01Z
-0 = 1970-01-01T01:00:00+01:00
-0 = 1969-12-31T19:00:00-05:00
-1 = 1970-01-01T00:00:00.000000001Z
-500000000 = 1970-01-01 00:00:00,5z
-1000000000 = 19700101T000001Z
-0 = 1970-01-01T00Z
--1000000000 = 1969-12-31T23:59:60Z
-0 = 1970-01-01T01:00:00+01:00[Europe/Paris]
-0 = 1970-01-01T00:00:00Z[note=any]
--62167219200000000000 = 0000-01-01T00:00:00Z
--62198755200000000000 = -000001-01-01T00:00:00Z
--377705023201000000000 = -009999-01-02T01:59:59Z
-253402207200999999999 = 9999-12-30T22:00:00.999999999Z
+/// The nanoseconds of a moment and how it is printed, or the refusal, and the text of it.
+const MOMENTS: &str = "1000000000 1970-01-01T00:00:01Z = 1970-01-01T00:00:01Z
+0 1970-01-01T00:00:00Z = 1970-01-01T01:00:00+01:00
+0 1970-01-01T00:00:00Z = 1969-12-31T19:00:00-05:00
+1 1970-01-01T00:00:00.000000001Z = 1970-01-01T00:00:00.000000001Z
+500000000 1970-01-01T00:00:00.5Z = 1970-01-01 00:00:00,5z
+-1 1969-12-31T23:59:59.999999999Z = 1969-12-31T23:59:59.999999999Z
+1000000000 1970-01-01T00:00:01Z = 19700101T000001Z
+0 1970-01-01T00:00:00Z = 1970-01-01T00Z
+-1000000000 1969-12-31T23:59:59Z = 1969-12-31T23:59:60Z
+0 1970-01-01T00:00:00Z = 1970-01-01T01:00:00+01:00[Europe/Paris]
+0 1970-01-01T00:00:00Z = 1970-01-01T00:00:00Z[note=any]
+-62167219200000000000 0000-01-01T00:00:00Z = 0000-01-01T00:00:00Z
+-62198755200000000000 -000001-01-01T00:00:00Z = -000001-01-01T00:00:00Z
+-377705023201000000000 -009999-01-02T01:59:59Z = -009999-01-02T01:59:59Z
+253402207200999999999 9999-12-30T22:00:00.999999999Z = 9999-12-30T22:00:00.999999999Z
 BadMoment = 
 BadMoment = noon
 BadMoment = 0000-00-00
@@ -56,63 +41,28 @@ BadMoment = -009999-01-02T01:59:58Z
 BadMoment = 9999-12-30T22:00:01Z";
 
 /// The same for a start, in an edit at 5 nanoseconds.
-const STARTS: &str = "5 = 0000-00-00
-5 = 0000-00-00T00:00:00
-5 = 0000-00-00T00:00:00Z
-1000000000 = 1970-01-01T00:00:01Z
+const STARTS: &str = "5 1970-01-01T00:00:00.000000005Z = 0000-00-00
+5 1970-01-01T00:00:00.000000005Z = 0000-00-00T00:00:00
+5 1970-01-01T00:00:00.000000005Z = 0000-00-00T00:00:00Z
+1000000000 1970-01-01T00:00:01Z = 1970-01-01T00:00:01Z
 BadDateTime = 0000-00-00t00:00:00Z
 BadDateTime = tomorrow";
 
-/// Whether the moment has as many nanoseconds as is wanted.
-pub(crate) fn is_at(moment: Moment, wanted: &str) -> bool {
-    wanted.parse::<i128>() == Ok(moment.nanoseconds())
+/// Whether the moment has the nanoseconds that are wanted, and is printed so.
+pub(crate) fn is_told(alloc: Global, moment: Moment, wanted: &str) -> Result<bool, Refusal> {
+    let (nanoseconds, text) = wanted.split_once(' ').unwrap_or((wanted, ""));
+    let mut out = Vec::new(alloc);
+    print_moment(moment, &mut out)?;
+    let is_number = nanoseconds.parse::<i128>() == Ok(moment.nanoseconds());
+    Ok(is_number && out.as_slice() == text.as_bytes())
 }
 
 #[test]
-fn moments_are_read(rt: HostRuntime) -> Result<(), Fail> {
+fn moments_are_read_and_printed(rt: HostRuntime) -> Result<(), Fail> {
     check(rt.alloc(), Asked::Moment, MOMENTS)
 }
 
 #[test]
 fn starts_are_read(rt: HostRuntime) -> Result<(), Fail> {
     check(rt.alloc(), Asked::Start, STARTS)
-}
-
-/// What is printed of a moment of so many nanoseconds.
-const PRINTED: &str = "1970-01-01T00:00:00.5Z = 500000000
-1969-12-31T23:59:59.999999999Z = -1
-1970-01-01T00:00:00Z = 0
-0000-01-01T00:00:00Z = -62167219200000000000
--000001-01-01T00:00:00Z = -62198755200000000000
--009999-01-02T01:59:59Z = -377705023201000000000
-9999-12-30T22:00:00.999999999Z = 253402207200999999999";
-
-pub(crate) fn prints(alloc: Global, moment: Moment, wanted: &str) -> Result<bool, Refusal> {
-    let mut out = Vec::new(alloc);
-    print_moment(moment, &mut out)?;
-    Ok(out.as_slice() == wanted.as_bytes())
-}
-
-#[test]
-fn moments_are_printed(rt: HostRuntime) -> Result<(), Fail> {
-    check(rt.alloc(), Asked::PrintedMoment, PRINTED)
-}
-
-/// Whether a moment is printed behind another.
-fn prints_both(
-    alloc: Global,
-    first: Moment,
-    second: Moment,
-    wanted: &str,
-) -> Result<bool, Refusal> {
-    let mut out = Vec::new(alloc);
-    print_moment(first, &mut out)?;
-    print_moment(second, &mut out)?;
-    Ok(out.as_slice() == wanted.as_bytes())
-}
-
-#[test]
-fn printing_appends(rt: HostRuntime) {
-    let wanted = "1970-01-01T00:00:00Z1970-01-01T00:00:00.000000001Z";
-    assert!(rt; prints_both(rt.alloc(), at(0), at(1), wanted) == Ok(true));
 }

@@ -1,8 +1,8 @@
 //! The rows of tables, and what is answered to each.
-use crate::moments::{at, is_at};
-use crate::{decimals, lengths, moments, payloads, texts};
+use crate::moments::at;
+use crate::{decimals, moments, objects};
 use adr_time::{read_moment, read_start};
-use adr_value::{Decimal, Refusal, shield};
+use adr_value::{Refusal, shield};
 use std::alloc::Global;
 use std::test::Fail;
 
@@ -10,39 +10,22 @@ use std::test::Fail;
 #[derive(Clone, Copy)]
 pub(crate) enum Asked {
     Decimal,
-    DecimalOfZeros,
-    PrintedDecimal,
     Moment,
     Start,
-    PrintedMoment,
-    End,
-    Type,
-    PrivateTypes,
-    CopiedType,
-    LetterOfTypes,
-    LetterOfNames,
-    ShieldedBody,
+    Body,
+    Object,
+    Edit,
 }
 
 /// Whether what is asked of the text is answered as is wanted.
 fn holds(alloc: Global, asked: Asked, text: &str, wanted: &str) -> Result<bool, Refusal> {
     match asked {
         Asked::Decimal => decimals::spells(alloc, text, wanted),
-        Asked::DecimalOfZeros => decimals::spells_long(alloc, text, wanted),
-        Asked::PrintedDecimal => Ok(Decimal::read(text)?.to_string(alloc)?.as_str() == wanted),
-        Asked::Moment => Ok(is_at(read_moment(text)?, wanted)),
-        Asked::Start => Ok(is_at(read_start(text, at(5))?, wanted)),
-        Asked::PrintedMoment => {
-            let nanoseconds = text.parse::<i128>().ok().ok_or(Refusal::BadLine)?;
-            moments::prints(alloc, at(nanoseconds), wanted)
-        }
-        Asked::End => lengths::ends(alloc, text, wanted),
-        Asked::Type => payloads::is_coded(alloc, text),
-        Asked::PrivateTypes => payloads::are_private_in_lower_case(alloc, text),
-        Asked::CopiedType => payloads::is_copied_by_name(alloc, text),
-        Asked::LetterOfTypes => payloads::are_from_1_to_128(alloc, text),
-        Asked::LetterOfNames => texts::fit_from_1_to_128(alloc, text),
-        Asked::ShieldedBody => Ok(shield(alloc, text.as_bytes())?.as_slice() == wanted.as_bytes()),
+        Asked::Moment => moments::is_told(alloc, read_moment(text)?, wanted),
+        Asked::Start => moments::is_told(alloc, read_start(text, at(5))?, wanted),
+        Asked::Body => Ok(shield(alloc, text.as_bytes())?.as_slice() == wanted.as_bytes()),
+        Asked::Object => objects::is_read_whole(alloc, text),
+        Asked::Edit => objects::is_read_edit_copied(alloc, text),
     }
 }
 

@@ -15,7 +15,7 @@ use Rattle.adr_model.specs.Touches.{touches_of}
 use Rattle.adr_model.specs.Whole.{IsWhole}
 use Rattle.adr_model.proofs.Keyed.{own_key}
 use Rattle.adr_store.specs.Numbers.{by_number}
-use Rattle.adr_stretch.specs.Right.{has_number}
+use Rattle.adr_lines.specs.Right.{has_number}
 use Rattle.adr_lines.specs.declared.indexes.Indexes.{Indexes}
 use Rattle.adr_lines.specs.Exchange.{IsIndexOf}
 use Rattle.adr_group.specs.Group.{Lines}

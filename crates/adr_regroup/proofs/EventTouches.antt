@@ -25,9 +25,9 @@ use Rattle.adr_model.specs.Rank.{carries, ranked}
 use Rattle.adr_model.specs.Touches.{touches_of, types_of}
 use Rattle.adr_model.proofs.Lists.{bytes_eq_self, filter_drops_all, same_bytes}
 use Rattle.adr_timeline.specs.Build.{most_compared}
-use Rattle.adr_stretch.specs.declared.grouped.TypeEntries.{TypeEntries}
-use Rattle.adr_stretch.specs.Grouped.{entries_under, HaveOwnTypes}
-use Rattle.adr_stretch.specs.Right.{written_in}
+use Rattle.adr_lines.specs.declared.grouped.TypeEntries.{TypeEntries}
+use Rattle.adr_lines.specs.Grouped.{entries_under, HaveOwnTypes}
+use Rattle.adr_lines.specs.Right.{written_in}
 use Rattle.adr_lines.specs.declared.indexes.Indexes.{Indexes}
 use Rattle.adr_lines.specs.Indexes.{under}
 use Rattle.adr_group.specs.Repair.{most_inside, most_repaired}

@@ -11,7 +11,7 @@ use Rattle.adr_model.specs.Edits.{entry_count}
 use Rattle.adr_model.specs.Lists.{In}
 use Rattle.adr_model.specs.Whole.{IsSound}
 use Rattle.adr_model.specs.Within.{IsWithin}
-use Rattle.adr_stretch.specs.Right.{has_number}
+use Rattle.adr_lines.specs.Right.{has_number}
 use Rattle.adr_lines.specs.declared.indexes.Indexes.{Indexes}
 use Rattle.adr_lines.specs.Exchange.{HoldsNoMore, IsIndexOf}
 use Rattle.adr_group.specs.Group.{Lines}

@@ -18,7 +18,7 @@ use Rattle.adr_model.specs.Rank.{ranked}
 use Rattle.adr_model.proofs.Lists.{In-filter, In-from_filter, In-flat_map, In-from_flat_map, In-map, In-from_map}
 use Rattle.adr_repair.proofs.Inside.{number_of_entry}
 use Rattle.adr_timeline.specs.Build.{most_compared}
-use Rattle.adr_stretch.specs.Right.{all_of, has_number, written_in}
+use Rattle.adr_lines.specs.Right.{all_of, has_number, written_in}
 use Rattle.adr_lines.specs.declared.indexes.Indexes.{Indexes}
 use Rattle.adr_lines.specs.Exchange.{IsIndexOf}
 use Rattle.adr_lines.specs.Indexes.{under}

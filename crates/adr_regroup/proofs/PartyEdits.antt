@@ -35,7 +35,7 @@ use Rattle.adr_group.specs.Group.{Lines}
 use Rattle.adr_schedule.specs.Moves.{is_among}
 use Rattle.adr_schedule.specs.Place.{HasPlace, LacksPlace, StaysRight}
 use Rattle.adr_schedule.specs.Seating.{group_at, has_at, AreRight, AreSeatedFor, Seating}
-use Rattle.adr_stretch.specs.Right.{has_number}
+use Rattle.adr_lines.specs.Right.{has_number}
 use Rattle.adr_schedule.proofs.Places.{after_gone, count_gone, was_at}
 use Rattle.adr_regroup.specs.Party.{id_of_edit, is_of_resource, is_of_ven, AreOfVen, AreSeatedBut, KeepsEvents}
 use Rattle.adr_regroup.proofs.Placing.{has_group, has_place, number_at}

@@ -10,7 +10,7 @@ use Rattle.adr_model.specs.Book.{Book}
 use Rattle.adr_model.specs.Lists.{In}
 use Rattle.adr_model.proofs.Lists.{In-filter, In-from_filter}
 use Rattle.adr_audience.specs.Asks.{applies_at, applies_with, applying_events}
-use Rattle.adr_stretch.specs.Right.{has_number}
+use Rattle.adr_lines.specs.Right.{has_number}
 use Rattle.adr_regroup.specs.Party.{numbers_at, AreWritesWith}
 
 -- ---- places

@@ -14,10 +14,10 @@ use Rattle.adr_model.specs.declared.written.Written.{Written}
 use Rattle.adr_model.specs.Governor.{entries_of}
 use Rattle.adr_model.specs.Lists.{In}
 use Rattle.adr_model.specs.Rank.{ranked}
-use Rattle.adr_stretch.specs.declared.grouped.TypeEntries.{TypeEntries}
-use Rattle.adr_stretch.specs.Grouped.{any_covers_at, entries_under, written_event, HaveOwnTypes}
-use Rattle.adr_stretch.specs.Right.{has_number}
-use Rattle.adr_stretch.proofs.Covered.{any_left, any_ranked, any_right}
+use Rattle.adr_lines.specs.declared.grouped.TypeEntries.{TypeEntries}
+use Rattle.adr_lines.specs.Grouped.{any_covers_at, entries_under, written_event, HaveOwnTypes}
+use Rattle.adr_lines.specs.Right.{has_number}
+use Rattle.adr_lines.proofs.Covered.{any_left, any_ranked, any_right}
 use Rattle.adr_lines.specs.declared.indexes.Indexes.{Indexes}
 use Rattle.adr_group.specs.Group.{AreWindowsOf}
 use Rattle.adr_group.specs.Repair.{most_possible, most_repaired}

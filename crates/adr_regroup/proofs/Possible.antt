@@ -24,8 +24,8 @@ use Rattle.adr_model.specs.Rank.{carries, ranked}
 use Rattle.adr_model.specs.Touches.{types_of}
 use Rattle.adr_model.proofs.Lists.{same_bytes, bytes_eq_self}
 use Rattle.adr_repair.proofs.Windows.{types_carried}
-use Rattle.adr_stretch.specs.declared.grouped.TypeEntries.{TypeEntries}
-use Rattle.adr_stretch.specs.Grouped.{entries_under, HaveOwnTypes}
+use Rattle.adr_lines.specs.declared.grouped.TypeEntries.{TypeEntries}
+use Rattle.adr_lines.specs.Grouped.{entries_under, HaveOwnTypes}
 use Rattle.adr_lines.specs.declared.indexes.Indexes.{Indexes}
 use Rattle.adr_group.specs.Repair.{most_possible}
 use Rattle.adr_regroup.specs.Program.{most_in, most_under}

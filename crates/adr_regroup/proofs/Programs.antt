@@ -23,7 +23,7 @@ use Rattle.adr_model.proofs.EditLemmas.{accepted}
 use Rattle.adr_model.proofs.Steps.{no_fault, no_faults_before, no_faults_after}
 use Rattle.adr_audience.proofs.Placed.{found_before, found_beside, none_has}
 use Rattle.adr_schedule.specs.Seating.{Seating, AreSeatedFor}
-use Rattle.adr_stretch.specs.Grouped.{written_event}
+use Rattle.adr_lines.specs.Grouped.{written_event}
 use Rattle.adr_regroup.specs.Program.{is_of_program}
 use Rattle.adr_regroup.proofs.Applying.{scenes}
 

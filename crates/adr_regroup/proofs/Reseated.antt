@@ -15,7 +15,7 @@ use Rattle.adr_model.specs.Lists.{In}
 use Rattle.adr_model.specs.Matching.{applies}
 use Rattle.adr_model.specs.Whole.{IsWhole}
 use Rattle.adr_audience.specs.Asks.{applies_with}
-use Rattle.adr_stretch.specs.Right.{has_number}
+use Rattle.adr_lines.specs.Right.{has_number}
 use Rattle.adr_schedule.specs.Moves.{is_among}
 use Rattle.adr_schedule.specs.Place.{IsRewritten}
 use Rattle.adr_schedule.specs.Seating.{has_at, AreRight, AreSeatedFor, Seating}

@@ -13,9 +13,9 @@ use Rattle.adr_model.specs.Rank.{ranked}
 use Rattle.adr_model.specs.Touches.{touches_of}
 use Rattle.adr_store.specs.Numbers.{by_number}
 use Rattle.adr_timeline.specs.Build.{most_compared}
-use Rattle.adr_stretch.specs.declared.grouped.TypeEntries.{TypeEntries}
-use Rattle.adr_stretch.specs.Grouped.{entries_under, HaveOwnTypes}
-use Rattle.adr_stretch.specs.Right.{has_number}
+use Rattle.adr_lines.specs.declared.grouped.TypeEntries.{TypeEntries}
+use Rattle.adr_lines.specs.Grouped.{entries_under, HaveOwnTypes}
+use Rattle.adr_lines.specs.Right.{has_number}
 use Rattle.adr_lines.specs.declared.indexes.Indexes.{Indexes}
 use Rattle.adr_group.specs.Repair.{most_repaired}
 use Rattle.adr_schedule.specs.Seating.{has_at, Seating}

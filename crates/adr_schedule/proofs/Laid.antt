@@ -18,10 +18,10 @@ use Rattle.adr_model.specs.Lists.{In}
 use Rattle.adr_model.proofs.Lists.{bytes_eq_self, In-append_cases, In-append_left, In-append_right, In-filter, In-flat_map}
 use Rattle.adr_timeline.specs.Steps.{is_run}
 use Rattle.adr_timeline.proofs.Runs.{run_parts}
-use Rattle.adr_stretch.specs.declared.grouped.TypeEntries.{TypeEntries}
-use Rattle.adr_stretch.specs.Counted.{entries_in_groups}
-use Rattle.adr_stretch.specs.Grouped.{entries_under}
-use Rattle.adr_stretch.specs.Right.{has_number, written_in}
+use Rattle.adr_lines.specs.declared.grouped.TypeEntries.{TypeEntries}
+use Rattle.adr_lines.specs.Counted.{entries_in_groups}
+use Rattle.adr_lines.specs.Grouped.{entries_under}
+use Rattle.adr_lines.specs.Right.{has_number, written_in}
 use Rattle.adr_lines.specs.declared.indexes.Indexes.{Indexes}
 use Rattle.adr_lines.specs.Exchange.{IsIndexOf}
 use Rattle.adr_lines.specs.Indexes.{under}

@@ -5,8 +5,8 @@ use Rattle.std.proofs.lemmas.List.Folds.{list_any-append}
 use Rattle.adr_model.specs.declared.entry.Entry.{Entry}
 use Rattle.adr_model.proofs.Lists.{filter-same}
 use Rattle.adr_shared.specs.Map.{put, without}
-use Rattle.adr_stretch.specs.declared.grouped.TypeEntries.{TypeEntries}
-use Rattle.adr_stretch.specs.Right.{has_number, written_in}
+use Rattle.adr_lines.specs.declared.grouped.TypeEntries.{TypeEntries}
+use Rattle.adr_lines.specs.Right.{has_number, written_in}
 use Rattle.adr_lines.specs.declared.indexes.Indexes.{Indexes}
 use Rattle.adr_lines.specs.Indexes.{under}
 use Rattle.adr_group.specs.Group.{Lines}

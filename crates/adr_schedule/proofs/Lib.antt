@@ -10,3 +10,4 @@ pub mod Seated
 pub mod Shifts
 pub mod Turns
 pub mod Variant
+pub mod Governed

@@ -5,7 +5,7 @@ use Rattle.std.specs.Option.{option_and_then, option_map_or}
 use Rattle.adr_shared.specs.Map.{put, without}
 use Rattle.adr_model.specs.declared.entry.Tie.{Tie}
 use Rattle.adr_model.specs.declared.written.Written.{Written}
-use Rattle.adr_stretch.specs.Right.{has_number}
+use Rattle.adr_lines.specs.Right.{has_number}
 use Rattle.adr_group.specs.Group.{Lines, IsRightOf}
 use Rattle.adr_schedule.specs.Moves.{is_among, AreMoved, IsNext, IsSat}
 use Rattle.adr_schedule.specs.Place.{HasPlace, HasValue, IsPlaced, IsRewritten, LacksPlace, StaysRight}

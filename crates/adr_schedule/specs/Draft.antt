@@ -5,8 +5,8 @@ use Rattle.adr_model.specs.declared.written.Written.{Written}
 use Rattle.adr_model.specs.Lists.{In}
 use Rattle.adr_lines.specs.declared.indexes.Indexes.{Indexes}
 use Rattle.adr_lines.specs.Exchange.{IsIndexOf}
-use Rattle.adr_stretch.specs.Grouped.{entries_under}
-use Rattle.adr_stretch.specs.Right.{has_number}
+use Rattle.adr_lines.specs.Grouped.{entries_under}
+use Rattle.adr_lines.specs.Right.{has_number}
 use Rattle.adr_group.specs.declared.job.Job.{Job}
 use Rattle.adr_group.specs.Group.{AreWindowsOf, IsRightOf, Lines}
 use Rattle.adr_group.specs.Jobs.{jobs_for, AreAlike}

@@ -5,3 +5,4 @@ pub mod Seating
 pub mod Shift
 pub mod Slots
 pub mod Tally
+pub mod Resolved

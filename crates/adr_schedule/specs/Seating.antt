@@ -7,7 +7,7 @@ use Rattle.adr_model.specs.declared.written.Written.{Written}
 use Rattle.adr_model.specs.Book.{Book}
 use Rattle.adr_model.specs.Governor.{applies_to}
 use Rattle.adr_model.specs.Lists.{In}
-use Rattle.adr_stretch.specs.Right.{has_number}
+use Rattle.adr_lines.specs.Right.{has_number}
 use Rattle.adr_group.specs.Group.{Lines, IsRightOf}
 use Rattle.adr_group.specs.Writes.{is_number}
 use Rattle.adr_schedule.specs.Moves.{is_among}

@@ -10,9 +10,9 @@ use Rattle.adr_model.specs.Lists.{In}
 use Rattle.adr_model.specs.Rank.{ranked}
 use Rattle.adr_lines.specs.declared.indexes.Indexes.{Indexes}
 use Rattle.adr_lines.specs.Exchange.{IsIndexOf}
-use Rattle.adr_stretch.specs.declared.grouped.TypeEntries.{TypeEntries}
-use Rattle.adr_stretch.specs.Grouped.{entries_under}
-use Rattle.adr_stretch.specs.Right.{has_number}
+use Rattle.adr_lines.specs.declared.grouped.TypeEntries.{TypeEntries}
+use Rattle.adr_lines.specs.Grouped.{entries_under}
+use Rattle.adr_lines.specs.Right.{has_number}
 use Rattle.adr_group.specs.Group.{Lines, IsRightOf}
 use Rattle.adr_group.specs.Laid.{IsComing}
 pub use Rattle.adr_group.specs.Repair.{most_possible}

@@ -1,5 +1,5 @@
 //! Which event goes and which comes.
-use adr_stretch::TypeEntries;
+use adr_lines::TypeEntries;
 
 /// An event as it was written: the number of the edit that wrote it, and its entries under each of its payload types.
 pub struct Side {

@@ -15,9 +15,9 @@ ghost use Rattle.adr_schedule.specs.Tally.{AreAllOf, HasSeen, IsTallied};
 use crate::change::{Change, Side};
 use crate::tally::Tally;
 use adr_group::{Group, Writes, shared_windows};
+use adr_lines::TypeEntries;
 use adr_seats::Seats;
 use adr_shared::{Shared, SharedMap};
-use adr_stretch::TypeEntries;
 use adr_value::Refusal;
 use std::alloc::Global;
 

@@ -5,8 +5,7 @@ ghost use Rattle.adr_refusal.specs.declared.refusal.Refusal.TheVariants.{NoMemor
 ghost use Rattle.adr_model.specs.Edits.{full_at, step_to};
 ghost use Rattle.adr_server.specs.Shown.{kept_of};
 
-use adr_board::{Editor, Naming};
-use adr_gate::NoGate;
+use adr_board::{Editor, Naming, NoGate};
 use adr_object::Edit;
 use adr_value::Refusal;
 use std::thread::Threads;

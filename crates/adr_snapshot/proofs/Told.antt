@@ -15,7 +15,7 @@ use Rattle.adr_calendar.specs.declared.calendar.State.{State}
 use Rattle.adr_calendar.specs.Segments.{IsStateAt}
 use Rattle.adr_group.specs.Group.{shown_in, Lines}
 use Rattle.adr_schedule.specs.Seating.{group_at, AreSeatedFor, Seating}
-use Rattle.adr_resolution.proofs.Governed.{no_group, place_shown}
+use Rattle.adr_schedule.proofs.Governed.{no_group, place_shown}
 use Rattle.adr_snapshot.specs.Published.{last_batch}
 use Rattle.adr_snapshot.specs.Types.{IsTypeTest}
 use Rattle.adr_snapshot.proofs.AllTypes.{line_passes, no_line_fails}

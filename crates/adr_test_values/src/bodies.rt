@@ -3,5 +3,5 @@
 mod reading;
 mod touches;
 
-pub use reading::{edit, edit_of, kind_of, list_of, object, shared, word};
+pub use reading::{edit, kind_of, object, shared, word};
 pub use touches::{any_edit, are_touches};

@@ -1,8 +1,9 @@
-//! The plain machine's replies to lines.
+//! The plain machine's replies to a script.
 use adr_plain::Plain;
 use adr_refusal::Refusal;
-use adr_server::{Command, parse_line};
+use adr_server::{Command, Tie, parse_line};
 use std::alloc::{AllocError, Global};
+use std::io;
 
 /// What the machine replies to a command, its line's end among it.
 fn answer(alloc: Global, machine: &mut Plain, command: Command) -> Result<Vec<u8>, Refusal> {
@@ -37,7 +38,7 @@ fn answer_line(alloc: Global, machine: &mut Plain, line: &str) -> Result<Vec<u8>
 }
 
 /// What the machine replies to a line; a refusal by its number and name.
-pub(crate) fn reply(alloc: Global, machine: &mut Plain, line: &str) -> Result<Vec<u8>, AllocError> {
+fn reply(alloc: Global, machine: &mut Plain, line: &str) -> Result<Vec<u8>, AllocError> {
     match answer_line(alloc, machine, line) {
         Ok(answer) => Ok(answer),
         Err(refusal) => {
@@ -47,4 +48,24 @@ pub(crate) fn reply(alloc: Global, machine: &mut Plain, line: &str) -> Result<Ve
             Ok(text.into_bytes())
         }
     }
+}
+
+fn print_each<R: AllocGlobal + Print>(rt: &R, machine: &mut Plain, script: &str) -> io::Result<()> {
+    for line in script.lines() {
+        let reply = reply(rt.alloc(), machine, line)?;
+        Print::write_all(rt, &reply)?;
+    }
+    Ok(())
+}
+
+/// Prints what a new machine replies to the lines of the script.
+pub(crate) fn print_replies<R: AllocGlobal + Print>(
+    rt: &R,
+    tie: Tie,
+    script: &str,
+) -> io::Result<()> {
+    let mut machine = Plain::new(rt.alloc(), tie);
+    let printed = print_each(rt, &mut machine, script);
+    drop(machine);
+    printed
 }

@@ -6,23 +6,11 @@ use adr_object::{Edit, Id, Kind, Object, Shared};
 use adr_read::{read_event, read_program, read_resource, read_ven};
 use adr_time::Moment;
 use adr_value::Refusal;
-use std::alloc::{AllocError, Global};
+use std::alloc::Global;
 
 /// The first word of a line, and what follows it.
 pub fn word(line: &str) -> Result<(&str, &str), Refusal> {
     line.split_once(' ').ok_or(Refusal::BadLine)
-}
-
-/// The text so many times, with commas between.
-pub fn list_of(alloc: Global, element: &str, count: usize) -> Result<String, AllocError> {
-    let mut list = String::new(alloc);
-    for place in 0..count {
-        if place > 0 {
-            list.push(',')?;
-        }
-        list.push_str(element)?;
-    }
-    Ok(list)
 }
 
 /// What was read or copied, where it may have several owners.
@@ -87,9 +75,4 @@ pub fn edit(alloc: Global, line: &str) -> Result<Edit, Refusal> {
         "change" => Ok(Edit::Change(object(alloc, line)?)),
         _ => removal(alloc, line),
     }
-}
-
-/// The edit of a line that was put together, where there was room for it.
-pub fn edit_of(alloc: Global, line: Result<String, AllocError>) -> Result<Edit, Refusal> {
-    edit(alloc, line?.as_str())
 }

@@ -45,7 +45,7 @@ pub fn any_edit(alloc: Global, line: &str) -> Result<Edit, Refusal> {
 }
 
 fn hour(word: &str) -> Option<Moment> {
-    let hours = i128::from(word.parse::<u8>().ok()?);
+    let hours = i128::from(word.parse::<u32>().ok()?);
     Moment::of(hours * 3_600_000_000_000)
 }
 

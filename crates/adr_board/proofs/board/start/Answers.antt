@@ -1,7 +1,7 @@
 use Rattle.std.proofs.Common.{rules, ◌≡◌, ◌∙◌, ap, arith, length}
 use Rattle.adr_model.specs.Machine.{opening}
-use Rattle.adr_diary.specs.Publications.{publication_of}
-use Rattle.adr_diary.proofs.Histories.{first_log}
+use Rattle.adr_board.specs.Publications.{publication_of}
+use Rattle.adr_board.proofs.Histories.{first_log}
 use Rattle.adr_board.specs.declared.shown.Shown.{Shown}
 use Rattle.adr_board.specs.Rules.{publication_in, showing}
 use Rattle.adr_board.proofs.Steps.{starts}

@@ -1,5 +1,5 @@
 use Rattle.std.proofs.Common.{arith}
-use Rattle.adr_diary.proofs.Prefixes.{prefix_length}
+use Rattle.adr_board.proofs.Prefixes.{prefix_length}
 use Rattle.adr_board.proofs.run.inform.Goals as goal
 
 pub returns-clause-told : goal.returns-clause-told

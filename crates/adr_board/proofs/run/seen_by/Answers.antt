@@ -2,7 +2,7 @@ use Rattle.std.proofs.Common.{◌∙◌, List, sym, subst, arith}
 use Rattle.std.specs.Arc.{arc_value}
 use mathlib.Core.List.{IsPrefix}
 use Rattle.adr_model.specs.Machine.{Publication}
-use Rattle.adr_diary.proofs.Prefixes.{prefix_length}
+use Rattle.adr_board.proofs.Prefixes.{prefix_length}
 use Rattle.adr_board.proofs.Settled.{seen_one}
 use Rattle.adr_board.proofs.run.seen_by.Goals as goal
 

@@ -1,6 +1,6 @@
 use Rattle.std.proofs.Common.{◌++◌, append-nil, ap, sym, ◌∙◌}
 use Rattle.std.specs.Option.{option_copied}
-use Rattle.adr_stretch.specs.Grouped.{entries_under, written_event}
+use Rattle.adr_lines.specs.Grouped.{entries_under, written_event}
 use Rattle.adr_bulk.proofs.Choosing.{event_of, no_event}
 use Rattle.adr_bulk.proofs.Gathered.{none_numbered, one_numbered}
 use Rattle.adr_bulk.proofs.gathering.add_event.Goals as goal

@@ -1,8 +1,8 @@
 use Rattle.std.proofs.Common.{◌∙◌, ◌++◌, ap, sym, subst}
 use Rattle.std.specs.List.{position}
-use Rattle.adr_stretch.specs.declared.grouped.TypeEntries.{TypeEntries}
-use Rattle.adr_stretch.specs.Grouped.{HaveOwnTypes}
-use Rattle.adr_stretch.proofs.Groups.{is_of, types_put}
+use Rattle.adr_lines.specs.declared.grouped.TypeEntries.{TypeEntries}
+use Rattle.adr_lines.specs.Grouped.{HaveOwnTypes}
+use Rattle.adr_lines.proofs.Groups.{is_of, types_put}
 use Rattle.adr_bulk.proofs.Gathered.{entries_pushed, entries_there, types_there}
 use Rattle.std.proofs.Common.{refl}
 use Rattle.adr_bulk.proofs.gathering.add_group.Goals as goal

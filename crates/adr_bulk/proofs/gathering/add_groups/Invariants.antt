@@ -1,7 +1,7 @@
 use Rattle.std.proofs.Common.{◌≡◌, ◌++◌}
 use Rattle.std.specs.Vec.Iter.{into_iter_items}
 use Rattle.adr_value.specs.declared.payload.PayloadType.{PayloadType}
-use Rattle.adr_stretch.specs.Grouped.{entries_under, HaveOwnTypes}
+use Rattle.adr_lines.specs.Grouped.{entries_under, HaveOwnTypes}
 use Rattle.adr_bulk.proofs.gathering.add_groups.Given as goal
 
 -- what is added, with the groups that are left, is all

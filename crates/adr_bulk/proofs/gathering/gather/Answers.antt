@@ -1,6 +1,6 @@
 use Rattle.std.proofs.Common.{◌++◌, ap, sym, subst}
-use Rattle.adr_stretch.specs.Grouped.{entries_under, HaveOwnTypes}
-use Rattle.adr_stretch.proofs.Groups.{no_types}
+use Rattle.adr_lines.specs.Grouped.{entries_under, HaveOwnTypes}
+use Rattle.adr_lines.proofs.Groups.{no_types}
 use Rattle.adr_model.proofs.Events.{one_write}
 use Rattle.adr_bulk.specs.Bulk.{chosen, in_turn}
 use Rattle.adr_bulk.proofs.Gathered.{all_in_turn, apart_in_turn, entries_in_turn, next_event, same_chosen, windows_in_turn}

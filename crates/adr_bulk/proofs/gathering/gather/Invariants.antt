@@ -1,6 +1,6 @@
 use Rattle.std.proofs.Common.{◌≡◌, ◌++◌, length}
 use Rattle.adr_value.specs.declared.payload.PayloadType.{PayloadType}
-use Rattle.adr_stretch.specs.Grouped.{entries_under, HaveOwnTypes}
+use Rattle.adr_lines.specs.Grouped.{entries_under, HaveOwnTypes}
 use Rattle.adr_bulk.proofs.Gathered.{entries_in_turn}
 use Rattle.adr_bulk.proofs.gathering.gather.Given as goal
 

@@ -1,5 +1,5 @@
 use Rattle.std.proofs.Common.{ap, subst, ◌∙◌}
-use Rattle.adr_stretch.specs.Right.{has_number}
+use Rattle.adr_lines.specs.Right.{has_number}
 use Rattle.adr_lines.specs.Exchange.{IsIndexOf}
 use Rattle.adr_bulk.proofs.Choosing.{all_chosen}
 use Rattle.adr_bulk.proofs.gathering.index_all.Goals as goal

@@ -1,6 +1,6 @@
 use Rattle.std.proofs.Common.{◌<◌, ◌^◌, ap, sym, subst, ◌∙◌}
-use Rattle.adr_stretch.specs.Counted.{entries_in_groups}
-use Rattle.adr_stretch.specs.Grouped.{any_covers_at, entries_under}
+use Rattle.adr_lines.specs.Counted.{entries_in_groups}
+use Rattle.adr_lines.specs.Grouped.{any_covers_at, entries_under}
 use Rattle.adr_group.specs.Group.{Lines}
 use Rattle.adr_bulk.specs.Bulk.{chosen}
 use Rattle.adr_bulk.proofs.Owning.{group_room, own_windows, right_of_all}

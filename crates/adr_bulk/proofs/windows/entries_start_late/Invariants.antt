@@ -1,5 +1,5 @@
 use Rattle.std.proofs.Common.{◌≡◌, ◌⊎◌, ℤ, ◌≤ℤ◌, true, length}
-use Rattle.adr_stretch.specs.Grouped.{any_covers_at}
+use Rattle.adr_lines.specs.Grouped.{any_covers_at}
 use Rattle.adr_bulk.proofs.windows.entries_start_late.Given as goal
 
 -- what is covered is covered by an entry that is left, or is no earlier

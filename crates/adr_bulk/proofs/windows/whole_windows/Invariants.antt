@@ -1,6 +1,6 @@
 use Rattle.std.proofs.Common.{◌≡◌, ◌⊎◌, ℤ, true, length}
 use Rattle.adr_value.specs.declared.payload.PayloadType.{PayloadType}
-use Rattle.adr_stretch.specs.Grouped.{any_covers_at, entries_under}
+use Rattle.adr_lines.specs.Grouped.{any_covers_at, entries_under}
 use Rattle.adr_bulk.specs.Bulk.{AreFrom}
 use Rattle.adr_bulk.proofs.windows.whole_windows.Given as goal
 

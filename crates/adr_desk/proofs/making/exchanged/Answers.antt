@@ -2,7 +2,7 @@ use Rattle.std.proofs.Common.{ap, subst, ◌∙◌}
 use Rattle.adr_model.proofs.EditLemmas.{accepted}
 use Rattle.adr_index.specs.Index.{inserted_all, others_all}
 use Rattle.adr_audience.specs.Keys.{AreKeysOf}
-use Rattle.adr_stretch.specs.Grouped.{entries_under}
+use Rattle.adr_lines.specs.Grouped.{entries_under}
 use Rattle.adr_lines.specs.Indexes.{under}
 use Rattle.adr_desk.specs.Edited.{come_of, gone_of}
 use Rattle.adr_desk.proofs.Made.{come_fits, come_indexed, desk_after, desk_back}

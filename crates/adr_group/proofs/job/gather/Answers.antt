@@ -1,7 +1,7 @@
 use Rattle.std.proofs.Common.{[], ◌∷◌, ◌++◌, get_or, ap, sym, subst, ◌∙◌}
 use Rattle.std.specs.List.{position}
 use Rattle.adr_value.specs.Same.{same_type}
-use Rattle.adr_stretch.specs.declared.grouped.TypeEntries.{TypeEntries}
+use Rattle.adr_lines.specs.declared.grouped.TypeEntries.{TypeEntries}
 use Rattle.adr_group.specs.Jobs.{AreAlike}
 use Rattle.adr_group.proofs.Gathered.{gathered}
 use Rattle.adr_group.proofs.Jobs.{copied_alike}

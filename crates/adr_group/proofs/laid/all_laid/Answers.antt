@@ -1,7 +1,7 @@
 use Rattle.std.proofs.Common.{◌∷◌, length, ap, arith, subst}
 use Rattle.std.proofs.lemmas.List.Sums.{sum_by-cons}
 use Rattle.std.specs.List.{AllZip}
-use Rattle.adr_stretch.specs.Counted.{entries_in_groups}
+use Rattle.adr_lines.specs.Counted.{entries_in_groups}
 use Rattle.adr_group.specs.Laid.{IsMet}
 use Rattle.adr_group.proofs.Joining.{every_laid, next_laid, none_laid}
 use Rattle.adr_group.proofs.Jobs.{none_left}

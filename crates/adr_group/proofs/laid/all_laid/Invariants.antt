@@ -1,7 +1,7 @@
 use Rattle.std.proofs.Common.{◌+◌, ◌*◌, ◌≤◌, length}
 use Rattle.std.specs.List.{AllZip}
-use Rattle.adr_stretch.specs.Counted.{entries_in_groups}
-use Rattle.adr_stretch.specs.Grouped.{HaveOwnTypes}
+use Rattle.adr_lines.specs.Counted.{entries_in_groups}
+use Rattle.adr_lines.specs.Grouped.{HaveOwnTypes}
 use Rattle.adr_group.specs.Laid.{IsMet}
 use Rattle.adr_group.proofs.Joining.{LeavesTo}
 use Rattle.adr_group.proofs.laid.all_laid.Given as goal

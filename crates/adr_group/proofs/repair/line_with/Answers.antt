@@ -4,7 +4,7 @@ use Rattle.adr_model.specs.declared.entry.Entry.{Entry}
 use Rattle.adr_model.specs.declared.timeline.Segment.{Segment}
 use Rattle.adr_model.specs.declared.timeline.Winner.{Winner}
 use Rattle.adr_model.specs.Timeline.{shows}
-use Rattle.adr_stretch.specs.Grouped.{any_covers_at}
+use Rattle.adr_lines.specs.Grouped.{any_covers_at}
 use Rattle.adr_group.specs.Jobs.{IsInside}
 use Rattle.adr_group.proofs.repair.line_with.Goals as goal
 

@@ -1,8 +1,8 @@
 use Rattle.std.proofs.Common.{◌≡◌, ◌+◌, ◌≤◌, ℤ, if◌then◌else◌, length}
 use Rattle.adr_value.specs.declared.payload.PayloadType.{PayloadType}
 use Rattle.adr_model.specs.Governor.{winner_at}
-use Rattle.adr_stretch.specs.Grouped.{any_covers_at, entries_under}
-use Rattle.adr_stretch.specs.Right.{written_in}
+use Rattle.adr_lines.specs.Grouped.{any_covers_at, entries_under}
+use Rattle.adr_lines.specs.Right.{written_in}
 use Rattle.adr_lines.specs.Indexes.{under}
 use Rattle.adr_group.specs.Group.{shown_in}
 use Rattle.adr_group.specs.Repair.{most_repaired}

@@ -2,7 +2,7 @@ use Rattle.std.proofs.Common.{◌≡◌, ℤ, ◌||◌, List, ◌∷◌, ap, sym
 use Rattle.adr_time.specs.Spans.{covers}
 use Rattle.adr_time.specs.declared.span.Span.{Span}
 use Rattle.adr_model.specs.declared.entry.Entry.{Entry}
-use Rattle.adr_stretch.specs.Grouped.{any_covers_at}
+use Rattle.adr_lines.specs.Grouped.{any_covers_at}
 use Rattle.adr_group.proofs.windows.have_same_spans.Goals as goal
 
 -- with one more of the same span on each side, they cover the same

@@ -1,5 +1,5 @@
 use Rattle.std.proofs.Common.{◌≡◌, ℤ, length}
-use Rattle.adr_stretch.specs.Grouped.{any_covers_at}
+use Rattle.adr_lines.specs.Grouped.{any_covers_at}
 use Rattle.adr_group.proofs.windows.have_same_spans.Given as goal
 
 -- where those that are left cover the same, all do

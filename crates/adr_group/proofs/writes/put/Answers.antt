@@ -1,6 +1,6 @@
 use Rattle.std.proofs.Common.{ap, sym, ◌∙◌, ◌||◌}
 use Rattle.std.specs.Prelude.{is_ok}
-use Rattle.adr_stretch.specs.Right.{has_number}
+use Rattle.adr_lines.specs.Right.{has_number}
 use Rattle.adr_group.specs.Writes.{is_number}
 use Rattle.adr_group.proofs.Numbers.{put_rises, put_has, found_has, there_has}
 use Rattle.adr_group.proofs.writes.put.Goals as goal

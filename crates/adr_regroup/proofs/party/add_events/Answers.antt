@@ -1,6 +1,6 @@
 use Rattle.std.proofs.Common.{◌+◌, ◌*◌, ◌++◌, length, map, arith}
 use Rattle.adr_model.specs.Rank.{ranked}
-use Rattle.adr_stretch.specs.Grouped.{entries_under}
+use Rattle.adr_lines.specs.Grouped.{entries_under}
 use Rattle.adr_group.specs.Repair.{most_possible, most_repaired}
 use Rattle.adr_regroup.specs.Compared.{cost_but}
 use Rattle.adr_regroup.specs.Party.{entries_but}

@@ -1,6 +1,6 @@
 use Rattle.std.proofs.Common.{◌≡◌, ◌≤◌, ◌<◌, ◌+◌, ◌*◌, ◌^◌, ℕ, length, ap, sym, subst, ◌∙◌, arith}
 use Rattle.std.proofs.lemmas.Result.{IfOk-weaker}
-use Rattle.adr_stretch.specs.Grouped.{entries_under}
+use Rattle.adr_lines.specs.Grouped.{entries_under}
 use Rattle.adr_group.specs.Group.{AreWindowsOf, Lines}
 use Rattle.adr_group.specs.Repair.{most_possible, most_repaired}
 use Rattle.adr_schedule.proofs.Seated.{none_is_some, some_same}

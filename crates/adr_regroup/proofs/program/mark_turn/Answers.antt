@@ -1,6 +1,6 @@
 use Rattle.std.proofs.Common.{◌≡◌, [], ℕ, List, ap, subst, sym, ◌∙◌}
 use Rattle.std.specs.Option.{option_copied}
-use Rattle.adr_stretch.specs.Grouped.{written_event}
+use Rattle.adr_lines.specs.Grouped.{written_event}
 use Rattle.adr_model.proofs.Lists.{same_bytes}
 use Rattle.adr_regroup.specs.Program.{IsMarking}
 use Rattle.adr_regroup.proofs.Programs.{apart_of, event_is, same_of}

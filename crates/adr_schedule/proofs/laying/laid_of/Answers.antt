@@ -1,5 +1,5 @@
 use Rattle.std.proofs.Common.{◌≡◌, true, false, None, Some, Ok, ap, sym, subst, ◌∙◌, arith}
-use Rattle.adr_stretch.specs.Counted.{entries_in_groups}
+use Rattle.adr_lines.specs.Counted.{entries_in_groups}
 use Rattle.adr_group.specs.Laid.{are_runs}
 use Rattle.adr_schedule.specs.Shift.{kept_side}
 use Rattle.adr_schedule.proofs.Laid.{laid_least, laid_made, laid_within}

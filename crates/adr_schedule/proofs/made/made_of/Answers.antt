@@ -1,6 +1,6 @@
 use Rattle.std.proofs.Common.{ap, sym, subst, ◌∙◌}
 use Rattle.std.specs.List.{AllZip}
-use Rattle.adr_stretch.specs.Grouped.{entries_under}
+use Rattle.adr_lines.specs.Grouped.{entries_under}
 use Rattle.adr_group.specs.Group.{AreWindowsOf}
 use Rattle.adr_group.specs.Jobs.{jobs_for, IsDone}
 use Rattle.adr_schedule.proofs.made.made_of.Goals as goal

@@ -1,7 +1,7 @@
 use Rattle.std.proofs.Common.{rules, ◌∙◌, sym, subst, arith, ℕ}
 use Rattle.std.specs.Arc.{arc_value}
 use Rattle.left_right.specs.Sides.{view as known}
-use Rattle.adr_diary.specs.History.{HasLast}
+use Rattle.adr_board.specs.History.{HasLast}
 use Rattle.adr_board.proofs.Following.{opened_last, opened_objects}
 use Rattle.adr_board.proofs.board.Board.over.Goals as goal
 

@@ -3,7 +3,7 @@ use Rattle.std.specs.Arc.{arc_value}
 use Rattle.left_right.specs.Sides.{view as known}
 use Rattle.adr_model.specs.Edits.{after_from}
 use Rattle.adr_book.specs.Ledger.{Ledger, journal_of, sealed_of}
-use Rattle.adr_diary.proofs.Histories.{after_refused, after_shown}
+use Rattle.adr_board.proofs.Histories.{after_refused, after_shown}
 use Rattle.adr_board.specs.declared.shown.Showing.{Showing}
 use Rattle.adr_board.specs.Rules.{publication_in, showing}
 use Rattle.adr_snapshot.specs.Types.{HasPrivateNames}

@@ -1,5 +1,5 @@
 use Rattle.std.proofs.Common.{ℕ, subst}
-use Rattle.adr_diary.specs.History.{HasLast}
+use Rattle.adr_board.specs.History.{HasLast}
 use Rattle.adr_board.proofs.board.Editor.tell.Goals as goal
 
 pub invariant_of-result : goal.invariant_of-result

@@ -2,8 +2,8 @@ use Rattle.std.proofs.Common.{◌∙◌, List, rules, subst, sym}
 use Rattle.left_right.specs.Sides.{view as known}
 use mathlib.Core.List.{IsPrefix}
 use Rattle.adr_model.specs.Machine.{Publication}
-use Rattle.adr_diary.specs.History.{seen_by}
-use Rattle.adr_diary.proofs.Prefixes.{prefix_self}
+use Rattle.adr_board.specs.History.{seen_by}
+use Rattle.adr_board.proofs.Prefixes.{prefix_self}
 use Rattle.adr_board.proofs.Sights.{either_way, grown, longer, refused, shared_last, taken}
 use Rattle.adr_board.proofs.board.Reader.look.Goals as goal
 

@@ -1,8 +1,8 @@
 use Rattle.std.proofs.Common.{◌≡◌, ◌<◌, ap, subst, arith, List}
 use Rattle.std.proofs.lemmas.Bool.Decides.{nat_tests}
 use mathlib.Core.List.{IsPrefix}
-use Rattle.adr_diary.specs.declared.diary.Entry.{Entry}
-use Rattle.adr_diary.proofs.Histories.{begins_later, begins_same}
+use Rattle.adr_board.specs.declared.diary.Entry.{Entry}
+use Rattle.adr_board.proofs.Histories.{begins_later, begins_same}
 use Rattle.adr_board.proofs.board.Told.begins.Goals as goal
 
 pub returns-then-self-sight : goal.returns-then-self-sight

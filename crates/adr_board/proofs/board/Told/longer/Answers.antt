@@ -1,7 +1,7 @@
 use Rattle.std.proofs.Common.{◌≤◌, ap, subst, arith, List}
 use mathlib.Core.List.{IsPrefix}
-use Rattle.adr_diary.specs.declared.diary.Entry.{Entry}
-use Rattle.adr_diary.proofs.Histories.{lasts_meet}
+use Rattle.adr_board.specs.declared.diary.Entry.{Entry}
+use Rattle.adr_board.proofs.Histories.{lasts_meet}
 use Rattle.adr_board.proofs.board.Told.longer.Goals as goal
 
 pub returns-then-self-other-clause-this : goal.returns-then-self-other-clause-this

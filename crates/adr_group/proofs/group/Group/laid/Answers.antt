@@ -1,8 +1,8 @@
 use Rattle.std.proofs.Common.{ap, subst, sym, ◌∙◌}
 use Rattle.std.specs.Prelude.{IfSome}
 use Rattle.std.specs.List.{AllZip}
-use Rattle.adr_stretch.specs.Grouped.{entries_under}
-use Rattle.adr_stretch.specs.Right.{among, winner_under}
+use Rattle.adr_lines.specs.Grouped.{entries_under}
+use Rattle.adr_lines.specs.Right.{among, winner_under}
 use Rattle.adr_group.specs.Group.{shown_in, Lines}
 use Rattle.adr_group.specs.Laid.{least_shown, IsMet}
 use Rattle.adr_group.proofs.Joining.{laid_right, met_runs}

@@ -1,7 +1,7 @@
 use Rattle.std.proofs.Common.{◌≡◌, ℤ, ◌++◌, if◌then◌else◌, ap, sym, ◌∙◌, arith}
 use Rattle.adr_value.specs.declared.payload.PayloadType.{PayloadType}
-use Rattle.adr_stretch.specs.Grouped.{any_covers_at, entries_under}
-use Rattle.adr_stretch.specs.Right.{among, winner_under}
+use Rattle.adr_lines.specs.Grouped.{any_covers_at, entries_under}
+use Rattle.adr_lines.specs.Right.{among, winner_under}
 use Rattle.adr_group.specs.Group.{shown_in, Lines}
 use Rattle.adr_group.proofs.Turns.{both_repaired, most_both, wins}
 use Rattle.adr_group.proofs.Rights.{repaired_moves, repaired_right}

@@ -1,6 +1,6 @@
 use Rattle.std.proofs.Common.{if◌then◌else◌, ap, sym, ◌∙◌}
-use Rattle.adr_stretch.specs.Grouped.{any_covers_at, entries_under}
-use Rattle.adr_stretch.specs.Right.{among, winner_under}
+use Rattle.adr_lines.specs.Grouped.{any_covers_at, entries_under}
+use Rattle.adr_lines.specs.Right.{among, winner_under}
 use Rattle.adr_group.specs.Group.{shown_in, Lines}
 use Rattle.adr_group.proofs.Turns.{wins}
 use Rattle.adr_group.proofs.Rights.{repaired_right}

@@ -1,7 +1,7 @@
 use Rattle.std.proofs.Common.{rules, of_calls, ap, ◌∙◌}
 use Rattle.std.proofs.lemmas.Fn.{filter_same}
 use Rattle.std.specs.Option.{option_copied}
-use Rattle.adr_stretch.specs.Right.{has_number, written_in}
+use Rattle.adr_lines.specs.Right.{has_number, written_in}
 use Rattle.adr_group.specs.Repair.{indexed}
 use Rattle.adr_group.proofs.Seen.{written_meeting}
 use Rattle.adr_group.proofs.line.GivenSource.meeting.Goals as goal

@@ -1,5 +1,5 @@
 use Rattle.std.proofs.Common.{ap, ◌∙◌}
-use Rattle.adr_stretch.specs.Right.{has_number}
+use Rattle.adr_lines.specs.Right.{has_number}
 use Rattle.adr_group.proofs.Numbers.{found_has}
 use Rattle.adr_group.proofs.writes.Writes.has.Goals as goal
 

@@ -1,7 +1,7 @@
 use Rattle.std.proofs.Common.{List, ◌∙◌, ap}
 use Rattle.adr_model.specs.declared.entry.Entry.{Entry}
 use Rattle.adr_index.specs.Index.{inserted_all}
-use Rattle.adr_stretch.specs.Grouped.{entries_under}
+use Rattle.adr_lines.specs.Grouped.{entries_under}
 use Rattle.adr_lines.proofs.indexes.Indexes.exchange.Goals as goal
 
 pub put_all-requires-clause-fresh : goal.put_all-requires-clause-fresh

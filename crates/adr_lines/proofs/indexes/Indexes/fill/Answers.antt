@@ -5,7 +5,7 @@ use Rattle.std.specs.String.{string_bytes}
 use Rattle.adr_value.specs.Payload.{name_of}
 use Rattle.adr_model.specs.declared.entry.Entry.{Entry}
 use Rattle.adr_index.proofs.Sorted.{distinct_permuted}
-use Rattle.adr_stretch.specs.Right.{HaveSame}
+use Rattle.adr_lines.specs.Right.{HaveSame}
 use Rattle.adr_lines.proofs.Distinct.{distinct_either}
 use Rattle.adr_lines.proofs.Filled.{same_permuted}
 use Rattle.adr_lines.proofs.Put.{entries_at, entries_put}

@@ -1,7 +1,7 @@
 use Rattle.std.proofs.Common.{rules, ◌≡◌, [], subst, List}
 use Rattle.std.specs.Vec.Iter.{into_iter_items}
 use Rattle.std.proofs.lemmas.List.{nil_from_length}
-use Rattle.adr_stretch.specs.declared.grouped.TypeEntries.{TypeEntries}
+use Rattle.adr_lines.specs.declared.grouped.TypeEntries.{TypeEntries}
 use Rattle.adr_lines.proofs.Filled.{all_filled, next_distinct, next_filled, none_filled, AreFilled}
 use Rattle.adr_lines.proofs.indexes.Indexes.of.Goals as goal
 

@@ -1,7 +1,7 @@
 use Rattle.std.proofs.Common.{◌≡◌, ◌≤◌, ◌+◌, ◌∙◌, ap, sym, subst, arith, length, List}
 use Rattle.adr_index.specs.Index.{inserted_all, AreNew}
-use Rattle.adr_stretch.specs.declared.grouped.TypeEntries.{TypeEntries}
-use Rattle.adr_stretch.specs.Grouped.{entries_under}
+use Rattle.adr_lines.specs.declared.grouped.TypeEntries.{TypeEntries}
+use Rattle.adr_lines.specs.Grouped.{entries_under}
 use Rattle.adr_lines.specs.Indexes.{own_entries, spare_under, under}
 use Rattle.adr_lines.proofs.Turns.{fresh_here, fresh_turn, length_turn, put_turn, room_here}
 use Rattle.adr_lines.proofs.indexes.Indexes.put_all.Goals as goal

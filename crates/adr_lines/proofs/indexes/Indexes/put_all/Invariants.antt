@@ -2,7 +2,7 @@ use Rattle.std.proofs.Common.{◌≡◌, ◌+◌, ◌≤◌, length}
 use Rattle.adr_value.specs.declared.payload.PayloadType.{PayloadType}
 use Rattle.adr_index.specs.Index.{inserted_all, AreNew}
 use Rattle.adr_lines.specs.Indexes.{spare_under, under}
-use Rattle.adr_stretch.specs.Grouped.{entries_under}
+use Rattle.adr_lines.specs.Grouped.{entries_under}
 use Rattle.adr_lines.proofs.indexes.Indexes.put_all.Given as goal
 
 -- what is left adds the rest, and takes the rest of the room

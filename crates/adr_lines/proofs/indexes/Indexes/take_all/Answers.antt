@@ -1,7 +1,7 @@
 use Rattle.std.proofs.Common.{◌∙◌, ap, sym, arith, List}
 use Rattle.adr_index.specs.Index.{others_all}
-use Rattle.adr_stretch.specs.declared.grouped.TypeEntries.{TypeEntries}
-use Rattle.adr_stretch.specs.Grouped.{entries_under}
+use Rattle.adr_lines.specs.declared.grouped.TypeEntries.{TypeEntries}
+use Rattle.adr_lines.specs.Grouped.{entries_under}
 use Rattle.adr_lines.specs.Indexes.{under}
 use Rattle.adr_lines.proofs.Turns.{taken_turn}
 use Rattle.adr_lines.proofs.indexes.Indexes.take_all.Goals as goal

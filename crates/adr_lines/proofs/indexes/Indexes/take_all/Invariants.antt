@@ -2,7 +2,7 @@ use Rattle.std.proofs.Common.{◌≡◌, ◌≤◌, length}
 use Rattle.adr_value.specs.declared.payload.PayloadType.{PayloadType}
 use Rattle.adr_index.specs.Index.{others_all}
 use Rattle.adr_lines.specs.Indexes.{spare_under, under}
-use Rattle.adr_stretch.specs.Grouped.{entries_under}
+use Rattle.adr_lines.specs.Grouped.{entries_under}
 use Rattle.adr_lines.proofs.indexes.Indexes.take_all.Given as goal
 
 -- what is left takes out the rest

@@ -2,7 +2,7 @@ use Rattle.std.proofs.Common.{◌≡◌, ap, sym, subst, ◌∙◌, is_some, sli
 use Rattle.std.specs.Option.{option_copied}
 use Rattle.adr_book.specs.Ledger.{Ledger}
 use Rattle.adr_model.specs.Book.{resource_by}
-use Rattle.adr_resolution.proofs.Governed.{no_resource}
+use Rattle.adr_schedule.proofs.Governed.{no_resource}
 use Rattle.adr_snapshot.proofs.Told.{group_tells}
 use Rattle.adr_snapshot.proofs.snapshot.Snapshot.group.Goals as goal
 

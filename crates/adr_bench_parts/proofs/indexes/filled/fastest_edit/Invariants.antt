@@ -1,6 +1,0 @@
-use Rattle.std.proofs.Common.{◌+◌, ◌*◌}
-use Rattle.adr_bench_parts.specs.Numbers.{AreBelow}
-use Rattle.adr_bench_parts.proofs.indexes.filled.fastest_edit.Given as goal
-
-abbrev pub invariant-loop-time : goal.invariant-loop-time
-invariant-loop-time g l = AreBelow (l.count + 16 * l.time) l.index.entries

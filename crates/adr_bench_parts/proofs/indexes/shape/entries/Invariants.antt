@@ -1,9 +1,0 @@
-use Rattle.std.proofs.Common.{◌≡◌, length}
-use Rattle.adr_bench_parts.specs.Numbers.{AreRising}
-use Rattle.adr_bench_parts.proofs.indexes.shape.entries.Given as goal
-
-abbrev pub invariant-loop-place : goal.invariant-loop-place
-invariant-loop-place l = record {
-  rising : AreRising l.first l.entries.items;
-  length : length l.entries.items ≡ l.place;
-}

@@ -1,8 +1,0 @@
-use Rattle.std.proofs.Common.{All}
-use Rattle.adr_board.specs.Replay.{NamesReader}
-use Rattle.adr_board_tests.specs.declared.steps.TheConstants.{READERS}
-use Rattle.adr_board_tests.proofs.steps.steps_of.Given as goal
-
--- no step so far is of another reader
-abbrev pub invariant-loop-line : goal.invariant-loop-line
-invariant-loop-line l = All (NamesReader READERS) l.steps.items

@@ -1,0 +1,138 @@
+//! Questions of a publication.
+use crate::calls::name_question;
+use crate::same::are_same;
+use adr_calendar::{at, list, roll, types};
+use adr_object::Id;
+use adr_snapshot::Snapshot;
+use adr_test_values::lines::word;
+use adr_test_values::telling::{tell_refused, told};
+use adr_time::{Moment, read_moment};
+use adr_value::{PayloadType, Refusal};
+use std::alloc::Global;
+use std::io;
+
+/// `at ID MOMENT`, `list ID FROM TO`, `roll MOMENT` or `types ID`, of prices.
+#[derive(Drop)]
+enum Question {
+    At(Id, Moment),
+    List(Id, Moment, Moment),
+    Roll(Moment),
+    Types(Id),
+}
+
+fn at_of(alloc: Global, line: &str) -> Result<Question, Refusal> {
+    let (id, moment) = word(line);
+    let moment = read_moment(moment)?;
+    Ok(Question::At(Id::read(alloc, id)?, moment))
+}
+
+fn list_of(alloc: Global, line: &str) -> Result<Question, Refusal> {
+    let (id, line) = word(line);
+    let (from, to) = word(line);
+    let from = read_moment(from)?;
+    let to = read_moment(to)?;
+    Ok(Question::List(Id::read(alloc, id)?, from, to))
+}
+
+fn question_of(alloc: Global, line: &str) -> Result<Question, Refusal> {
+    let (first, line) = word(line);
+    match first {
+        "at" => at_of(alloc, line),
+        "list" => list_of(alloc, line),
+        "roll" => Ok(Question::Roll(read_moment(line)?)),
+        "types" => Ok(Question::Types(Id::read(alloc, line)?)),
+        _ => Err(Refusal::BadLine),
+    }
+}
+
+fn ask(alloc: Global, snapshot: &Snapshot, question: &Question) -> Result<Vec<u8>, Refusal> {
+    let price = PayloadType::Price;
+    let answer = match question {
+        Question::At(id, moment) => at(alloc, snapshot, id, &price, *moment),
+        Question::List(id, from, to) => list(alloc, snapshot, id, &price, *from, *to),
+        Question::Roll(moment) => roll(alloc, snapshot, &price, *moment),
+        Question::Types(id) => types(alloc, snapshot, id),
+    };
+    drop(price);
+    answer
+}
+
+/// The lines of the answer.
+fn tell_lines<R: Print>(rt: &R, text: &str) -> io::Result<()> {
+    for line in text.lines() {
+        println!(rt; "  ordinary: {line}")?;
+    }
+    Ok(())
+}
+
+fn tell_bytes<R: Print>(rt: &R, bytes: &[u8]) -> io::Result<()> {
+    tell_lines(rt, str::from_utf8(bytes).unwrap_or("no text"))
+}
+
+fn tell_answer<R: Print>(rt: &R, answer: Result<Vec<u8>, Refusal>) -> io::Result<()> {
+    match answer {
+        Ok(bytes) => {
+            let lines = tell_bytes(rt, bytes.as_slice());
+            drop(bytes);
+            lines
+        }
+        Err(refusal) => println!(rt; "  ordinary: {refusal}"),
+    }
+}
+
+fn try_question<R: AllocGlobal + Print>(
+    rt: &R,
+    snapshot: &Snapshot,
+    twin: &Snapshot,
+    question: &Question,
+    line: &str,
+) -> io::Result<()> {
+    let (first, rest) = word(line);
+    name_question(rt, first, snapshot.number(), rest)?;
+    match ask(rt.alloc(), snapshot, question) {
+        Err(Refusal::NoMemory) => {
+            tell_refused(rt, are_same(snapshot, twin))?;
+            tell_answer(rt, ask(rt.alloc(), snapshot, question))
+        }
+        answer => tell_answer(rt, answer),
+    }
+}
+
+fn try_beside<R: AllocGlobal + Print>(
+    rt: &R,
+    snapshot: &Snapshot,
+    question: &Question,
+    line: &str,
+) -> io::Result<()> {
+    let twin = told(snapshot.copy())?;
+    let tried = try_question(rt, snapshot, &twin, question, line);
+    drop(twin);
+    tried
+}
+
+/// Asks the publication the question of the line.
+pub(crate) fn try_ask<R: AllocGlobal + Print>(
+    rt: &R,
+    snapshot: &Snapshot,
+    line: &str,
+) -> io::Result<()> {
+    let question = told(question_of(rt.alloc(), line))?;
+    let tried = try_beside(rt, snapshot, &question, line);
+    drop(question);
+    tried
+}
+
+/// Asks the publication who governs at `ID MOMENT`, again where the first answer had no memory.
+pub(crate) fn tell_at<R: AllocGlobal + Print>(
+    rt: &R,
+    snapshot: &Snapshot,
+    line: &str,
+) -> io::Result<()> {
+    let question = told(at_of(rt.alloc(), line))?;
+    let answer = match ask(rt.alloc(), snapshot, &question) {
+        Err(Refusal::NoMemory) => ask(rt.alloc(), snapshot, &question),
+        answer => answer,
+    };
+    drop(question);
+    tell_answer(rt, answer)
+}

@@ -1,0 +1,118 @@
+//! Steps that are replayed.
+ghost use Rattle.std.specs.Prelude.{◌<◌, All, IfOk, OnOk};
+ghost use Rattle.adr_board.specs.Replay.{NamesReader};
+
+use crate::board::asking::tell_at;
+use crate::board::opening::READERS;
+use adr_board::{Shown, Step, replay};
+use adr_model::Tie;
+use adr_snapshot::Snapshot;
+use adr_test_values::lines::{edit, word};
+use adr_test_values::telling::told;
+use adr_value::Refusal;
+use std::alloc::Global;
+use std::io;
+use std::sync::Wait;
+
+/// The place of a reader, if there is such a reader.
+fn reader(word: &str) -> Result<usize, Refusal>
+    ensures { IfOk result (λ place. place < READERS) }
+{
+    let place = word.parse::<usize>().unwrap_or(READERS);
+    if place < READERS {
+        Ok(place)
+    } else {
+        Err(Refusal::BadLine)
+    }
+}
+
+/// The step of a line.
+fn step_of(alloc: Global, line: &str) -> Result<Step, Refusal>
+    ensures { IfOk result (NamesReader READERS) }
+{
+    let (first, rest) = word(line);
+    match first {
+        "publish" => Ok(Step::Publish),
+        "condense" => Ok(Step::Condense),
+        "tell" => Ok(Step::Tell(reader(rest)?)),
+        "look" => Ok(Step::Look(reader(rest)?)),
+        _ => Ok(Step::Edit(edit(alloc, line)?)),
+    }
+}
+
+/// Adds the step of the line.
+#[tactic(auto, using(crate::proofs::Stepping::one_more))]
+fn add_step(alloc: Global, line: &str, steps: &mut Vec<Step>) -> Result<(), Refusal>
+    requires { All (NamesReader READERS) steps.old.items }
+    ensures { OnOk result (All (NamesReader READERS) steps.new.items) }
+{
+    let step = step_of(alloc, line)?;
+    steps.push(step)?;
+    Ok(())
+}
+
+/// The steps of the lines.
+fn steps_of(alloc: Global, lines: &str) -> Result<Vec<Step>, Refusal>
+    ensures { IfOk result (λ steps. All (NamesReader READERS) steps.items) }
+{
+    let mut steps = Vec::new(alloc);
+    for line in lines.lines() {
+        add_step(alloc, line, &mut steps)?;
+    }
+    Ok(steps)
+}
+
+/// Replays the steps of the lines.
+fn replayed<R: AllocGlobal + Wait>(rt: &R, lines: &str) -> Result<Vec<Shown>, Refusal> {
+    let steps = steps_of(rt.alloc(), lines)?;
+    replay(rt.alloc(), rt, READERS, Tie::Newest, steps)
+}
+
+/// The number of the snapshot, and what it answers of the price of `r1` in the first half hour of 2024.
+fn tell_seen<R: AllocGlobal + Print>(rt: &R, snapshot: &Snapshot) -> io::Result<()> {
+    println!(rt; "  ordinary: seen {}", snapshot.number())?;
+    tell_at(rt, snapshot, "r1 2024-01-01T00:30:00Z")
+}
+
+fn tell_shown<R: AllocGlobal + Print>(rt: &R, shown: &Shown) -> io::Result<()> {
+    match shown {
+        Shown::Done(version) => println!(rt; "  ordinary: done {version}"),
+        Shown::Refused(refusal) => println!(rt; "  ordinary: refused {refusal}"),
+        Shown::Published(published) => println!(rt;
+            "  ordinary: published {} version {}",
+            published.number, published.version
+        ),
+        Shown::Told => println!(rt; "  ordinary: told"),
+        Shown::Condensed(version) => println!(rt; "  ordinary: condensed {version}"),
+        Shown::Seen(snapshot) => tell_seen(rt, &**snapshot),
+    }
+}
+
+fn tell_all<R: AllocGlobal + Print>(rt: &R, shown: &[Shown]) -> io::Result<()> {
+    for shown in shown {
+        tell_shown(rt, shown)?;
+    }
+    Ok(())
+}
+
+fn tell_replayed<R: AllocGlobal + Print>(
+    rt: &R,
+    answer: Result<Vec<Shown>, Refusal>,
+) -> io::Result<()> {
+    let shown = told(answer)?;
+    let all = tell_all(rt, shown.as_slice());
+    drop(shown);
+    all
+}
+
+/// Replays the steps of the lines: edits, `publish`, `condense`, `tell READER` and `look READER`.
+pub(crate) fn try_replay<R: AllocGlobal + Print + Wait>(rt: &R, lines: &str) -> io::Result<()> {
+    println!(rt; "replay: version 0")?;
+    match replayed(rt, lines) {
+        Err(Refusal::NoMemory) => {
+            println!(rt; "  refused")?;
+            tell_replayed(rt, replayed(rt, lines))
+        }
+        answer => tell_replayed(rt, answer),
+    }
+}

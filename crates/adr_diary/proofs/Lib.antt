@@ -1,4 +1,0 @@
-pub mod Prefixes
-pub mod Linked
-pub mod Turns
-pub mod Histories

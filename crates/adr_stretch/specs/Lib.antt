@@ -1,4 +1,0 @@
-pub mod Counted
-pub mod Grouped
-pub mod Laws
-pub mod Right

@@ -1,0 +1,9 @@
+use Rattle.std.proofs.Common.{length, refl}
+use Rattle.adr_trials.proofs.Rising.{below_permuted, rising_distinct}
+use Rattle.adr_trials.proofs.indexes.filled.index_of.Goals as goal
+
+pub filled-requires : goal.filled-requires
+filled-requires c = rw c.in_ok-copy.ensures.items (rising_distinct 0 c.args.entries.now c.requires)
+
+pub returns : goal.returns
+returns c = below_permuted (length c.args.entries.now) c.args.entries.now c.in_ok-index.index.entries c.requires refl (rw c.in_ok-copy.ensures.items at c.in_ok-index.ensures)
