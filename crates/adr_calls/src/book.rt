@@ -2,7 +2,7 @@
 ghost use Rattle.std.specs.Prelude.{◌≡◌, IfOk};
 ghost use Rattle.adr_book.specs.Ledger.{sealed_of};
 
-use adr_book::{Book, judge};
+use adr_book::{Book, Journal, judge};
 use adr_object::Edit;
 use adr_refusal::Refusal;
 use adr_test_values::lines::edit;
@@ -139,7 +139,17 @@ fn try_seal<R: Print>(rt: &R, books: &mut Books) -> io::Result<()> {
     }
     tell_ordinary(rt, answer)?;
     told(seal(&mut books.twin))?;
-    tell_same(rt, books.are_same())
+    tell_same(rt, books.are_same())?;
+    tell_batches(rt, books.book.journal())
+}
+
+/// Prints how many closed batches there are, and how many edits the open one has.
+fn tell_batches(rt: &impl Print, journal: &Journal) -> io::Result<()> {
+    println!(rt;
+        "  closed {}, open {}",
+        journal.closed().len(),
+        journal.pending().len()
+    )
 }
 
 /// Copies the book: the copy's version, and whether it is as the twin.

@@ -1,5 +1,5 @@
 //! What the receipts of edits tell.
-use adr_desk::{Desk, NoGate, Receipt};
+use adr_desk::{Desk, EditTouches, NoGate, Receipt, Touched};
 use adr_model::{Tie, Touch};
 use adr_test_values::bodies::any_edit;
 use adr_test_values::lines::word;
@@ -9,6 +9,9 @@ use adr_value::Refusal;
 use std::alloc::{AllocError, Global};
 use std::io;
 use std::thread::Threads;
+
+/// How many resources a desk of the lines has at most.
+const MOST_RESOURCES: usize = 16;
 
 /// What a receipt tells: a line for each touch, and how many ranks were compared.
 #[derive(Drop, PartialEq)]
@@ -53,19 +56,44 @@ fn add_touch(alloc: Global, text: &mut String, touch: &Touch) -> Result<(), Allo
     text.push('\n')
 }
 
-fn touches_text(alloc: Global, touches: &[Touch]) -> Result<String, Refusal> {
-    let mut text = String::new(alloc);
+fn add_touches(alloc: Global, text: &mut String, touches: &[Touch]) -> Result<(), AllocError> {
     for touch in touches {
-        add_touch(alloc, &mut text, touch)?;
+        add_touch(alloc, text, touch)?;
     }
+    Ok(())
+}
+
+/// The touches, listed at once.
+fn text_of(alloc: Global, touched: &Touched) -> Result<String, Refusal> {
+    let mut text = String::new(alloc);
+    let touches = touched.to_vec(alloc)?;
+    let added = add_touches(alloc, &mut text, touches.as_slice());
+    drop(touches);
+    added?;
     Ok(text)
 }
 
-fn text_of(alloc: Global, receipt: &Receipt) -> Result<String, Refusal> {
-    let touches = receipt.touched.to_vec(alloc)?;
-    let text = touches_text(alloc, touches.as_slice());
+/// Adds the touches of the next resource, if there is one.
+fn add_next(alloc: Global, text: &mut String, left: &mut EditTouches) -> Result<bool, Refusal> {
+    let Some(touches) = left.next_resource()? else {
+        return Ok(false);
+    };
+    let added = add_touches(alloc, text, touches.as_slice());
     drop(touches);
-    text
+    added?;
+    Ok(true)
+}
+
+/// The touches, listed resource by resource.
+fn text_by_resource(alloc: Global, touched: &Touched) -> Result<String, Refusal> {
+    let mut text = String::new(alloc);
+    let mut left = touched.by_resource(alloc)?;
+    for _ in 0..MOST_RESOURCES {
+        if !add_next(alloc, &mut text, &mut left)? {
+            return Ok(text);
+        }
+    }
+    Err(Refusal::TooMany)
 }
 
 /// Makes the edit of the line by so many workers, or by `apply` where there are none.
@@ -83,6 +111,7 @@ fn apply<R: Threads + Sync>(
     }
 }
 
+/// What is told of the edit; of workers' receipts the touches are listed resource by resource.
 fn receipt_of<R: Threads + Sync>(
     rt: &R,
     alloc: Global,
@@ -91,7 +120,10 @@ fn receipt_of<R: Threads + Sync>(
     line: &str,
 ) -> Result<Told, Refusal> {
     let receipt = apply(rt, alloc, desk, workers, line)?;
-    let touches = text_of(alloc, &receipt);
+    let touches = match workers {
+        0 => text_of(alloc, &receipt.touched),
+        _ => text_by_resource(alloc, &receipt.touched),
+    };
     let compares = receipt.compares;
     drop(receipt);
     Ok(Told {

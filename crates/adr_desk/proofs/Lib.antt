@@ -1,6 +1,5 @@
 pub mod Costs
 pub mod Edited
-pub mod Eventless
 pub mod Joining
 pub mod Laid
 pub mod LastKind

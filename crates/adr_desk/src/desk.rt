@@ -14,7 +14,6 @@ ghost use Rattle.adr_book.specs.Ledger.{sealed_of};
 ghost use Rattle.adr_regroup.specs.Compared.{most_compared_in};
 ghost use Rattle.adr_bulk.specs.Loaded.{accepted_of, answers_to, objects_after};
 
-use crate::empty::without_events;
 use crate::make::{Made, make};
 use crate::receipt::Receipt;
 use adr_audience::Audiences;
@@ -84,24 +83,6 @@ impl Desk {
         Ok(Desk {
             resolution: Resolution::of(tie, Book::new(alloc), schedule),
             keys: Audiences::new(alloc),
-            indexes: Indexes::new(alloc),
-            alloc,
-        })
-    }
-
-    /// The desk of a book that has no events yet, with the programs, vens and resources that it has. `NoMemory` where
-    /// there is no room. Cost: the keys of all resources; they share one group.
-    pub fn over(alloc: Global, tie: Tie, book: Book) -> Result<Desk, Refusal>
-        requires { book.objects.events ≡ [] }
-        ensures tie { IfOk result (λ desk. desk.tie ≡ tie) }
-        ensures book { IfOk result (λ desk. desk.book ≡ book) }
-        ensures refusal { OnlyNoMemory result }
-    {
-        let keys = Audiences::of(alloc, book.objects())?;
-        let resolution = without_events(alloc, tie, book)?;
-        Ok(Desk {
-            resolution,
-            keys,
             indexes: Indexes::new(alloc),
             alloc,
         })

@@ -4,7 +4,6 @@
 
 mod accepted;
 mod desk;
-mod empty;
 mod events;
 mod kinds;
 mod laws;

@@ -1,9 +1,7 @@
 #![tactic(auto)]
 //! Tests of what no script shows, by what public functions answer: numbers, moments and bodies behind the shield, seats, the
-//! index and the timeline, copies of objects and of a book.
+//! index and the timeline, copies of objects.
 
-#[cfg(test)]
-mod book;
 #[cfg(test)]
 mod decimals;
 #[cfg(test)]

@@ -1,7 +1,6 @@
-//! Edits from lines with bodies, and rows of touches. An object of a line is read from its body, so that it has
-//! all that a body may hold.
+//! Edits from lines with bodies. An object of a line is read from its body, so that it has all that a body may hold.
+mod events;
 mod reading;
-mod touches;
 
+pub use events::any_edit;
 pub use reading::{edit, kind_of, object, shared, word};
-pub use touches::{any_edit, are_touches};

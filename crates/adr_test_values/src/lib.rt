@@ -1,11 +1,8 @@
 #![tactic(auto)]
-//! What tests and measurements share: edits from short lines and from lines with bodies, rows of touches,
-//! whether two values are the same by all that their look-ups tell, and what is told of a call.
+//! What tests and measurements share: edits from short lines and from lines with bodies, whether two values are the same by
+//! all that their look-ups tell, and what is told of a call.
 
 pub mod bodies;
 pub mod lines;
-mod random;
 pub mod same;
 pub mod telling;
-
-pub use random::{next, pick};

@@ -1,11 +1,11 @@
 -- Entries laid over what is shown.
 use Rattle.std.proofs.Common.{◌≡◌, ℕ, ◌+◌, ◌*◌, ◌<◌, ◌≤◌, ◌&&◌, ◌||◌, not, Bool, true, false, List, [], ◌∷◌, ◌++◌, map, length, drop, get_or, Option, Some, None, if◌then◌else◌, inl, inr, refl, sym, ◌∙◌, ap, arith, ℤ, int_le}
 use Rattle.std.specs.Option.{option_map}
-use Rattle.std.specs.Int.{int_max, int_min}
+use Rattle.std.specs.Int.{int_min}
 use Rattle.std.proofs.lemmas.Int.{ints}
 use Rattle.std.proofs.lemmas.Bool.{false≢true, and_parts, cases_Bool}
 use Rattle.std.proofs.lemmas.List.{append_assoc, drop_more}
-use Rattle.adr_time.specs.Spans.{covers, earlier_end, is_before, later_end, meets, spanned}
+use Rattle.adr_time.specs.Spans.{covers, is_before, later_end, spanned}
 use Rattle.adr_time.specs.declared.span.End.{End}
 use Rattle.adr_time.specs.declared.span.End.TheVariants.{At, Endless}
 use Rattle.adr_time.specs.declared.span.Span.{Span}
@@ -16,13 +16,13 @@ use Rattle.adr_model.specs.declared.timeline.Segment.{Segment}
 use Rattle.adr_model.specs.Governor.{winner_at}
 use Rattle.adr_model.specs.Timeline.{shows, span_of, IsCanonical}
 use Rattle.adr_timeline.specs.declared.step.Step.{Step}
-use Rattle.adr_timeline.specs.Parts.{part, joined, joined_all, leads_to, trimmed}
+use Rattle.adr_timeline.specs.Parts.{part, joined_all}
 use Rattle.adr_timeline.specs.Chunks.{listed}
-use Rattle.adr_timeline.specs.Overlay.{hull_with, hull, most_laid, most_merged, segments_in, shown_entry, spans_of, IsMetBy}
+use Rattle.adr_timeline.specs.Overlay.{hull_with, hull, shown_entry, spans_of, IsMetBy}
 use Rattle.adr_timeline.specs.Windows.{any_covers, are_apart, is_followed_by}
 use Rattle.adr_timeline.specs.Steps.{IsInOrder, is_run, starts_from, steps_of, steps_in_turn, lesser, pieces, rank_at, rank_from, rises, winner_of_rank}
-use Rattle.adr_timeline.proofs.Canonical.{none_before, starts_end, after_endless, canonical_is_unique}
-use Rattle.adr_timeline.proofs.Pieces.{clip_made, clipped_as}
+use Rattle.adr_timeline.proofs.Canonical.{none_before, starts_end, after_endless}
+use Rattle.adr_timeline.proofs.Pieces.{clip_made}
 use Rattle.adr_timeline.proofs.Least.{lesser_none, rank_cons, rank_append, winner_rank}
 use Rattle.adr_timeline.proofs.Runs.{run_parts, run_ranked, run_rises}
 use Rattle.adr_timeline.proofs.Segments.{winner_in, EndsBy, IsApart, IsLinked}
@@ -107,22 +107,8 @@ spanned_none a b Endless Endless t h = (grind (arith, ints), grind (arith, ints)
 rank_none : (e : Entry) (es : List Entry) (t : ℤ) → covers e.span t ≡ false → rank_at es t ≡ None → rank_at (e ∷ es) t ≡ None
 rank_none e es t c r = rank_cons e es t ∙ (rw (c, r) refl)
 
-hull_with_none : (es : List Entry) (s : Span) (t : ℤ) → covers (hull_with s es) t ≡ false → (covers s t ≡ false) × (rank_at es t ≡ None)
-hull_with_none [] s t h = (h, refl)
-hull_with_none (e ∷ es) s t h =
-    let rest = hull_with_none es (spanned s e.span) t h in
-    let both = spanned_none s.start e.span.start s.end e.span.end t rest.0 in
-    (both.0, rank_none e es t both.1 rest.1)
-
 some_is : (a b : Span) → Some a ≡ Some b → a ≡ b
 some_is a b h = cc
-
--- outside of it no entry covers
-hull_none : (es : List Entry) (w : Span) (t : ℤ) → hull es ≡ Some w → covers w t ≡ false → rank_at es t ≡ None
-hull_none [] w t h c = refl
-hull_none (e ∷ es) w t h c =
-    let rest = hull_with_none es e.span t (ap (λ (v : Span). covers v t) (some_is (hull_with e.span es) w h) ∙ c) in
-    rank_none e es t rest.0 rest.1
 
 neither : (a b : Bool) → (a || b) ≡ false → (a ≡ false) × (b ≡ false)
 neither true b h = absurd (false≢true (sym h))
@@ -163,13 +149,6 @@ run_apart (e ∷ es) h =
     followed w [] k = refl
     followed w (x ∷ xs) k = k
 
-none_some : (a : Span) → Some a ≡ None → ⊥
-none_some a h = cc
-
-hull_of_none : (es : List Entry) → hull es ≡ None → es ≡ []
-hull_of_none [] h = refl
-hull_of_none (e ∷ es) h = absurd (none_some (hull_with e.span es) h)
-
 -- ---- what is laid over
 
 -- inside the window
@@ -187,18 +166,6 @@ module _ (rank : Winner → Rank) (names : (w : Winner) → winner_of_rank (rank
   kept : (o : Option Winner) (r : Option Rank) → r ≡ None → o ≡ option_map winner_of_rank (lesser (option_map rank o) r)
   kept o r h = rw h (sym (ap (option_map winner_of_rank) (lesser_none (option_map rank o)) ∙ named o))
 
-  pub kept_shows : (es : List Entry) (old new : List Segment) → hull es ≡ None → new ≡ old → (t : ℤ) → shows new t ≡ option_map winner_of_rank (lesser (option_map rank (shows old t)) (rank_at es t))
-  kept_shows es old new h same t = ap (λ (ss : List Segment). shows ss t) same ∙ kept (shows old t) (rank_at es t) (ap (λ (xs : List Entry). rank_at xs t) (hull_of_none es h))
-
-  -- what is laid inside the hull of the entries is laid over all
-  pub laid_shows : (es : List Entry) (w : Span) (old new : List Segment) → hull es ≡ Some w
-      → ((t : ℤ) → shows new t ≡ (if covers w t then option_map winner_of_rank (lesser (option_map rank (shows old t)) (rank_at es t)) else shows old t))
-      → (t : ℤ) → shows new t ≡ option_map winner_of_rank (lesser (option_map rank (shows old t)) (rank_at es t))
-  laid_shows es w old new h n t = elim (cases_Bool (covers w t)) [
-    | inl c ↦ rw c at (n t)
-    | inr c ↦ (rw c at (n t)) ∙ kept (shows old t) (rank_at es t) (hull_none es w t h c)
-  ]
-
   -- what is laid over what the entries meet goes into what is shown
   pub run_shows : (es : List Entry) (w : Span) (windows : List Span) (old met laid new : List Segment) → hull es ≡ Some w → windows ≡ spans_of es → IsMetBy es old met
       → ((t : ℤ) → shows laid t ≡ (if covers w t then option_map winner_of_rank (lesser (option_map rank (shows met t)) (rank_at es t)) else None))
@@ -214,65 +181,9 @@ module _ (rank : Winner → Rank) (names : (w : Winner) → winner_of_rank (rank
           ∙ ap (λ (o : Option Winner). option_map winner_of_rank (lesser (option_map rank o) (rank_at es t))) here)
       by false c here there = there ∙ kept (shows old t) (rank_at es t) (rank_uncovered es t c)
 
--- what is laid in the window, between what is shown outside
-pub spliced_shows : (rank : Winner → Rank) (es : List Entry) (w : Span) (old inside laid new : List Segment)
-    → ((t : ℤ) → shows inside t ≡ (if covers w t then shows old t else None))
-    → ((t : ℤ) → shows laid t ≡ (if covers w t then option_map winner_of_rank (lesser (option_map rank (shows inside t)) (rank_at es t)) else None))
-    → ((t : ℤ) → shows new t ≡ (if covers w t then shows laid t else shows old t))
-    → (t : ℤ) → shows new t ≡ (if covers w t then option_map winner_of_rank (lesser (option_map rank (shows old t)) (rank_at es t)) else shows old t)
-spliced_shows rank es w old inside laid new i l n t = elim (cases_Bool (covers w t)) [
-  | inl c ↦ rw c ((rw c at (n t)) ∙ ((rw c at (l t)) ∙ ap (λ (v : Option Winner). option_map winner_of_rank (lesser (option_map rank v) (rank_at es t))) (rw c at (i t))))
-  | inr c ↦ rw c (rw c at (n t))
-]
-
 -- with other entries, whose least is shown
 pub wins : (rank : Winner → Rank) (others es : List Entry) (old new : List Segment) (t : ℤ) → shows new t ≡ option_map winner_of_rank (lesser (option_map rank (shows old t)) (rank_at es t)) → option_map rank (shows old t) ≡ rank_at others t → shows new t ≡ winner_at (others ++ es) t
 wins rank others es old new t h o =
     h
     ∙ (ap (λ (r : Option Rank). option_map winner_of_rank (lesser r (rank_at es t))) o
     ∙ (ap (option_map winner_of_rank) (sym (rank_append others es t)) ∙ winner_rank (others ++ es) t))
-
--- ---- how much is compared
-
-length_joined : (ss : List Segment) (p : Segment) → length (joined ss p) ≤ length ss + 1
-length_joined [] p = omega arith
-length_joined (s ∷ []) p = either (leads_to s p)
-  where
-    either : (x : Bool) → length (if x then record s { end = p.end } ∷ [] else s ∷ p ∷ []) ≤ 2
-    either true = omega arith
-    either false = omega arith
-length_joined (s ∷ (r ∷ rs)) p = omega (arith, length_joined (r ∷ rs) p)
-
-length_joined_all : (ps out : List Segment) → length (joined_all out ps) ≤ length out + length ps
-length_joined_all [] out = omega arith
-length_joined_all (p ∷ ps) out = omega (arith, length_joined out p, length_joined_all ps (joined out p))
-
-trimmed_meets : (a b : ℤ) (e f : End) → is_before (int_max a b) (earlier_end e f) ≡ true → (is_before b f && is_before a e && is_before b e && is_before a f) ≡ true
-trimmed_meets a b (At u) (At v) h = grind (arith, ints)
-trimmed_meets a b (At u) Endless h = grind (arith, ints)
-trimmed_meets a b Endless (At v) h = grind (arith, ints)
-trimmed_meets a b Endless Endless h = refl
-
-put_few : (p s : Segment) (ps qs : List Segment) (x y : Bool) → (x ≡ true → y ≡ true) → length ps ≤ length qs → length (if x then p ∷ ps else ps) ≤ length (if y then s ∷ qs else qs)
-put_few p s ps qs true true f h = omega arith
-put_few p s ps qs true false f h = absurd (false≢true (f refl))
-put_few p s ps qs false true f h = omega arith
-put_few p s ps qs false false f h = h
-
-length_part : (w : Span) (ss : List Segment) → length (part (Some w.start) w.end ss) ≤ length (segments_in w ss)
-length_part w [] = omega arith
-length_part w (s ∷ ss) =
-    let p = trimmed (Some w.start) w.end s in
-    put_few p s (part (Some w.start) w.end ss) (segments_in w ss) (is_before p.start p.end) (meets (span_of s) w) (trimmed_meets w.start s.start w.end s.end) (length_part w ss)
-
--- a clip has no more segments than meet its window
-pub inside_few : (old inside : List Segment) (w : Span) → IsCanonical old → IsCanonical inside → ((t : ℤ) → shows inside t ≡ (if covers w t then shows old t else None)) → length inside ≤ length (segments_in w old)
-inside_few old inside w c i h =
-    let cut = joined_all [] (part (Some w.start) w.end old) in
-    let made = clipped_as old [] cut w refl c refl in
-    let same : inside ≡ cut = canonical_is_unique inside cut i made.canonical (λ t. h t ∙ sym (made.shown t)) in
-    let few : length cut ≤ length (segments_in w old) = omega (arith, length_joined_all (part (Some w.start) w.end old) [], length_part w old) in
-    rw same few
-
-pub most_of_hull : (es : List Entry) (old : List Segment) (w : Span) → hull es ≡ Some w → most_laid old es ≡ most_merged (length (segments_in w old)) (length es)
-most_of_hull es old w h = rw h refl

@@ -1,4 +1,4 @@
--- What a new event's entries are laid over, and how much that compares.
+-- What a new event's entries are laid over.
 use Rattle.std.specs.Prelude.{◌≡◌, ℕ, ℤ, ◌+◌, ◌*◌, List, [], ◌∷◌, length, filter, map, Option, Some, None, if◌then◌else◌}
 use Rattle.std.specs.Option.{option_map_or}
 use Rattle.adr_time.specs.Spans.{meets, spanned}
@@ -20,10 +20,6 @@ abbrev pub hull : List Entry → Option Span
 hull [] = None
 hull (e ∷ es) = Some (hull_with e.span es)
 
--- the segments that meet the window
-abbrev pub segments_in : Span → List Segment → List Segment
-segments_in window segments = filter (λ s. meets (span_of s) window) segments
-
 -- where the entries lie
 abbrev pub spans_of : List Entry → List Span
 spans_of entries = map (λ e. e.span) entries
@@ -31,15 +27,6 @@ spans_of entries = map (λ e. e.span) entries
 -- what the entries meet of the timeline: what it shows inside their spans
 abbrev pub IsMetBy : List Entry → List Segment → List Segment → Type 0
 IsMetBy entries timeline met = (t : ℤ) → shows met t ≡ (if any_covers (spans_of entries) t then shows timeline t else None)
-
--- two steps for each of n segments and of k entries, and the comparisons among the entries
-abbrev pub most_merged : ℕ → ℕ → ℕ
-most_merged n k = 2 * (n + k) + k * (2 * k + 1)
-
--- of the segments that meet the hull of the entries
-abbrev pub most_laid : List Segment → List Entry → ℕ
-most_laid segments entries =
-    option_map_or (λ window. most_merged (length (segments_in window segments)) (length entries)) (hull entries) 0
 
 -- the segment as an entry, by the ranks of winners
 abbrev pub shown_entry : (Winner → Rank) → Segment → Entry

@@ -3,13 +3,13 @@ ghost use Rattle.std.specs.Prelude.{◌≡◌, ◌+◌, ◌*◌, ◌<◌, ◌≤
 ghost use Rattle.std.specs.Option.{option_map};
 ghost use Rattle.adr_model.specs.Timeline.{shows, IsCanonical};
 ghost use Rattle.adr_timeline.specs.Chunks.{listed};
-ghost use Rattle.adr_timeline.specs.Overlay.{hull, most_merged, shown_entry, spans_of as where_they_lie};
+ghost use Rattle.adr_timeline.specs.Overlay.{hull, shown_entry, spans_of as where_they_lie};
 ghost use Rattle.adr_timeline.specs.Steps.{IsInOrder, IsMergeOf, is_run, lesser, rank_at, rank_from, rises, steps_in_turn};
 
 use crate::chunk::Chunk;
 use crate::list::{StepList, StepsInTurn};
 use crate::packed::PackedSegment;
-use crate::step::{Step, add_steps_of, merge, ranked};
+use crate::step::{Step, add_steps_of, merge};
 use adr_model::{Entry, Rank, Winner};
 use adr_rule::Meter;
 use adr_time::Span;
@@ -124,25 +124,6 @@ fn merged<R: StepList>(
     let mut steps = Vec::with_capacity(alloc, room)?;
     merge(&mut steps, left, right, meter)?;
     Ok(steps)
-}
-
-/// The steps of the lesser rank of what the chunks show and of the entries.
-pub(crate) fn laid_steps<R: Ranks>(
-    alloc: Global,
-    shown: &[Chunk],
-    entries: &[Entry],
-    ranks: &R,
-    meter: &mut Meter,
-) -> Result<Vec<Step>, AllocError>
-    requires room { meter.old + most_merged (length (listed shown.now)) (length entries.now) < 2 ^ 128 }
-    requires canonical { IsCanonical (listed shown.now) }
-    ensures order { IfOk result (λ steps. IsInOrder steps.items) }
-    ensures ranks { IfOk result (λ steps. (t : ℤ) → rank_from None steps.items t ≡ lesser (option_map (R.rank ranks.now) (shows (listed shown.now) t)) (rank_at entries.now t)) }
-    ensures compared { meter.new ≤ meter.old + most_merged (length (listed shown.now)) (length entries.now) }
-{
-    let given = ranked(alloc, entries, meter)?;
-    let held = shown_steps(alloc, shown, ranks)?;
-    merged(alloc, &held, given.as_slice(), meter)
 }
 
 /// The steps of the lesser rank of what the chunks show and of entries that come in turn, which compete with nothing else.

@@ -11,7 +11,7 @@ ghost use Rattle.adr_model.specs.Governor.{winner_at};
 ghost use Rattle.adr_model.specs.Timeline.{shows, CanonicalIsUnique, IsCanonical};
 ghost use Rattle.adr_timeline.specs.Build.{most_compared, most_compared_all};
 ghost use Rattle.adr_timeline.specs.Chunks.{listed};
-ghost use Rattle.adr_timeline.specs.Overlay.{most_laid, most_merged, segments_in, IsMetBy};
+ghost use Rattle.adr_timeline.specs.Overlay.{IsMetBy};
 ghost use Rattle.adr_timeline.specs.Steps.{is_run, lesser, rank_at, winner_of_rank};
 ghost use Rattle.adr_timeline.specs.Windows.{any_covers, are_apart};
 
@@ -19,7 +19,7 @@ use crate::build::{Source, join_windows};
 use crate::chunk::Chunk;
 use crate::line::Line;
 use crate::near::meeting;
-use crate::overlay::{Ranks, hull_of, laid_steps, spans_of, steps_over};
+use crate::overlay::{Ranks, hull_of, spans_of, steps_over};
 use crate::step::{join_steps, ranked};
 use crate::{part, search};
 use adr_model::{Entry, Segment, Winner};
@@ -116,16 +116,8 @@ impl Timeline {
     pub fn new(alloc: Global) -> Timeline
         ensures { result ≡ [] }
     {
-        Timeline::in_chunks_of(alloc, MOST_IN_CHUNK)
-    }
-
-    /// A timeline that shows nothing, and keeps what it is built into in chunks of at most so many segments: for small
-    /// devices and tests. Parts of it have such chunks too.
-    pub fn in_chunks_of(alloc: Global, most: usize) -> Timeline
-        ensures { result ≡ [] }
-    {
         Timeline {
-            most,
+            most: MOST_IN_CHUNK,
             chunks: Vec::new(alloc),
         }
     }
@@ -271,58 +263,6 @@ impl Timeline {
         timeline_of(self.most, line)
     }
 
-    /// The least, at each instant of the window, of what this timeline shows and the entries, and nothing outside.
-    fn lay_inside<R: Ranks>(
-        &self,
-        entries: &[Entry],
-        window: Span,
-        ranks: &R,
-        meter: &mut Meter,
-    ) -> Result<Timeline, Refusal>
-        requires { meter.old + most_merged (length self.now) (length entries.now) < 2 ^ 128 }
-        ensures canonical { IfOk result (λ timeline. IsCanonical timeline) }
-        ensures shows { IfOk result (λ timeline. (t : ℤ) → shows timeline t ≡ (if covers window t then option_map winner_of_rank (lesser (option_map (R.rank ranks.now) (shows self.now t)) (rank_at entries.now t)) else None)) }
-        ensures compared { meter.new ≤ meter.old + most_merged (length self.now) (length entries.now) }
-        ensures refused { OnlyNoMemory result }
-    {
-        let alloc = *self.chunks.allocator();
-        let steps = laid_steps(alloc, &self.chunks, entries, ranks, meter)?;
-        let mut line = Line::new(alloc, self.most);
-        join_steps(&mut line, &steps, window)?;
-        timeline_of(self.most, line)
-    }
-
-    /// A clip, whose segments are those that meet the window.
-    #[tactic(auto, using(crate::proofs::Laid::inside_few))]
-    fn inside(&self, window: Span) -> Result<Timeline, Refusal>
-        ensures shows { IfOk result (λ timeline. (t : ℤ) → shows timeline t ≡ (if covers window t then shows self.now t else None)) }
-        ensures few { IfOk result (λ timeline. length timeline ≤ length (segments_in window self.now)) }
-        ensures refused { OnlyNoMemory result }
-    {
-        let _segments = self.segments();
-        let inside = self.clip(window)?;
-        Ok(inside)
-    }
-
-    /// The least, at each instant of the window, of what this timeline shows and the entries, and what it shows outside.
-    fn lay_in<R: Ranks>(
-        &self,
-        entries: &[Entry],
-        window: &Span,
-        ranks: &R,
-        meter: &mut Meter,
-    ) -> Result<Timeline, Refusal>
-        requires { meter.old + most_merged (length (segments_in window.now self.now)) (length entries.now) < 2 ^ 128 }
-        ensures canonical { IfOk result (λ timeline. IsCanonical timeline) }
-        ensures shows { IfOk result (λ timeline. (t : ℤ) → shows timeline t ≡ (if covers window.now t then option_map winner_of_rank (lesser (option_map (R.rank ranks.now) (shows self.now t)) (rank_at entries.now t)) else shows self.now t)) }
-        ensures compared { meter.new ≤ meter.old + most_merged (length (segments_in window.now self.now)) (length entries.now) }
-        ensures refused { OnlyNoMemory result }
-    {
-        let inside = self.inside(*window)?;
-        let laid = inside.lay_inside(entries, *window, ranks, meter)?;
-        self.splice(*window, &laid)
-    }
-
     /// Whether there are no more segments than so many. Cost: a look at each chunk.
     pub fn has_at_most(&self, most: usize) -> bool
         ensures { result ≡ true → length self.now ≤ most }
@@ -341,7 +281,7 @@ impl Timeline {
     {
         let alloc = *self.chunks.allocator();
         let windows = spans_of(alloc, entries)?;
-        let nothing = Timeline::in_chunks_of(alloc, self.most);
+        let nothing = Timeline::new(alloc);
         nothing.splice_all(&windows, self)
     }
 
@@ -368,9 +308,10 @@ impl Timeline {
         timeline_of(self.most, line)
     }
 
-    /// The same as [`Timeline::lay_over`] of entries that come in turn, where it is known what they meet: only that is
-    /// looked at, and no more is compared than once for each of its segments and for each entry. `NoMemory` where there
-    /// is no room. Cost: some steps for each of those, and that of `splice_all`.
+    /// The least, at each instant, of what this timeline shows and entries that come in turn, where it is known what they
+    /// meet: only that is looked at, and no more is compared than once for each of its segments and for each entry.
+    /// Ranks are compared by `before` alone, which counts each comparison. `NoMemory` where there is no room. Cost: some
+    /// steps for each of those, and that of `splice_all`.
     pub fn lay_run<R: Ranks>(
         &self,
         met: &Timeline,
@@ -393,33 +334,6 @@ impl Timeline {
                 let windows = spans_of(*self.chunks.allocator(), entries)?;
                 self.splice_all(&windows, &laid)
             }
-            None => {
-                let copy = self.copy()?;
-                Ok(copy)
-            }
-        }
-    }
-
-    /// The least, at each instant, of what this timeline shows and the entries: what one new event's entries change.
-    ///
-    /// Ranks are compared by `before` alone, which counts each comparison. `NoMemory` where there is no room. Cost: that
-    /// of a table of the chunks, and for k entries and n segments that meet the span from their first start to their
-    /// last end about n + k log k steps; the chunks outside of it are shared, but for small ones beside it.
-    pub fn lay_over<R: Ranks>(
-        &self,
-        entries: &[Entry],
-        ranks: &R,
-        meter: &mut Meter,
-    ) -> Result<Timeline, Refusal>
-        requires { meter.old + most_laid self.now entries.now < 2 ^ 128 }
-        ensures canonical { IfOk result (λ timeline. IsCanonical timeline) }
-        ensures shows { IfOk result (λ timeline. (t : ℤ) → shows timeline t ≡ option_map winner_of_rank (lesser (option_map (R.rank ranks.now) (shows self.now t)) (rank_at entries.now t))) }
-        ensures wins { IfOk result (λ timeline. (others : List Entry) → (t : ℤ) → option_map (R.rank ranks.now) (shows self.now t) ≡ rank_at others t → shows timeline t ≡ winner_at (others ++ entries.now) t) }
-        ensures compared { meter.new ≤ meter.old + most_laid self.now entries.now }
-        ensures refused { OnlyNoMemory result }
-    {
-        match hull_of(entries) {
-            Some(window) => self.lay_in(entries, &window, ranks, meter),
             None => {
                 let copy = self.copy()?;
                 Ok(copy)

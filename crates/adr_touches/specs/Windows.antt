@@ -6,8 +6,7 @@ use Rattle.adr_time.specs.Spans.{lasts}
 use Rattle.adr_time.specs.declared.span.Span.{Span}
 use Rattle.adr_object.specs.declared.event.Interval.{Interval}
 use Rattle.adr_model.specs.declared.touch.Touch.{Touch}
-use Rattle.adr_model.specs.Book.{Book}
-use Rattle.adr_model.specs.Touches.{types_of, touches_between, applying}
+use Rattle.adr_model.specs.Touches.{types_of}
 
 -- a touch of the window for each type
 abbrev pub touches_in : List ℕ → Span → List PayloadType → List Touch
@@ -20,7 +19,3 @@ touches_at resource p = if lasts p.1 then touches_in resource p.1 (types_of p.0.
 -- the touches of intervals that lie there
 abbrev pub touches_along : List ℕ → List Interval → List Span → List Touch
 touches_along resource intervals spans = flat_map (touches_at resource) (zip intervals spans)
-
--- the touches of one resource, by event
-abbrev pub touches_on : Book → Book → List (List ℕ) → List ℕ → List Touch
-touches_on old new events resource = flat_map (λ e. touches_between resource (applying old resource e) (applying new resource e)) events

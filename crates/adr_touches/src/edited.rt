@@ -227,8 +227,9 @@ fn list_concerned(
     Ok(touches)
 }
 
-/// The touches of an edit that leads from the one book to the other: those of `touches`, in its order. `NoMemory` where
-/// there is no room for the list. Cost: each event that the edit concerns is held against each resource that it concerns.
+/// The touches of an edit that leads from the one book to the other: each stretch of time in which what governs a resource
+/// and a payload type may have changed. They stand by resource, then by event, the old event before the new one, then by
+/// interval and type; one window may stand twice. `NoMemory` where there is no room for the list. Cost: each event that the edit concerns is held against each resource that it concerns.
 pub fn edit_touches(
     alloc: Global,
     old: &Book,

@@ -22,5 +22,5 @@ splice_all-requires c = ap are_apart (c.deref.ensures.value ∙ c.in_ok-windows.
 pub returns-clause-shows : goal.returns-clause-shows
 returns-clause-shows c =
     IfOk-weaker c.splice_all.result _ _
-    (λ met made t. in_nothing c.deref.result.now _ c.in_chunks_of-nothing.result t (shows met t) (shows c.args.self.now t) (c.deref.ensures.value ∙ c.in_ok-windows.ensures) c.in_chunks_of-nothing.ensures (made t))
+    (λ met made t. in_nothing c.deref.result.now _ c.new-nothing.result t (shows met t) (shows c.args.self.now t) (c.deref.ensures.value ∙ c.in_ok-windows.ensures) c.new-nothing.ensures (made t))
     c.splice_all.ensures.shows

@@ -1,8 +1,6 @@
-//! Edits of events in short words, and the touches of an edit by lines.
+//! Edits of events in short words.
 use crate::bodies::{edit, word};
-use adr_model::Touch;
 use adr_object::Edit;
-use adr_time::{End, Moment, Span};
 use adr_value::Refusal;
 use std::alloc::Global;
 
@@ -42,43 +40,4 @@ pub fn any_edit(alloc: Global, line: &str) -> Result<Edit, Refusal> {
         Some((verb, event)) if verb != "delete" => event_edit(alloc, verb, event),
         _ => edit(alloc, line),
     }
-}
-
-fn hour(word: &str) -> Option<Moment> {
-    let hours = i128::from(word.parse::<u32>().ok()?);
-    Moment::of(hours * 3_600_000_000_000)
-}
-
-/// The window between two hours.
-fn window(line: &str) -> Option<Span> {
-    let (start, end) = line.split_once(' ')?;
-    Some(Span {
-        start: hour(start)?,
-        end: End::At(hour(end)?),
-    })
-}
-
-/// Whether the touch is that of a line `RESOURCE TYPE START END`.
-fn is_touch(touch: &Touch, line: &str) -> Result<bool, Refusal> {
-    let (resource, line) = word(line)?;
-    let (kind, line) = word(line)?;
-    Ok(
-        touch.resource.text() == resource
-            && touch.kind.name() == kind
-            && window(line) == Some(touch.window),
-    )
-}
-
-/// Whether the touches are those of the row's lines.
-pub fn are_touches(touches: &[Touch], row: &str) -> Result<bool, Refusal> {
-    let mut touches = touches.iter();
-    for line in row.lines() {
-        if let Some(wanted) = line.strip_prefix("= ") {
-            match touches.next() {
-                Some(touch) if is_touch(touch, wanted)? => {}
-                _ => return Ok(false),
-            }
-        }
-    }
-    Ok(touches.next().is_none())
 }
