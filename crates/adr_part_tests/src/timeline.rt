@@ -121,12 +121,26 @@ fn is_clipped(timeline: &Timeline) -> Result<bool, Refusal> {
     Ok(true)
 }
 
-/// Whether a copy of the timeline of the three shows the same.
-fn is_copied(timeline: &Timeline) -> Result<bool, Refusal> {
+/// Whether a copy of the timeline shows this.
+fn is_copied(timeline: &Timeline, wanted: &[Row]) -> Result<bool, Refusal> {
     let copy = timeline.copy()?;
-    let has = has(&copy, SHOWN);
+    let has = has(&copy, wanted);
     drop(copy);
     Ok(has)
+}
+
+/// Whether a timeline of three entries, of which each goes before the one before, is copied.
+fn is_overlap_copied(alloc: Global) -> Result<bool, Refusal> {
+    let mut meter = Meter::new();
+    let entries = [
+        entry(4_294_967_296, 4, span(0, 2)),
+        entry(5, 5, span(1, 3)),
+        entry(0, 6, span(2, 4)),
+    ];
+    let timeline = built(alloc, &entries, span(0, 4), &mut meter)?;
+    let is_copied = is_copied(&timeline, &[(0, 1, 4), (1, 2, 5), (2, 4, 6)]);
+    drop(timeline);
+    is_copied
 }
 
 #[test]
@@ -136,10 +150,11 @@ fn the_least_entry_is_shown(rt: HostRuntime) -> Result<(), Fail> {
     let timeline = three(rt.alloc(), &mut meter)?;
     let is_shown = has(&timeline, SHOWN) && is_told(&timeline);
     let is_clipped = is_clipped(&timeline);
-    let is_copied = is_copied(&timeline);
+    let is_copied = is_copied(&timeline, SHOWN);
     drop(timeline);
     assert!(rt; is_shown && meter.count() <= 21);
     assert!(rt; is_clipped == Ok(true) && is_copied == Ok(true));
+    assert!(rt; is_overlap_copied(rt.alloc()) == Ok(true));
     Ok(())
 }
 
