@@ -1,21 +1,19 @@
 //! The calls of a board and of its publications.
 mod asking;
-mod before;
-mod editing;
 mod opening;
-mod publishing;
 mod replaying;
 mod session;
 
 use crate::board::opening::{try_open, try_over};
 pub(crate) use crate::board::replaying::try_replay;
 use crate::board::session::try_lines;
+pub use crate::board::session::{make, publish};
 use std::io;
 use std::sync::Wait;
 use std::thread::Threads;
 
-/// Opens a board empty, and over a desk; and then does on a new board what the lines say: each is an edit, `by COUNT` and
-/// an edit for so many workers, `publish`, `condense`, `look READER`, or a question of the last publication.
+/// Opens a board empty, and over a desk; and then makes the calls of the lines on a new board, and asks its last publication
+/// what they ask.
 pub(crate) fn try_board<R: AllocGlobal + Print + Wait + Threads + Sync>(
     rt: &R,
     lines: &str,

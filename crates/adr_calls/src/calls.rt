@@ -1,31 +1,128 @@
-//! Lines that name calls: each stands before its call, by which the test knows where to count growths.
-use adr_test_values::telling::name_edit;
+//! Calls that lines name, each made of what they are tried on and, once it has answered, of its twin.
+use adr_object::Edit;
+use adr_test_values::lines::{edit, word};
+use adr_test_values::telling::{tell_ordinary, tell_refused, tell_same, told};
+use adr_value::Refusal;
+use std::alloc::Global;
 use std::io;
+use std::sync::Wait;
+use std::thread::Threads;
 
-/// An edit by so many workers, or by `apply` where there are none.
-pub(crate) fn name_apply(
-    rt: &impl Print,
-    workers: usize,
-    version: u64,
-    line: &str,
-) -> io::Result<()> {
-    match workers {
-        0 => name_edit(rt, "apply", version, line),
-        _ => println!(rt; "apply with {workers}: version {version}, {line}"),
+/// A call of a book, a desk or a board.
+#[derive(Drop)]
+pub(crate) enum Call {
+    /// Makes the edit by so many workers, or by `apply` where there are none.
+    Apply(usize, Edit),
+    /// Closes the open batch.
+    Seal,
+    /// Goes on with a copy.
+    Copy,
+    /// Goes on with a desk that is filled at once with the edits so far.
+    Load,
+    /// Makes what is there, or was published last, the base.
+    Condense,
+    /// Publishes what is there.
+    Publish,
+    /// Lets a reader look.
+    Look(usize),
+    /// Tells a reader which publication is the last.
+    Tell(usize),
+}
+
+/// What calls are tried on: a book, a desk or a board, each beside a twin.
+pub(crate) trait Tried {
+    ghost use denote.Param.Send.{IsSync};
+
+    /// Makes all ready for the call.
+    fn prepare(&mut self, call: &Call) -> Result<(), Refusal>;
+
+    /// Makes the call. The clause says again what a bound says, of which a method's body is not told.
+    fn make<R: AllocGlobal + Wait + Threads + Sync>(
+        &mut self,
+        rt: &R,
+        call: &Call,
+    ) -> Result<u64, Refusal>
+        requires { IsSync R.row };
+
+    /// Whether all is as before the call.
+    fn is_as_before(&self, call: &Call) -> bool;
+
+    /// Makes the call of the twin, as far as that shows something: what is to be answered.
+    fn repeat(&mut self, call: &Call) -> Result<u64, Refusal>;
+
+    /// Whether all is as the call that was made again leaves it.
+    fn is_made(&self, call: &Call) -> bool;
+}
+
+fn number(word: &str) -> usize {
+    word.parse::<usize>().unwrap_or(0)
+}
+
+/// The call of the line: `seal`, `copy`, `load`, `condense`, `publish`, `look READER`, `tell READER`, an edit (`create program
+/// p1`), or `by COUNT` and an edit for so many workers.
+fn call_of(alloc: Global, line: &str) -> Result<Call, Refusal> {
+    let (first, rest) = word(line);
+    match first {
+        "seal" => Ok(Call::Seal),
+        "copy" => Ok(Call::Copy),
+        "load" => Ok(Call::Load),
+        "condense" => Ok(Call::Condense),
+        "publish" => Ok(Call::Publish),
+        "look" => Ok(Call::Look(number(rest))),
+        "tell" => Ok(Call::Tell(number(rest))),
+        "by" => {
+            let (workers, line) = word(rest);
+            Ok(Call::Apply(number(workers), edit(alloc, line)?))
+        }
+        _ => Ok(Call::Apply(0, edit(alloc, line)?)),
     }
 }
 
-/// A call of a board whose last publication has that number.
-pub(crate) fn name_publication(rt: &impl Print, call: &str, number: u64) -> io::Result<()> {
-    println!(rt; "{call}: publication {number}")
+/// Whether the call was refused for want of memory, or of what a runtime needs.
+fn is_for_want(answer: Result<u64, Refusal>) -> bool {
+    matches!(answer, Err(Refusal::NoMemory | Refusal::NoRuntime))
 }
 
-/// A question of the publication of that number.
-pub(crate) fn name_question(
-    rt: &impl Print,
-    question: &str,
-    number: u64,
+/// Makes the call, again where there was no memory, and tells what it answers and leaves.
+fn tell_call<T: Tried, R: AllocGlobal + Print + Wait + Threads + Sync>(
+    rt: &R,
+    tried: &mut T,
+    call: &Call,
+) -> io::Result<()> {
+    let mut answer = tried.make(rt, call);
+    if is_for_want(answer) {
+        tell_refused(rt, tried.is_as_before(call))?;
+        answer = tried.make(rt, call);
+    }
+    tell_ordinary(rt, answer)?;
+    let expected = tried.repeat(call);
+    tell_same(rt, answer == expected && tried.is_made(call))
+}
+
+/// Makes the call of the line, which stands before it with its number, so that no two of a part are the same.
+pub(crate) fn try_line<T: Tried, R: AllocGlobal + Print + Wait + Threads + Sync>(
+    rt: &R,
+    tried: &mut T,
+    number: usize,
     line: &str,
 ) -> io::Result<()> {
-    println!(rt; "{question}: publication {number}, {line}")
+    let call = told(call_of(rt.alloc(), line))?;
+    let prepared = tried.prepare(&call);
+    println!(rt; "{line}: call {number}")?;
+    let tried = tell_call(rt, tried, &call);
+    drop(call);
+    told(prepared)?;
+    tried
+}
+
+/// Makes the calls of the lines.
+pub(crate) fn try_lines<T: Tried, R: AllocGlobal + Print + Wait + Threads + Sync>(
+    rt: &R,
+    tried: &mut T,
+    lines: &str,
+) -> io::Result<()> {
+    for (place, line) in lines.lines().enumerate() {
+        try_line(rt, tried, place, line)?;
+    }
+    Ok(())
 }

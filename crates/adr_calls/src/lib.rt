@@ -9,6 +9,7 @@ mod desk;
 mod receipts;
 mod same;
 
+pub use crate::board::{make, publish};
 use crate::board::{try_board, try_replay};
 use crate::book::try_book;
 use crate::desk::try_desk;

@@ -1,5 +1,6 @@
 //! The board that is looked at and that lives long.
 use adr_board::{Editor, Naming};
+use adr_calls::publish;
 use adr_refusal::Refusal;
 use adr_test_values::lines::edit;
 use std::alloc::Global;
@@ -14,8 +15,7 @@ pub(crate) fn make<J: Naming>(
     editor: &mut Editor<J>,
     line: &str,
 ) -> Result<(), Refusal> {
-    let receipt = editor.apply(edit(alloc, line)?)?;
-    drop(receipt);
+    adr_calls::make(editor, edit(alloc, line)?)?;
     Ok(())
 }
 
@@ -29,6 +29,6 @@ pub(crate) fn fill<J: Naming, R: Wait>(
     for line in lines.lines() {
         make(alloc, editor, line)?;
     }
-    editor.publish(rt)?;
+    publish(rt, editor)?;
     Ok(())
 }

@@ -4,6 +4,7 @@ ghost use Rattle.adr_model.specs.declared.entry.Tie.TheVariants.{Newest};
 
 use crate::boards::{CHANGE, fill, make};
 use adr_board::{Board, Editor, Naming, NewBoard, Reader};
+use adr_calls::publish;
 use adr_model::Tie;
 use adr_refusal::Refusal;
 use adr_snapshot::Snapshot;
@@ -37,7 +38,7 @@ fn live<J: Naming, R: Wait>(
         for _ in 0..edits {
             make(alloc, editor, CHANGE)?;
         }
-        editor.publish(rt)?;
+        publish(rt, editor)?;
         *place = Some(reader.look()?);
     }
     editor.condense()?;

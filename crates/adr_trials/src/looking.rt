@@ -4,6 +4,7 @@ ghost use Rattle.adr_model.specs.declared.entry.Tie.TheVariants.{Newest};
 
 use crate::boards::{CHANGE, fill, make};
 use adr_board::{Board, Editor, Naming, NewBoard, Reader};
+use adr_calls::publish;
 use adr_model::Tie;
 use adr_refusal::Refusal;
 use adr_test_values::telling::told;
@@ -12,6 +13,7 @@ use std::io;
 use std::marker::Brand;
 use std::rt::Clock;
 use std::sync::Wait;
+use std::sync::atomic::{AtomicU64, Ordering};
 use std::thread::{Threads, for_each_mut, join};
 use std::time::Instant;
 
@@ -20,14 +22,6 @@ const MILLISECONDS: u128 = 1000;
 
 /// How often each of them looks or publishes before it reads the clock again.
 const BETWEEN: u64 = 100;
-
-/// A reader, and how often it has looked. The gap keeps what one writes from the cache lines of the next.
-#[derive(Drop)]
-struct Looker<J: Naming> {
-    reader: Reader<J>,
-    looks: u64,
-    gap: [u64; 32],
-}
 
 /// How often all readers looked, and how often the editor published.
 #[derive(Clone, Copy)]
@@ -44,25 +38,30 @@ fn is_over<R: Clock>(rt: &R, start: &Instant) -> bool {
     }
 }
 
-fn look_often<J: Naming>(looker: &mut Looker<J>) {
+/// Looks so often, and answers how often it saw something.
+fn look_often<J: Naming>(reader: &mut Reader<J>) -> u64 {
+    let mut looks = 0_u64;
     for _ in 0..BETWEEN {
-        if looker.reader.look().is_ok() {
-            looker.looks = looker.looks.wrapping_add(1);
+        if reader.look().is_ok() {
+            looks = looks.wrapping_add(1);
         }
     }
+    looks
 }
 
-/// Looks until the time is over.
-fn look_on<J: Naming, R: Clock>(rt: &R, looker: &mut Looker<J>) {
+/// Looks until the time is over, and then adds how often that was.
+fn look_on<J: Naming, R: Clock>(rt: &R, reader: &mut Reader<J>, all: &AtomicU64) {
     let Ok(start) = Instant::now(rt) else {
         return;
     };
+    let mut looks = 0_u64;
     for _ in 0..u32::MAX {
         if is_over(rt, &start) {
-            return;
+            break;
         }
-        look_often(looker);
+        looks = looks.wrapping_add(look_often(reader));
     }
+    all.fetch_add(looks, Ordering::Relaxed);
 }
 
 fn publish_often<J: Naming, R: Wait>(
@@ -72,7 +71,7 @@ fn publish_often<J: Naming, R: Wait>(
 ) -> Result<(), Refusal> {
     for _ in 0..BETWEEN {
         make(alloc, editor, CHANGE)?;
-        editor.publish(rt)?;
+        publish(rt, editor)?;
     }
     Ok(())
 }
@@ -91,60 +90,38 @@ fn publish_on<J: Naming, R: Clock + Wait>(rt: &R, alloc: Global, editor: &mut Ed
     editor.last().number().wrapping_sub(first)
 }
 
-fn look_all<J: Naming + Send, R: Clock + Threads + Sync>(rt: &R, lookers: &mut [Looker<J>]) {
-    let count = lookers.len().max(1);
+/// Each reader looks in a thread of its own.
+fn look_all<J: Naming + Send, R: Clock + Threads + Sync>(
+    rt: &R,
+    readers: &mut [Reader<J>],
+    all: &AtomicU64,
+) {
+    let count = readers.len().max(1);
     for_each_mut(
         rt,
-        lookers,
+        readers,
         count,
-        &|_place: usize, looker: &mut Looker<J>| look_on(rt, looker),
+        &|_place: usize, reader: &mut Reader<J>| look_on(rt, reader, all),
     );
 }
 
+/// The readers look while the editor publishes.
 fn look_beside<J: Naming + Send, R: Clock + Threads + Wait + Sync>(
     rt: &R,
     alloc: Global,
     editor: &mut Editor<J>,
-    lookers: &mut [Looker<J>],
-) -> u64 {
+    readers: &mut [Reader<J>],
+) -> Counts {
+    let looks = AtomicU64::new(0);
     let (_, publications) = join(
         rt,
-        || look_all(rt, lookers),
+        || look_all(rt, readers, &looks),
         || publish_on(rt, alloc, editor),
     );
-    publications
-}
-
-fn lookers<J: Naming>(alloc: Global, readers: Vec<Reader<J>>) -> Result<Vec<Looker<J>>, Refusal> {
-    let mut all = Vec::new(alloc);
-    for reader in readers {
-        all.push(Looker {
-            reader,
-            looks: 0,
-            gap: [0; 32],
-        })?;
-    }
-    Ok(all)
-}
-
-fn look_on_board<J: Naming + Send, R: Clock + Threads + Wait + Sync>(
-    rt: &R,
-    alloc: Global,
-    editor: &mut Editor<J>,
-    readers: Vec<Reader<J>>,
-    lines: &str,
-) -> Result<Counts, Refusal> {
-    fill(rt, alloc, editor, lines)?;
-    let mut all = lookers(alloc, readers)?;
-    let publications = look_beside(rt, alloc, editor, all.as_mut_slice());
-    let mut looks = 0_u64;
-    for looker in all.as_slice() {
-        looks = looks.wrapping_add(looker.looks);
-    }
-    Ok(Counts {
-        looks,
+    Counts {
+        looks: looks.load(Ordering::Relaxed),
         publications,
-    })
+    }
 }
 
 /// How often so many readers look in a second, and how often their editor publishes meanwhile. The lines are owned, as the
@@ -160,10 +137,13 @@ fn looked<J: Naming + Send, R: AllocGlobal + Clock + Threads + Wait + Sync>(
     requires readers { (0 < readers) × (readers ≤ 64) }
 {
     let alloc = rt.alloc();
-    let (mut editor, readers) = Board::open::<J, R>(alloc, rt, board, Tie::Newest, readers)?;
-    let looked = look_on_board(rt, alloc, &mut editor, readers, lines.as_str());
+    let (mut editor, mut readers) = Board::open::<J, R>(alloc, rt, board, Tie::Newest, readers)?;
+    let filled = fill(rt, alloc, &mut editor, lines.as_str());
+    let counts = look_beside(rt, alloc, &mut editor, readers.as_mut_slice());
+    drop(readers);
     editor.close(rt);
-    looked
+    filled?;
+    Ok(counts)
 }
 
 /// A row: the readers of a board that the lines fill, their looks in a second, and the publications of its editor.

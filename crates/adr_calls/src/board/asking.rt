@@ -1,11 +1,9 @@
 //! Questions of a publication.
-use crate::calls::name_question;
-use crate::same::are_same;
 use adr_calendar::{at, list, roll, types};
 use adr_object::Id;
 use adr_snapshot::Snapshot;
 use adr_test_values::lines::word;
-use adr_test_values::telling::{tell_refused, told};
+use adr_test_values::telling::told;
 use adr_time::{Moment, read_moment};
 use adr_value::{PayloadType, Refusal};
 use std::alloc::Global;
@@ -80,46 +78,33 @@ fn tell_answer<R: Print>(rt: &R, answer: Result<Vec<u8>, Refusal>) -> io::Result
     }
 }
 
-fn try_question<R: AllocGlobal + Print>(
+/// Asks the publication the question of the line, again where the first answer had no memory, and tells its answer. The
+/// line stands before it with its number.
+pub(crate) fn try_ask<R: AllocGlobal + Print>(
     rt: &R,
     snapshot: &Snapshot,
-    twin: &Snapshot,
-    question: &Question,
+    number: usize,
     line: &str,
 ) -> io::Result<()> {
-    let (first, rest) = word(line);
-    name_question(rt, first, snapshot.number(), rest)?;
+    let question = told(question_of(rt.alloc(), line))?;
+    println!(rt; "{line}: call {number}")?;
+    let told = tell_asked(rt, snapshot, &question);
+    drop(question);
+    told
+}
+
+fn tell_asked<R: AllocGlobal + Print>(
+    rt: &R,
+    snapshot: &Snapshot,
+    question: &Question,
+) -> io::Result<()> {
     match ask(rt.alloc(), snapshot, question) {
         Err(Refusal::NoMemory) => {
-            tell_refused(rt, are_same(snapshot, twin))?;
+            println!(rt; "  refused")?;
             tell_answer(rt, ask(rt.alloc(), snapshot, question))
         }
         answer => tell_answer(rt, answer),
     }
-}
-
-fn try_beside<R: AllocGlobal + Print>(
-    rt: &R,
-    snapshot: &Snapshot,
-    question: &Question,
-    line: &str,
-) -> io::Result<()> {
-    let twin = told(snapshot.copy())?;
-    let tried = try_question(rt, snapshot, &twin, question, line);
-    drop(twin);
-    tried
-}
-
-/// Asks the publication the question of the line.
-pub(crate) fn try_ask<R: AllocGlobal + Print>(
-    rt: &R,
-    snapshot: &Snapshot,
-    line: &str,
-) -> io::Result<()> {
-    let question = told(question_of(rt.alloc(), line))?;
-    let tried = try_beside(rt, snapshot, &question, line);
-    drop(question);
-    tried
 }
 
 /// Asks the publication who governs at `ID MOMENT`, again where the first answer had no memory.
