@@ -78,9 +78,13 @@ fn call_of(alloc: Global, line: &str) -> Result<Call, Refusal> {
     }
 }
 
-/// Whether the call was refused for want of memory, or of what a runtime needs.
-fn is_for_want(answer: Result<u64, Refusal>) -> bool {
-    matches!(answer, Err(Refusal::NoMemory | Refusal::NoRuntime))
+/// Whether the call was refused for want of memory; those that begin threads or look may find no runtime then.
+fn is_for_want(call: &Call, answer: Result<u64, Refusal>) -> bool {
+    match answer {
+        Err(Refusal::NoMemory) => true,
+        Err(Refusal::NoRuntime) => matches!(call, Call::Load | Call::Look(_)),
+        _ => false,
+    }
 }
 
 /// Makes the call, again where there was no memory, and tells what it answers and leaves.
@@ -90,7 +94,7 @@ fn tell_call<T: Tried, R: AllocGlobal + Print + Wait + Threads + Sync>(
     call: &Call,
 ) -> io::Result<()> {
     let mut answer = tried.make(rt, call);
-    if is_for_want(answer) {
+    if is_for_want(call, answer) {
         tell_refused(rt, tried.is_as_before(call))?;
         answer = tried.make(rt, call);
     }
