@@ -3,4 +3,4 @@ use Rattle.std.proofs.lemmas.Result.{IfOk-weaker}
 use Rattle.adr_options.proofs.words.command.Goals as goal
 
 pub returns-clause-grammar : goal.returns-clause-grammar
-returns-clause-grammar c = IfOk-weaker c.arg-2.result _ _ (λ command adds option is. search (rules, is)) c.arg-2.ensures
+returns-clause-grammar c = IfOk-weaker c.arg-2.result _ _ (λ command adds. search rules) c.arg-2.ensures

@@ -12,7 +12,7 @@ returns c =
     let somewhere = names_are_somewhere c.as_slice-ties.result are in
     let places = somewhere.0 in
     let bare : app_of c.subcommand_required-adr.result ≡ bare_grammar = search rules in
-    let run = c.in_ok-run.ensures.grammar (codes "workers") c.workers_option.ensures.rule ∙ ap (command_grammar (codes "run") (codes "workers")) somewhere.1 in
-    let fan = c.in_ok-fan.ensures.grammar (codes "readers") c.readers_option.ensures.rule ∙ ap (command_grammar (codes "fan") (codes "readers")) somewhere.1 in
+    let run = c.in_ok-run.ensures.grammar ∙ ap (command_grammar (codes "run") (codes "workers")) somewhere.1 in
+    let fan = c.in_ok-fan.ensures.grammar ∙ ap (command_grammar (codes "fan") (codes "readers")) somewhere.1 in
     let first = c.in_ok-adr.ensures.shape c.in_ok-run.ensures.local ∙ ap₂ with_subcommand bare (ap (λ app. app.top) run) in
     IfOk-weaker c.subcommand-2.result _ _ (λ adr adds. (places, adds.shape c.in_ok-fan.ensures.local ∙ ap₂ with_subcommand first (ap (λ app. app.top) fan))) c.subcommand-2.ensures
