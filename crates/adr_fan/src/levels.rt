@@ -5,8 +5,9 @@ ghost use Rattle.adr_fan.specs.Levels.{fault_of, IsServed};
 ghost use Rattle.adr_fan.specs.declared.levels.Stop.TheVariants.{NoRuntime};
 ghost use Rattle.adr_fan.specs.Parts.{AreParts, AreTrue};
 
+use crate::mailbox::Mailbox;
 use crate::reading::{Answers, Part, Reply, start};
-use crate::script::FanDesk;
+use crate::script::{FanDesk, close_all};
 use adr_board::{Gate, Naming, Reader};
 use adr_script::{Fault, Logs, serve};
 use std::io::{Read, Write};
@@ -64,7 +65,7 @@ fn serve_all<J: Naming, H: AllocGlobal + Threads + Wait, I: Read, W: Write>(
 {
     let parts = Vec::new(rt.alloc());
     let served = serve(rt, reader, writer, logs, desk);
-    desk.close_boxes(rt);
+    close_all(rt, desk.boxes.as_slice());
     match served {
         Ok(()) => Ok(Collected {
             parts,
@@ -91,11 +92,11 @@ fn start_seat<
 >(
     rt: &H,
     gate: &Arc<G>,
-    desk: &FanDesk<J>,
+    boxes: &[Arc<Mailbox>],
     seated: Reader<J>,
     seat: usize,
 ) -> Option<PromisedHandle<Part<J>, Answers<J>>> {
-    let mailbox = desk.boxes.get(seat)?;
+    let mailbox = boxes.get(seat)?;
     start(rt, gate, mailbox, seated, seat)
 }
 
@@ -128,8 +129,8 @@ pub(crate) fn level<
     let Some(seated) = seats.pop() else {
         return serve_all(rt, reader, writer, logs, desk);
     };
-    let Some(child) = start_seat(rt, gate, desk, seated, seats.len()) else {
-        desk.close_boxes(rt);
+    let Some(child) = start_seat(rt, gate, desk.boxes.as_slice(), seated, seats.len()) else {
+        close_all(rt, desk.boxes.as_slice());
         return Err(Stop::NoRuntime);
     };
     let collected = level(rt, gate, reader, writer, logs, desk, seats);

@@ -135,13 +135,6 @@ impl<J: Naming> FanDesk<J> {
         Ok(())
     }
 
-    /// No query comes from now on.
-    pub(crate) fn close_boxes<R: Wait>(&self, rt: &R) {
-        for mailbox in &self.boxes {
-            mailbox.close(rt);
-        }
-    }
-
     /// A reader's replies, if they are one of its parts. The reader learns of all publications and looks once more.
     pub(crate) fn check(&self, part: Part<J>) -> Option<Vec<Reply>>
         requires { AreTrue J.tie part.reader.seen part.replies.items }
@@ -194,6 +187,13 @@ fn send_all<R: Wait>(rt: &R, boxes: &[Arc<Mailbox>], copies: Vec<Sent>) -> Resul
         mailbox.send(rt, sent)?;
     }
     Ok(())
+}
+
+/// No query comes from now on.
+pub(crate) fn close_all<R: Wait>(rt: &R, boxes: &[Arc<Mailbox>]) {
+    for mailbox in boxes {
+        mailbox.close(rt);
+    }
 }
 
 impl<J: Naming> Machine for FanDesk<J> {
