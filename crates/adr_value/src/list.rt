@@ -15,6 +15,40 @@ pub(crate) enum Items<T> {
     Many(Vec<T>),
 }
 
+impl<T: Drop> Items<T> {
+    ghost use Rattle.adr_value.specs.Items.{items_of};
+
+    // Adds an element at the end.
+    fn push(&mut self, alloc: Global, item: T) -> Result<(), Refusal>
+        ensures added { OnOk result (items_of self.new ≡ items_of self.old ++ item ∷ []) }
+        ensures kept { OnErr result (items_of self.new ≡ items_of self.old) }
+        ensures memory { OnlyNoMemory result }
+    {
+        match self {
+            Items::Many(items) if !items.is_empty() => items.push(item)?,
+            Items::Many(_) => *self = Items::One(item),
+            Items::One(_) => {
+                let items = Vec::with_capacity(alloc, 4)?;
+                if let Items::One(first) = mem::replace(self, Items::Many(Vec::new(alloc))) {
+                    *self = Items::Many(with_two(items, first, item));
+                }
+            }
+        }
+        Ok(())
+    }
+}
+
+// The empty vector with two elements, which it has room for.
+fn with_two<T: Drop>(mut items: Vec<T>, first: T, second: T) -> Vec<T>
+    requires empty { items.items ≡ [] }
+    requires room { 2 ≤ items.cap }
+    ensures { result.items ≡ first ∷ second ∷ [] }
+{
+    items.push_reserved(first);
+    items.push_reserved(second);
+    items
+}
+
 /// A list of at most `LIMIT` elements, which contracts see as its elements in order. A list of one takes no memory of its
 /// own.
 #[derive(Debug)]
@@ -51,25 +85,6 @@ impl<T: Drop, const LIMIT: usize> BoundedVec<T, LIMIT> {
         }
     }
 
-    /// The list of these elements, with no memory taken and no room to spare.
-    pub fn from_vec(mut items: Vec<T>) -> BoundedVec<T, LIMIT>
-        requires { length items.items ≤ LIMIT }
-        ensures { result ≡ items.items }
-    {
-        if items.len() != 1 {
-            items.shrink_to_fit();
-            return BoundedVec {
-                items: Items::Many(items),
-            };
-        }
-        match items.pop() {
-            Some(item) => BoundedVec {
-                items: Items::One(item),
-            },
-            None => unreachable!(),
-        }
-    }
-
     /// Adds an element at the end: the first in place, and from the second on as a vector does. `NoMemory` where it can't
     /// grow; then the list is as it was.
     pub fn push(&mut self, alloc: Global, item: T) -> Result<(), Refusal>
@@ -78,21 +93,7 @@ impl<T: Drop, const LIMIT: usize> BoundedVec<T, LIMIT> {
         ensures kept { OnErr result (self.new ≡ self.old) }
         ensures memory { OnlyNoMemory result }
     {
-        if let Items::Many(items) = &mut self.items {
-            if !items.is_empty() {
-                items.push(item)?;
-                return Ok(());
-            }
-            self.items = Items::One(item);
-            return Ok(());
-        }
-        let mut items = Vec::with_capacity(alloc, 4)?;
-        if let Items::One(first) = mem::replace(&mut self.items, Items::Many(Vec::new(alloc))) {
-            items.push_reserved(first);
-        }
-        items.push_reserved(item);
-        self.items = Items::Many(items);
-        Ok(())
+        self.items.push(alloc, item)
     }
 
     /// Gives back the room that there is to spare.
@@ -143,20 +144,20 @@ impl<T: TryClone, const LIMIT: usize> BoundedVec<T, LIMIT> {
     {
         let items = match &self.items {
             Items::One(item) => Items::One(item.try_clone()?),
-            Items::Many(items) => Items::Many(copy_all(items)?),
+            Items::Many(items) => Items::Many(copy_all(*items.allocator(), items.as_slice())?),
         };
         Ok(BoundedVec { items })
     }
 }
 
 /// A vector of copies of the elements, with no room to spare.
-fn copy_all<T: TryClone>(items: &Vec<T>) -> Result<Vec<T>, Refusal>
-    ensures items { IfOk result (λ copies. copies.items ≡ items.now.items) }
+fn copy_all<T: TryClone>(alloc: Global, items: &[T]) -> Result<Vec<T>, Refusal>
+    ensures items { IfOk result (λ copies. copies.items ≡ items.now) }
     ensures refusal { OnlyNoMemory result }
 {
-    let mut copies = Vec::with_capacity(*items.allocator(), items.len())?;
-    for item in items.as_slice() {
-        copies.push(item.try_clone()?)?;
+    let mut copies = Vec::with_capacity(alloc, items.len())?;
+    for item in items {
+        copies.push_reserved(item.try_clone()?);
     }
     Ok(copies)
 }
