@@ -40,16 +40,6 @@ pub fn taken<C: Clock, T: Drop, E: Drop>(
     }
 }
 
-/// Names a call of a book or a desk of that version, before it is made.
-pub fn name_call(rt: &impl Print, call: &str, version: u64) -> io::Result<()> {
-    println!(rt; "{call}: version {version}")
-}
-
-/// Names a call that makes or judges the edit of the line, before it is made.
-pub fn name_edit(rt: &impl Print, call: &str, version: u64, line: &str) -> io::Result<()> {
-    println!(rt; "{call}: version {version}, {line}")
-}
-
 /// Prints whether what the call left, or made, is what there is without a refusal.
 pub fn tell_same(rt: &impl Print, is_same: bool) -> io::Result<()> {
     println!(rt;
