@@ -19,10 +19,10 @@ pub fn same_by_id(a: &Store, b: &Store, id: &Id) -> bool {
 
 fn same_programs(a: &Store, b: &Store) -> bool {
     for place in 0..a.count(Kind::Program) {
-        let program = a.program_at(place);
-        if !same_option(program, b.program_at(place))
-            || !program.is_some_and(|program| same_by_id(a, b, &program.id))
-        {
+        let Some(program) = a.program_at(place) else {
+            return false;
+        };
+        if !same_option(Some(program), b.program_at(place)) || !same_by_id(a, b, &program.id) {
             return false;
         }
     }
@@ -31,8 +31,10 @@ fn same_programs(a: &Store, b: &Store) -> bool {
 
 fn same_vens(a: &Store, b: &Store) -> bool {
     for place in 0..a.count(Kind::Ven) {
-        let ven = a.ven_at(place);
-        if !same_option(ven, b.ven_at(place)) || !ven.is_some_and(|ven| same_by_id(a, b, &ven.id)) {
+        let Some(ven) = a.ven_at(place) else {
+            return false;
+        };
+        if !same_option(Some(ven), b.ven_at(place)) || !same_by_id(a, b, &ven.id) {
             return false;
         }
     }
@@ -41,10 +43,10 @@ fn same_vens(a: &Store, b: &Store) -> bool {
 
 fn same_resources(a: &Store, b: &Store) -> bool {
     for place in 0..a.count(Kind::Resource) {
-        let resource = a.resource_at(place);
-        if !same_option(resource, b.resource_at(place))
-            || !resource.is_some_and(|resource| same_by_id(a, b, &resource.id))
-        {
+        let Some(resource) = a.resource_at(place) else {
+            return false;
+        };
+        if !same_option(Some(resource), b.resource_at(place)) || !same_by_id(a, b, &resource.id) {
             return false;
         }
     }
@@ -53,16 +55,21 @@ fn same_resources(a: &Store, b: &Store) -> bool {
 
 /// Whether both find the same event by the number, if there is one.
 fn same_by_number(a: &Store, b: &Store, number: Option<u64>) -> bool {
-    number.is_some_and(|number| same_option(a.event_by(number), b.event_by(number)))
+    match number {
+        Some(number) => same_option(a.event_by(number), b.event_by(number)),
+        None => false,
+    }
 }
 
 fn same_events(a: &Store, b: &Store) -> bool {
     for place in 0..a.count(Kind::Event) {
-        let event = a.event_at(place);
+        let Some(event) = a.event_at(place) else {
+            return false;
+        };
         let written = a.written_at(place);
-        if !same_option(event, b.event_at(place))
+        if !same_option(Some(event), b.event_at(place))
             || written != b.written_at(place)
-            || !event.is_some_and(|event| same_by_id(a, b, &event.id))
+            || !same_by_id(a, b, &event.id)
             || !same_by_number(a, b, written)
         {
             return false;
