@@ -72,6 +72,21 @@ both_repaired xs ys k t w old middle new first second =
     by false true f s = s
     by false false f s = s ∙ f
 
+-- what is made of the first type, and then of the others, is what is made of all
+pub next_repaired : (g : TypeEntries) (all more : List TypeEntries) (k : PayloadType) (t : ℤ) (w old new : Option Winner) → all ≡ g ∷ more
+    → new ≡ (if any_covers_at (own_entries g k) t then w else old)
+    → (if any_covers_at (entries_under more k) t then w else new) ≡ (if any_covers_at (entries_under all k) t then w else old)
+next_repaired g all more k t w old new is made =
+    by (any_covers_at (own_entries g k) t) (any_covers_at (entries_under more k) t) made
+    ∙ ap (λ (b : Bool). if b then w else old)
+    (sym (list_any-append (λ e. covers e.span t) (own_entries g k) (entries_under more k)) ∙ ap (λ gs. any_covers_at (entries_under gs k) t) (sym is))
+  where
+    by : (a b : Bool) → new ≡ (if a then w else old) → (if b then w else new) ≡ (if a || b then w else old)
+    by true true h = refl
+    by true false h = h
+    by false true h = refl
+    by false false h = h
+
 pub most_both : (xs ys : List TypeEntries) (writes : List ℕ) (indexes : Indexes) → most_repaired (xs ++ ys) writes indexes ≡ most_repaired xs writes indexes + most_repaired ys writes indexes
 most_both [] ys writes indexes = omega arith
 most_both (g ∷ xs) ys writes indexes = let rest = most_both xs ys writes indexes in omega (arith, rest)

@@ -13,6 +13,13 @@ use adr_time::Span;
 use adr_value::Refusal;
 use std::alloc::Global;
 
+/// Whether the window has the same span as the other.
+fn has_same_span(window: &Entry, other: &Entry) -> bool
+    ensures { IsTrue result → window.now.span ≡ other.now.span }
+{
+    window.span == other.span
+}
+
 /// Whether the windows have the same spans as the others, each at the same place.
 fn have_same_spans(windows: &[Entry], others: &[Entry]) -> bool
     ensures { result ≡ true → (t : ℤ) → any_covers_at windows.now t ≡ any_covers_at others.now t }
@@ -23,7 +30,7 @@ fn have_same_spans(windows: &[Entry], others: &[Entry]) -> bool
         let Some((other, others_more)) = right.split_first() else {
             return false;
         };
-        if window.span != other.span {
+        if !has_same_span(window, other) {
             return false;
         }
         left = more;

@@ -1,4 +1,4 @@
-use Rattle.std.proofs.Common.{◌≡◌, ℤ, ◌||◌, List, ◌∷◌, ap, sym, ◌∙◌, rules}
+use Rattle.std.proofs.Common.{◌≡◌, ℤ, ◌||◌, List, ◌∷◌, ap, sym, ◌∙◌}
 use Rattle.adr_time.specs.Spans.{covers}
 use Rattle.adr_time.specs.declared.span.Span.{Span}
 use Rattle.adr_model.specs.declared.entry.Entry.{Entry}
@@ -15,6 +15,5 @@ same_with_one left more right others window other l r span same t =
 
 pub rest-preserved : goal.rest-preserved
 rest-preserved c same =
-    let span : c.in-Some.window.now.span ≡ c.in-Some-split_first.other.now.span = search rules in
     c.rest.invariant (same_with_one c.rest.left.now c.in-Some.more.now c.rest.right.now c.in-Some-split_first.others_more.now c.in-Some.window.now c.in-Some-split_first.other.now
-    c.in-Some.ensures.cases.0 c.in-Some-split_first.ensures.cases.0 span same)
+    c.in-Some.ensures.cases.0 c.in-Some-split_first.ensures.cases.0 (c.has_same_span.ensures c.if-not-has_same_span.false) same)
