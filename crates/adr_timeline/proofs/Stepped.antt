@@ -1,5 +1,5 @@
 -- Steps of one entry, and the segments of a list of steps.
-use Rattle.std.proofs.Common.{◌≡◌, ℕ, ◌+◌, ◌*◌, ◌-◌, ◌/◌, ◌<◌, ◌≤◌, not, ◌&&◌, Bool, true, false, List, [], ◌∷◌, ◌++◌, length, take, drop, Option, Some, None, filter, inl, inr, if◌then◌else◌, refl, sym, ◌∙◌, ap, arith, ℤ, ◌≤ℤ◌, int_le, int_lt}
+use Rattle.std.proofs.Common.{◌≡◌, ℕ, ◌+◌, ◌*◌, ◌-◌, ◌/◌, ◌<◌, ◌≤◌, not, ◌&&◌, Bool, true, false, List, [], ◌∷◌, ◌++◌, length, take, drop, Option, Some, None, filter, inl, inr, if◌then◌else◌, append_assoc, length-append, refl, sym, ◌∙◌, ap, arith, ℤ, ◌≤ℤ◌, int_le, int_lt}
 use Rattle.std.specs.Option.{option_map}
 use Rattle.std.proofs.Math.Nat.{mul-le-mul_left}
 use Rattle.std.proofs.lemmas.List.{length-take-le, length-drop, take-append-drop}
@@ -14,7 +14,7 @@ use Rattle.adr_model.specs.declared.timeline.Winner.{Winner}
 use Rattle.adr_model.specs.declared.timeline.Segment.{Segment}
 use Rattle.adr_timeline.proofs.Segments.{winner_in}
 use Rattle.adr_timeline.specs.declared.step.Step.{Step}
-use Rattle.adr_timeline.specs.Steps.{Adds, AreRanked, IsMergeOf, lesser, rank_at, rank_from, IsFrom, IsInOrder, down_at, steps_of, first_from, is_run, winner_of_rank, piece, pieces}
+use Rattle.adr_timeline.specs.Steps.{Adds, AreRanked, IsMergeOf, lesser, rises, rank_at, rank_from, IsFrom, IsInOrder, down_at, steps_of, first_from, is_run, winner_of_rank, piece, pieces}
 use Rattle.adr_time.specs.Spans.{meets}
 use Rattle.adr_time.specs.declared.span.Span.{Span}
 use Rattle.adr_model.specs.Entries.{meeting}
@@ -22,6 +22,7 @@ use Rattle.adr_model.specs.Governor.{winner_at}
 use Rattle.adr_model.specs.Timeline.{shows, IsCanonical}
 use Rattle.adr_timeline.specs.Parts.{part, joined_all}
 use Rattle.adr_timeline.proofs.Pieces.{StartsBy, StartsAfter, IsSpread, clip_made, none_there}
+use Rattle.adr_timeline.proofs.Merged.{rises_few}
 use Rattle.adr_timeline.proofs.Least.{lesser_none, rank_cons, rank_append, winner_rank}
 use Rattle.std.proofs.Math.Seq.{take-append_seam, drop-append_seam}
 
@@ -194,6 +195,10 @@ all_within front back all before between later now left right h first second l r
 pub halves_rank : (front back all : List Entry) (t : ℤ) (left right whole : Option Rank) → all ≡ front ++ back → left ≡ rank_at front t → right ≡ rank_at back t → whole ≡ lesser left right → whole ≡ rank_at all t
 halves_rank front back all t left right whole p l r h = rw (h, l, r, p) (sym (rank_append front back t))
 
+-- as many steps go up at most as the ranked entries have
+pub rises_within : (entries : List Entry) (steps : List Step) → AreRanked entries steps → rises steps ≤ 2 * length entries
+rises_within entries steps ranked = omega (arith, rises_few steps, ranked.1)
+
 -- ---- the entries that meet a window
 
 covers_meets : (a b : ℤ) (e f : End) (t : ℤ) → (int_le a t && is_before t e) ≡ true → (int_le b t && is_before t f) ≡ true → (is_before a e && is_before b f && is_before a f && is_before b e) ≡ true
@@ -234,10 +239,21 @@ build_shows es steps new w o r n t =
 
 -- ---- the steps of both halves, one after the other
 
-pub left_part : (before after all o l r front left : List Step) (start middle : ℕ) → after ≡ before ++ l → all ≡ after ++ r → start ≡ length before → middle ≡ length after → o ≡ all → front ≡ take middle o → left ≡ drop start front → left ≡ l
-left_part before after all o l r front left start middle h k s m is f d =
-    let front_is : front ≡ after = f ∙ (rw (m, is, k) (take-append_seam after r)) in
-    d ∙ (rw (s, front_is, h) (drop-append_seam before l))
+-- the first half's steps, the second's behind them, and those that were there before
+pub parts_there : (before after all l r : List Step) (start middle : ℕ) → after ≡ before ++ l → all ≡ after ++ r → start ≡ length before → middle ≡ length after
+    → (take start all ≡ before) × (drop start (take middle all) ≡ l) × (drop middle all ≡ r)
+parts_there before after all l r start middle h k s m = (
+  rw (s, k, h, append_assoc before l r) (take-append_seam before (l ++ r)),
+  (let front : take middle all ≡ after = rw (m, k) (take-append_seam after r) in rw (s, front, h) (drop-append_seam before l)),
+  rw (m, k) (drop-append_seam after r),
+)
+
+pub places_there : (before after all l r : List Step) (start middle : ℕ) → after ≡ before ++ l → all ≡ after ++ r → start ≡ length before → middle ≡ length after
+    → (start ≤ middle) × (middle ≤ length all)
+places_there before after all l r start middle h k s m =
+    let within : length after ≡ length before + length l = ap length h ∙ length-append before l in
+    let whole : length all ≡ length after + length r = ap length k ∙ length-append after r in
+    (omega arith, omega arith)
 
 pub right_part : (after all o r right : List Step) (middle : ℕ) → all ≡ after ++ r → middle ≡ length after → o ≡ all → right ≡ drop middle o → right ≡ r
 right_part after all o r right middle k m is d = d ∙ (rw (m, is, k) (drop-append_seam after r))

@@ -1,5 +1,5 @@
 //! Steps: the least rank from moment to moment, by halves that are merged.
-ghost use Rattle.std.specs.Prelude.{◌≡◌, ◌+◌, ◌*◌, ◌<◌, ◌≤◌, ◌^◌, ℤ, [], ◌++◌, ◌∷◌, IfOk, IsTrue, OnOk, None, drop, length, map};
+ghost use Rattle.std.specs.Prelude.{◌≡◌, ◌+◌, ◌*◌, ◌<◌, ◌≤◌, ◌^◌, ℤ, [], ◌++◌, ◌∷◌, IfOk, IsTrue, OnOk, None, drop, take, length, map};
 ghost use Rattle.adr_timeline.specs.Parts.{joined_all, part};
 ghost use Rattle.adr_timeline.specs.Steps.{Adds, AreRanked, IsInOrder, IsMergeOf, first_from, goes_left as is_left_next, is_run as are_in_turn, starts_from as starts_from_end, steps_in_turn, lesser, own_segment as segment_of, piece, pieces, rank_at, rank_from, rise, rises, steps_of};
 
@@ -166,6 +166,30 @@ fn rank_over_run(
     Ok(())
 }
 
+/// Puts the steps of the other list from a place up to a later one, merged with those from there on, at the end of others,
+/// and takes them off the other list.
+fn merge_from(
+    steps: &mut Vec<Step>,
+    other: &mut Vec<Step>,
+    start: usize,
+    middle: usize,
+    meter: &mut Meter,
+) -> Result<(), AllocError>
+    requires places { (start ≤ middle) × (middle ≤ length other.old.items) }
+    requires room { meter.old + (rises (drop start (take middle other.old.items)) + rises (drop middle other.old.items)) < 2 ^ 128 }
+    requires left { IsInOrder (drop start (take middle other.old.items)) }
+    requires right { IsInOrder (drop middle other.old.items) }
+    ensures merged { OnOk result (Adds (IsMergeOf (drop start (take middle other.old.items)) (drop middle other.old.items)) steps.old.items steps.new.items) }
+    ensures kept { OnOk result (other.new.items ≡ take start other.old.items) }
+    ensures compared { meter.new ≤ meter.old + (rises (drop start (take middle other.old.items)) + rises (drop middle other.old.items)) }
+{
+    let (before, right) = other.split_at(middle);
+    let (_, left) = before.split_at(start);
+    merge(steps, left, right, meter)?;
+    other.truncate(start);
+    Ok(())
+}
+
 /// Puts the steps of the least rank among the entries at the end of others. They are parted in their middle, and the
 /// steps of the parts are merged from the end of the other list: for k entries about k log k steps.
 fn rank(
@@ -193,11 +217,7 @@ fn rank(
     rank(other, steps, front, meter)?;
     let middle = other.len();
     rank(other, steps, back, meter)?;
-    let (before, right) = other.split_at(middle);
-    let (_, left) = before.split_at(start);
-    merge(steps, left, right, meter)?;
-    other.truncate(start);
-    Ok(())
+    merge_from(steps, other, start, middle, meter)
 }
 
 /// Puts the steps of the least rank among the entries in the place of those that are there. Both lists have room for all
