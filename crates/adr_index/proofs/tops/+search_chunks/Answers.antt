@@ -1,4 +1,4 @@
-use Rattle.std.proofs.Common.{rules, ◌≡◌, ◌/◌, ◌<◌, length, true, false, sym, arith}
+use Rattle.std.proofs.Common.{rules, ◌≡◌, ◌/◌, ◌<◌, length, true, false, sym, ◌∙◌, arith}
 use Rattle.std.proofs.lemmas.List.{append-nil}
 use Rattle.adr_index.specs.Chunks.{all_listed, listed, IsChunk}
 use Rattle.adr_index.specs.Query.{any_late, reached}
@@ -10,36 +10,36 @@ use Rattle.adr_index.proofs.tops.+search_chunks.Goals as goal
 
 pub returns-then-not-any_chunk_reaches-clause-found : goal.returns-then-not-any_chunk_reaches-clause-found
 returns-then-not-any_chunk_reaches-clause-found t c =
-    let two : 1 < length c.args.chunks.now = search rules in
-    let none : any_lasts (all_listed c.args.chunks.now) c.args.query.now.from ≡ false = search rules in
+    let two : 1 < length c.args.chunks.now = c.if-count-lt2.false in
+    let none : any_lasts (all_listed c.args.chunks.now) c.args.query.now.from ≡ false = sym c.any_chunk_reaches.ensures ∙ c.if-not-any_chunk_reaches.true in
     rw (none_last (all_listed c.args.chunks.now) c.args.query.now none) (sym (append-nil c.args.found.now.items))
 
 pub returns-then-not-any_chunk_reaches-clause-late : goal.returns-then-not-any_chunk_reaches-clause-late
 returns-then-not-any_chunk_reaches-clause-late t c =
-    let two : 1 < length c.args.chunks.now = search rules in
-    let none : any_lasts (all_listed c.args.chunks.now) c.args.query.now.from ≡ false = search rules in
+    let two : 1 < length c.args.chunks.now = c.if-count-lt2.false in
+    let none : any_lasts (all_listed c.args.chunks.now) c.args.query.now.from ≡ false = sym c.any_chunk_reaches.ensures ∙ c.if-not-any_chunk_reaches.true in
     sym (none_late_last (all_listed c.args.chunks.now) c.args.query.now none)
 
 pub scan_chunks-requires-then-count-le-FEW-clause-room : goal.scan_chunks-requires-then-count-le-FEW-clause-room
 scan_chunks-requires-then-count-le-FEW-clause-room t c =
-    let two : 1 < length c.args.chunks.now = search rules in
-    let last : any_lasts (all_listed c.args.chunks.now) c.args.query.now.from ≡ true = search rules in
-    let cost = few_chunks_paid c.args.levels c.args.depth (length c.args.chunks.now) (reached (all_listed c.args.chunks.now) c.args.query.now) (reached_some (all_listed c.args.chunks.now) c.args.query.now last) (few_levels c.args.levels (length c.args.chunks.now) two (search rules) c.requires.levels) in
+    let two : 1 < length c.args.chunks.now = c.if-count-lt2.false in
+    let last : any_lasts (all_listed c.args.chunks.now) c.args.query.now.from ≡ true = sym c.any_chunk_reaches.ensures ∙ c.if-not-any_chunk_reaches.false in
+    let cost = few_chunks_paid c.args.levels c.args.depth (length c.args.chunks.now) (reached (all_listed c.args.chunks.now) c.args.query.now) (reached_some (all_listed c.args.chunks.now) c.args.query.now last) (few_levels c.args.levels (length c.args.chunks.now) two (c.if-count-le-FEW.true) c.requires.levels) in
     omega (arith, cost, c.tick.ensures, c.requires.room)
 
 pub returns-then-count-le-FEW-clause-looks : goal.returns-then-count-le-FEW-clause-looks
 returns-then-count-le-FEW-clause-looks t c =
-    let two : 1 < length c.args.chunks.now = search rules in
-    let last : any_lasts (all_listed c.args.chunks.now) c.args.query.now.from ≡ true = search rules in
-    let cost = few_chunks_paid c.args.levels c.args.depth (length c.args.chunks.now) (reached (all_listed c.args.chunks.now) c.args.query.now) (reached_some (all_listed c.args.chunks.now) c.args.query.now last) (few_levels c.args.levels (length c.args.chunks.now) two (search rules) c.requires.levels) in
+    let two : 1 < length c.args.chunks.now = c.if-count-lt2.false in
+    let last : any_lasts (all_listed c.args.chunks.now) c.args.query.now.from ≡ true = sym c.any_chunk_reaches.ensures ∙ c.if-not-any_chunk_reaches.false in
+    let cost = few_chunks_paid c.args.levels c.args.depth (length c.args.chunks.now) (reached (all_listed c.args.chunks.now) c.args.query.now) (reached_some (all_listed c.args.chunks.now) c.args.query.now last) (few_levels c.args.levels (length c.args.chunks.now) two (c.if-count-le-FEW.true) c.requires.levels) in
     omega (arith, cost, c.tick.ensures, c.scan_chunks-then-count-le-FEW.ensures.looks)
 
 pub search_chunks-requires : goal.search_chunks-requires
 search_chunks-requires t c =
-    let two : 1 < length c.args.chunks.now = search rules in
-    let more : 4 < length c.args.chunks.now = search rules in
+    let two : 1 < length c.args.chunks.now = c.if-count-lt2.false in
+    let more : 4 < length c.args.chunks.now = c.if-count-le-FEW.false in
     let level : 0 < c.args.levels = level_some c.args.levels (length c.args.chunks.now) two c.requires.levels in
-    let last : any_lasts (all_listed c.args.chunks.now) c.args.query.now.from ≡ true = search rules in
+    let last : any_lasts (all_listed c.args.chunks.now) c.args.query.now.from ≡ true = sym c.any_chunk_reaches.ensures ∙ c.if-not-any_chunk_reaches.false in
     let whole = both_halves c.args.chunks.now c.split_at.result.0.now c.split_at.result.1.now (length c.args.chunks.now / 2) c.split_at.ensures.front c.split_at.ensures.back in
     let cost = left_paid c.args.chunks.now c.split_at.result.0.now c.split_at.result.1.now c.args.query.now c.args.levels c.args.depth whole level last in (
       search rules,
@@ -63,35 +63,35 @@ search_chunks-requires t c =
 
 pub returns-in_err-search_chunks-clause-looks : goal.returns-in_err-search_chunks-clause-looks
 returns-in_err-search_chunks-clause-looks t c =
-    let two : 1 < length c.args.chunks.now = search rules in
+    let two : 1 < length c.args.chunks.now = c.if-count-lt2.false in
     let level : 0 < c.args.levels = level_some c.args.levels (length c.args.chunks.now) two c.requires.levels in
-    let last : any_lasts (all_listed c.args.chunks.now) c.args.query.now.from ≡ true = search rules in
+    let last : any_lasts (all_listed c.args.chunks.now) c.args.query.now.from ≡ true = sym c.any_chunk_reaches.ensures ∙ c.if-not-any_chunk_reaches.false in
     let whole = both_halves c.args.chunks.now c.split_at.result.0.now c.split_at.result.1.now (length c.args.chunks.now / 2) c.split_at.ensures.front c.split_at.ensures.back in
     let cost = left_paid c.args.chunks.now c.split_at.result.0.now c.split_at.result.1.now c.args.query.now c.args.levels c.args.depth whole level last in
     omega (arith, cost, c.tick.ensures, c.search_chunks.ensures.looks)
 
 pub returns-then-branch-clause-found : goal.returns-then-branch-clause-found
 returns-then-branch-clause-found t c =
-    let late : any_late (all_listed c.split_at.result.0.now) c.args.query.now ≡ true = search rules in
+    let late : any_late (all_listed c.split_at.result.0.now) c.args.query.now ≡ true = sym c.in_ok-search_chunks.ensures.late ∙ c.if-branch.true in
     rw (found_left (all_listed c.args.chunks.now) (all_listed c.split_at.result.0.now) (all_listed c.split_at.result.1.now) c.args.query.now (both_halves c.args.chunks.now c.split_at.result.0.now c.split_at.result.1.now (length c.args.chunks.now / 2) c.split_at.ensures.front c.split_at.ensures.back) c.requires.order late) c.in_ok-search_chunks.ensures.found
 
 pub returns-then-branch-clause-looks : goal.returns-then-branch-clause-looks
 returns-then-branch-clause-looks t c =
-    let two : 1 < length c.args.chunks.now = search rules in
+    let two : 1 < length c.args.chunks.now = c.if-count-lt2.false in
     let level : 0 < c.args.levels = level_some c.args.levels (length c.args.chunks.now) two c.requires.levels in
-    let last : any_lasts (all_listed c.args.chunks.now) c.args.query.now.from ≡ true = search rules in
+    let last : any_lasts (all_listed c.args.chunks.now) c.args.query.now.from ≡ true = sym c.any_chunk_reaches.ensures ∙ c.if-not-any_chunk_reaches.false in
     let whole = both_halves c.args.chunks.now c.split_at.result.0.now c.split_at.result.1.now (length c.args.chunks.now / 2) c.split_at.ensures.front c.split_at.ensures.back in
     let cost = left_paid c.args.chunks.now c.split_at.result.0.now c.split_at.result.1.now c.args.query.now c.args.levels c.args.depth whole level last in
     omega (arith, cost, c.tick.ensures, c.search_chunks.ensures.looks)
 
 pub search_chunks-requires-2 : goal.search_chunks-requires-2
 search_chunks-requires-2 t c =
-    let two : 1 < length c.args.chunks.now = search rules in
-    let more : 4 < length c.args.chunks.now = search rules in
+    let two : 1 < length c.args.chunks.now = c.if-count-lt2.false in
+    let more : 4 < length c.args.chunks.now = c.if-count-le-FEW.false in
     let level : 0 < c.args.levels = level_some c.args.levels (length c.args.chunks.now) two c.requires.levels in
-    let last : any_lasts (all_listed c.args.chunks.now) c.args.query.now.from ≡ true = search rules in
+    let last : any_lasts (all_listed c.args.chunks.now) c.args.query.now.from ≡ true = sym c.any_chunk_reaches.ensures ∙ c.if-not-any_chunk_reaches.false in
     let whole = both_halves c.args.chunks.now c.split_at.result.0.now c.split_at.result.1.now (length c.args.chunks.now / 2) c.split_at.ensures.front c.split_at.ensures.back in
-    let early : any_late (all_listed c.split_at.result.0.now) c.args.query.now ≡ false = search rules in
+    let early : any_late (all_listed c.split_at.result.0.now) c.args.query.now ≡ false = sym c.in_ok-search_chunks.ensures.late ∙ c.if-branch.false in
     let cost = both_paid c.args.chunks.now c.split_at.result.0.now c.split_at.result.1.now c.args.query.now c.args.levels c.args.depth whole level last early in (
       search rules,
       (
@@ -114,10 +114,10 @@ search_chunks-requires-2 t c =
 
 pub returns-clause-looks : goal.returns-clause-looks
 returns-clause-looks t c =
-    let two : 1 < length c.args.chunks.now = search rules in
+    let two : 1 < length c.args.chunks.now = c.if-count-lt2.false in
     let level : 0 < c.args.levels = level_some c.args.levels (length c.args.chunks.now) two c.requires.levels in
-    let last : any_lasts (all_listed c.args.chunks.now) c.args.query.now.from ≡ true = search rules in
-    let early : any_late (all_listed c.split_at.result.0.now) c.args.query.now ≡ false = search rules in
+    let last : any_lasts (all_listed c.args.chunks.now) c.args.query.now.from ≡ true = sym c.any_chunk_reaches.ensures ∙ c.if-not-any_chunk_reaches.false in
+    let early : any_late (all_listed c.split_at.result.0.now) c.args.query.now ≡ false = sym c.in_ok-search_chunks.ensures.late ∙ c.if-branch.false in
     let whole = both_halves c.args.chunks.now c.split_at.result.0.now c.split_at.result.1.now (length c.args.chunks.now / 2) c.split_at.ensures.front c.split_at.ensures.back in
     let cost = both_paid c.args.chunks.now c.split_at.result.0.now c.split_at.result.1.now c.args.query.now c.args.levels c.args.depth whole level last early in
     omega (arith, cost, c.tick.ensures, c.search_chunks.ensures.looks, c.search_chunks-2.ensures.looks)

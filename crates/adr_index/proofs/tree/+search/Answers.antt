@@ -1,4 +1,4 @@
-use Rattle.std.proofs.Common.{rules, ◌≡◌, ◌<◌, length, true, false, sym, arith}
+use Rattle.std.proofs.Common.{rules, ◌≡◌, ◌<◌, length, true, false, sym, ◌∙◌, arith}
 use Rattle.std.proofs.lemmas.List.{append-nil}
 use Rattle.adr_index.specs.Query.{any_late}
 use Rattle.adr_index.specs.Tree.{any_lasts}
@@ -9,36 +9,36 @@ use Rattle.adr_index.proofs.tree.+search.Goals as goal
 
 pub returns-then-not-any_reaches-clause-found : goal.returns-then-not-any_reaches-clause-found
 returns-then-not-any_reaches-clause-found t c =
-    let two : 1 < length c.args.entries.now = search rules in
-    let none : any_lasts c.args.entries.now c.args.query.now.from ≡ false = search rules in
+    let two : 1 < length c.args.entries.now = c.if-count-lt2.false in
+    let none : any_lasts c.args.entries.now c.args.query.now.from ≡ false = sym c.any_reaches.ensures ∙ c.if-not-any_reaches.true in
     rw (none_last c.args.entries.now c.args.query.now none) (sym (append-nil c.args.found.now.items))
 
 pub returns-then-not-any_reaches-clause-late : goal.returns-then-not-any_reaches-clause-late
 returns-then-not-any_reaches-clause-late t c =
-    let two : 1 < length c.args.entries.now = search rules in
-    let none : any_lasts c.args.entries.now c.args.query.now.from ≡ false = search rules in
+    let two : 1 < length c.args.entries.now = c.if-count-lt2.false in
+    let none : any_lasts c.args.entries.now c.args.query.now.from ≡ false = sym c.any_reaches.ensures ∙ c.if-not-any_reaches.true in
     sym (none_late_last c.args.entries.now c.args.query.now none)
 
 pub scan-requires-then-count-le-FEW-clause-room : goal.scan-requires-then-count-le-FEW-clause-room
 scan-requires-then-count-le-FEW-clause-room t c =
-    let two : 1 < length c.args.entries.now = search rules in
-    let last : any_lasts c.args.entries.now c.args.query.now.from ≡ true = search rules in
-    let cost = looks_few c.args.levels (length c.args.entries.now) c.args.entries.now c.args.query.now last (few_levels c.args.levels (length c.args.entries.now) two (search rules) c.requires.levels) in
+    let two : 1 < length c.args.entries.now = c.if-count-lt2.false in
+    let last : any_lasts c.args.entries.now c.args.query.now.from ≡ true = sym c.any_reaches.ensures ∙ c.if-not-any_reaches.false in
+    let cost = looks_few c.args.levels (length c.args.entries.now) c.args.entries.now c.args.query.now last (few_levels c.args.levels (length c.args.entries.now) two (c.if-count-le-FEW.true) c.requires.levels) in
     omega (arith, cost, c.tick.ensures, c.requires.room)
 
 pub returns-then-count-le-FEW-clause-looks : goal.returns-then-count-le-FEW-clause-looks
 returns-then-count-le-FEW-clause-looks t c =
-    let two : 1 < length c.args.entries.now = search rules in
-    let last : any_lasts c.args.entries.now c.args.query.now.from ≡ true = search rules in
-    let cost = looks_few c.args.levels (length c.args.entries.now) c.args.entries.now c.args.query.now last (few_levels c.args.levels (length c.args.entries.now) two (search rules) c.requires.levels) in
+    let two : 1 < length c.args.entries.now = c.if-count-lt2.false in
+    let last : any_lasts c.args.entries.now c.args.query.now.from ≡ true = sym c.any_reaches.ensures ∙ c.if-not-any_reaches.false in
+    let cost = looks_few c.args.levels (length c.args.entries.now) c.args.entries.now c.args.query.now last (few_levels c.args.levels (length c.args.entries.now) two (c.if-count-le-FEW.true) c.requires.levels) in
     omega (arith, cost, c.tick.ensures, c.scan-then-count-le-FEW.ensures.looks)
 
 pub search-requires : goal.search-requires
 search-requires t c =
-    let two : 1 < length c.args.entries.now = search rules in
-    let more : 4 < length c.args.entries.now = search rules in
+    let two : 1 < length c.args.entries.now = c.if-count-lt2.false in
+    let more : 4 < length c.args.entries.now = c.if-count-le-FEW.false in
     let level : 0 < c.args.levels = level_some c.args.levels (length c.args.entries.now) two c.requires.levels in
-    let last : any_lasts c.args.entries.now c.args.query.now.from ≡ true = search rules in
+    let last : any_lasts c.args.entries.now c.args.query.now.from ≡ true = sym c.any_reaches.ensures ∙ c.if-not-any_reaches.false in
     let whole = c.split_at.ensures.by_index.0 in
     let cost = looks_left c.args.entries.now c.split_at.result.0.now c.split_at.result.1.now c.args.query.now whole c.args.levels level last in (
       search rules,
@@ -56,33 +56,33 @@ search-requires t c =
 
 pub returns-in_err-search-clause-looks : goal.returns-in_err-search-clause-looks
 returns-in_err-search-clause-looks t c =
-    let two : 1 < length c.args.entries.now = search rules in
+    let two : 1 < length c.args.entries.now = c.if-count-lt2.false in
     let level : 0 < c.args.levels = level_some c.args.levels (length c.args.entries.now) two c.requires.levels in
-    let last : any_lasts c.args.entries.now c.args.query.now.from ≡ true = search rules in
+    let last : any_lasts c.args.entries.now c.args.query.now.from ≡ true = sym c.any_reaches.ensures ∙ c.if-not-any_reaches.false in
     let cost = looks_left c.args.entries.now c.split_at.result.0.now c.split_at.result.1.now c.args.query.now c.split_at.ensures.by_index.0 c.args.levels level last in
     omega (arith, cost, c.tick.ensures, c.search.ensures.looks)
 
 pub returns-then-branch-clause-found : goal.returns-then-branch-clause-found
 returns-then-branch-clause-found t c =
-    let late : any_late c.split_at.result.0.now c.args.query.now ≡ true = search rules in
+    let late : any_late c.split_at.result.0.now c.args.query.now ≡ true = sym c.in_ok-search.ensures.late ∙ c.if-branch.true in
     rw (found_left c.args.entries.now c.split_at.result.0.now c.split_at.result.1.now c.args.query.now c.split_at.ensures.by_index.0 c.requires.order late) c.in_ok-search.ensures.found
 
 pub returns-then-branch-clause-looks : goal.returns-then-branch-clause-looks
 returns-then-branch-clause-looks t c =
-    let two : 1 < length c.args.entries.now = search rules in
+    let two : 1 < length c.args.entries.now = c.if-count-lt2.false in
     let level : 0 < c.args.levels = level_some c.args.levels (length c.args.entries.now) two c.requires.levels in
-    let last : any_lasts c.args.entries.now c.args.query.now.from ≡ true = search rules in
+    let last : any_lasts c.args.entries.now c.args.query.now.from ≡ true = sym c.any_reaches.ensures ∙ c.if-not-any_reaches.false in
     let cost = looks_left c.args.entries.now c.split_at.result.0.now c.split_at.result.1.now c.args.query.now c.split_at.ensures.by_index.0 c.args.levels level last in
     omega (arith, cost, c.tick.ensures, c.search.ensures.looks)
 
 pub search-requires-2 : goal.search-requires-2
 search-requires-2 t c =
-    let two : 1 < length c.args.entries.now = search rules in
-    let more : 4 < length c.args.entries.now = search rules in
+    let two : 1 < length c.args.entries.now = c.if-count-lt2.false in
+    let more : 4 < length c.args.entries.now = c.if-count-le-FEW.false in
     let level : 0 < c.args.levels = level_some c.args.levels (length c.args.entries.now) two c.requires.levels in
-    let last : any_lasts c.args.entries.now c.args.query.now.from ≡ true = search rules in
+    let last : any_lasts c.args.entries.now c.args.query.now.from ≡ true = sym c.any_reaches.ensures ∙ c.if-not-any_reaches.false in
     let whole = c.split_at.ensures.by_index.0 in
-    let early : any_late c.split_at.result.0.now c.args.query.now ≡ false = search rules in
+    let early : any_late c.split_at.result.0.now c.args.query.now ≡ false = sym c.in_ok-search.ensures.late ∙ c.if-branch.false in
     let cost = looks_both c.args.entries.now c.split_at.result.0.now c.split_at.result.1.now c.args.query.now whole c.args.levels level last early in (
       search rules,
       (
@@ -99,9 +99,9 @@ search-requires-2 t c =
 
 pub returns-clause-looks : goal.returns-clause-looks
 returns-clause-looks t c =
-    let two : 1 < length c.args.entries.now = search rules in
+    let two : 1 < length c.args.entries.now = c.if-count-lt2.false in
     let level : 0 < c.args.levels = level_some c.args.levels (length c.args.entries.now) two c.requires.levels in
-    let last : any_lasts c.args.entries.now c.args.query.now.from ≡ true = search rules in
-    let early : any_late c.split_at.result.0.now c.args.query.now ≡ false = search rules in
+    let last : any_lasts c.args.entries.now c.args.query.now.from ≡ true = sym c.any_reaches.ensures ∙ c.if-not-any_reaches.false in
+    let early : any_late c.split_at.result.0.now c.args.query.now ≡ false = sym c.in_ok-search.ensures.late ∙ c.if-branch.false in
     let cost = looks_both c.args.entries.now c.split_at.result.0.now c.split_at.result.1.now c.args.query.now c.split_at.ensures.by_index.0 c.args.levels level last early in
     omega (arith, cost, c.tick.ensures, c.search.ensures.looks, c.search-2.ensures.looks)
