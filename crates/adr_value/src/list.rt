@@ -85,6 +85,25 @@ impl<T: Drop, const LIMIT: usize> BoundedVec<T, LIMIT> {
         }
     }
 
+    /// The list of these elements, with no memory taken and no room to spare.
+    pub fn from_vec(mut items: Vec<T>) -> BoundedVec<T, LIMIT>
+        requires { length items.items ≤ LIMIT }
+        ensures { result ≡ items.items }
+    {
+        if items.len() != 1 {
+            items.shrink_to_fit();
+            return BoundedVec {
+                items: Items::Many(items),
+            };
+        }
+        match items.pop() {
+            Some(item) => BoundedVec {
+                items: Items::One(item),
+            },
+            None => unreachable!(),
+        }
+    }
+
     /// Adds an element at the end: the first in place, and from the second on as a vector does. `NoMemory` where it can't
     /// grow; then the list is as it was.
     pub fn push(&mut self, alloc: Global, item: T) -> Result<(), Refusal>
