@@ -10,9 +10,9 @@ use Rattle.adr_object.specs.declared.event.Event.{Event}
 use Rattle.adr_object.specs.declared.object.Edit.{Edit}
 use Rattle.adr_object.specs.declared.object.Edit.TheVariants.{Create, Change, Remove}
 use Rattle.adr_object.specs.declared.object.Kind.{Kind}
-use Rattle.adr_object.specs.declared.object.Kind.TheVariants.{Program as program_kind, Event as event_kind, Ven as ven_kind, Resource as resource_kind}
+use Rattle.adr_object.specs.declared.object.Kind.TheVariants.{Event as event_kind, Resource as resource_kind}
 use Rattle.adr_object.specs.declared.object.Object.{Object}
-use Rattle.adr_object.specs.declared.object.Object.TheVariants.{Program as program_object, Event as event_object, Ven as ven_object, Resource as resource_object}
+use Rattle.adr_object.specs.declared.object.Object.TheVariants.{Event as event_object, Resource as resource_object}
 use Rattle.adr_object.specs.declared.party.Program.{Program}
 use Rattle.adr_object.specs.declared.party.Resource.{Resource}
 use Rattle.adr_object.specs.declared.party.Ven.{Ven}
@@ -25,7 +25,6 @@ use Rattle.adr_model.proofs.Keyed.{found}
 use Rattle.adr_model.proofs.Steps.{no_fault, no_faults_before, no_faults_after}
 use Rattle.adr_store.proofs.Accepted.{is_ok}
 use Rattle.adr_audience.specs.Asks.{asks, asked_in, asks_of}
-use Rattle.adr_audience.specs.Laws.{is_of_program_or_event, is_of_ven_or_resource}
 use Rattle.adr_audience.specs.Offers.{offers}
 use Rattle.adr_audience.specs.Rows.{offered_in, offers_of}
 use Rattle.adr_audience.proofs.AskedEdits.{asks_of_changed, asks_of_removed}
@@ -153,19 +152,3 @@ module _ (book : Book) (place : ℕ) (whole : IsWhole book) where
       by (Some old) e h =
           subst (λ i. asks_of (made book (Remove event_kind i)) ≡ remove (asks_of book) place) (found (λ (w : Written). w.event.id) id book.events old e).1
           (asks_of_removed book place old whole.sound.ids (at ∙ e))
-
--- ---- each edit is of one side
-
-pub other_side : (edit : Edit) → is_of_program_or_event edit ≡ false → is_of_ven_or_resource edit ≡ true
-other_side (Create (program_object p)) h = absurd (false≢true (sym h))
-other_side (Create (event_object e)) h = absurd (false≢true (sym h))
-other_side (Create (ven_object v)) h = refl
-other_side (Create (resource_object r)) h = refl
-other_side (Change (program_object p)) h = absurd (false≢true (sym h))
-other_side (Change (event_object e)) h = absurd (false≢true (sym h))
-other_side (Change (ven_object v)) h = refl
-other_side (Change (resource_object r)) h = refl
-other_side (Remove program_kind id) h = absurd (false≢true (sym h))
-other_side (Remove event_kind id) h = absurd (false≢true (sym h))
-other_side (Remove ven_kind id) h = refl
-other_side (Remove resource_kind id) h = refl

@@ -1,16 +1,17 @@
 //! Both indexes of whom events are for, as one value that follows the edits.
 ghost use Rattle.std.specs.Prelude.{◌≡◌, IfOk, IsOk, OnOk, OnErr};
 ghost use Rattle.adr_refusal.specs.Answer.{OnlyNoMemory};
+ghost use Rattle.adr_object.specs.declared.object.Edit.TheVariants.{Create, Change, Remove};
 ghost use Rattle.adr_model.specs.Book.{Book, empty};
 ghost use Rattle.adr_model.specs.Edits.{made, step};
 ghost use Rattle.adr_model.specs.Whole.{IsWhole};
 ghost use Rattle.adr_audience.specs.Asks.{applying_events};
 ghost use Rattle.adr_audience.specs.Keys.{AreKeysOf};
-ghost use Rattle.adr_audience.specs.Laws.{applying_places, is_of_program_or_event as the_is_of_program_or_event};
+ghost use Rattle.adr_audience.specs.Laws.{applying_places};
 
 use crate::audience::Audience;
 use crate::targeting::Targeting;
-use adr_object::{Edit, Event, Kind, Object, Program, Resource, Ven};
+use adr_object::{Edit, Event, Id, Kind, Object, Program, Resource, Ven};
 use adr_store::Store;
 use adr_value::Refusal;
 use std::alloc::Global;
@@ -87,7 +88,10 @@ impl Audiences {
     }
 
     /// Follows an edit that is accepted: the rows become those of the book with the edit made. `store` has the objects
-    /// before the edit. Where there is no room for it, nothing changes. No edit touches both indexes.
+    /// before the edit. Where there is no room for it, nothing changes.
+    ///
+    /// Cost: that of the one call that the edit asks for of `Audience` or `Targeting`; programs and vens that come or go
+    /// change no row.
     pub fn follow(&mut self, store: &Store, edit: &Edit) -> Result<(), Refusal>
         requires keys { AreKeysOf store.now self.old }
         requires whole { IsWhole store.now }
@@ -96,21 +100,59 @@ impl Audiences {
         ensures err { OnErr result (self.new ≡ self.old) }
         ensures refusal { OnlyNoMemory result }
     {
-        if is_of_program_or_event(edit) {
-            self.events.follow(store, edit)
-        } else {
-            self.resources.follow(store, edit)
+        match edit {
+            Edit::Create(object) => self.follow_created(store, object),
+            Edit::Change(object) => self.follow_changed(store, object),
+            Edit::Remove(kind, id) => {
+                self.follow_removed(store, *kind, id);
+                Ok(())
+            }
         }
     }
-}
 
-/// Whether the edit is of a program or of an event.
-fn is_of_program_or_event(edit: &Edit) -> bool
-    ensures { result ≡ the_is_of_program_or_event edit.now }
-{
-    match edit {
-        Edit::Create(object) => matches!(object, Object::Program(_) | Object::Event(_)),
-        Edit::Change(object) => matches!(object, Object::Program(_) | Object::Event(_)),
-        Edit::Remove(kind, _) => matches!(kind, Kind::Program | Kind::Event),
+    fn follow_created(&mut self, store: &Store, object: &Object) -> Result<(), Refusal>
+        requires keys { AreKeysOf store.now self.old }
+        requires whole { IsWhole store.now }
+        requires accepted { IsOk (step store.now (Create object.now)) }
+        ensures ok { OnOk result (AreKeysOf (made store.now (Create object.now)) self.new) }
+        ensures err { OnErr result (self.new ≡ self.old) }
+        ensures refusal { OnlyNoMemory result }
+    {
+        match object {
+            Object::Program(_) => Ok(()),
+            Object::Event(event) => self.events.add_event(store, event.get()),
+            Object::Ven(_) => Ok(()),
+            Object::Resource(resource) => self.resources.add_resource(store, resource.get()),
+        }
+    }
+
+    fn follow_changed(&mut self, store: &Store, object: &Object) -> Result<(), Refusal>
+        requires keys { AreKeysOf store.now self.old }
+        requires whole { IsWhole store.now }
+        requires accepted { IsOk (step store.now (Change object.now)) }
+        ensures ok { OnOk result (AreKeysOf (made store.now (Change object.now)) self.new) }
+        ensures err { OnErr result (self.new ≡ self.old) }
+        ensures refusal { OnlyNoMemory result }
+    {
+        match object {
+            Object::Program(program) => self.events.change_program(store, program.get()),
+            Object::Event(event) => self.events.follow_event(store, event.get()),
+            Object::Ven(ven) => self.resources.change_ven(store, ven.get()),
+            Object::Resource(resource) => self.resources.follow_resource(store, resource.get()),
+        }
+    }
+
+    fn follow_removed(&mut self, store: &Store, kind: Kind, id: &Id)
+        requires keys { AreKeysOf store.now self.old }
+        requires whole { IsWhole store.now }
+        requires accepted { IsOk (step store.now (Remove kind id.now)) }
+        ensures { AreKeysOf (made store.now (Remove kind id.now)) self.new }
+    {
+        match kind {
+            Kind::Program => {}
+            Kind::Event => self.events.remove_event(store, id),
+            Kind::Ven => {}
+            Kind::Resource => self.resources.remove_resource(store, id),
+        }
     }
 }
