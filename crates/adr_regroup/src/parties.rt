@@ -116,8 +116,7 @@ fn without(alloc: Global, old: &Book, schedule: &Schedule, id: &Id) -> Result<Sc
     let Some(place) = old.resource_place(id) else {
         unreachable!();
     };
-    let after = schedule.without_place(alloc, place)?;
-    Ok(after)
+    schedule.without_place(alloc, place)
 }
 
 /// The schedule after an edit of a resource: its place comes, goes, or gets the writes of the events that apply to it now.

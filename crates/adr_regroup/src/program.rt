@@ -216,8 +216,7 @@ fn reseated<C: Fn(&Indexes, &[Job]) -> Result<Vec<Done>, Refusal>>(
         keys: &keys,
         indexes: edited.indexes,
     };
-    let after = reseated_all(alloc, crew, &basis, same, places, meter)?;
-    Ok(after)
+    reseated_all(alloc, crew, &basis, same, places, meter)
 }
 
 /// The schedule after the program is changed to this one.
@@ -268,8 +267,7 @@ fn after_object<C: Fn(&Indexes, &[Job]) -> Result<Vec<Done>, Refusal>>(
     match object {
         Object::Program(program) => {
             let program = program.get();
-            let after = after_change(alloc, crew, edited, program, meter)?;
-            Ok(after)
+            after_change(alloc, crew, edited, program, meter)
         }
         _ => unreachable!(),
     }
@@ -299,10 +297,7 @@ pub fn after_program<C: Fn(&Indexes, &[Job]) -> Result<Vec<Done>, Refusal>>(
     edited.old.book_laws();
     match edited.edit {
         Edit::Create(_) => Ok(edited.schedule.copy()?),
-        Edit::Change(object) => {
-            let after = after_object(alloc, crew, edited, object, meter)?;
-            Ok(after)
-        }
+        Edit::Change(object) => after_object(alloc, crew, edited, object, meter),
         Edit::Remove(_, _) => Ok(edited.schedule.copy()?),
     }
 }

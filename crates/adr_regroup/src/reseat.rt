@@ -44,8 +44,7 @@ fn writes_at(
     let Some(ven) = new.ven(&resource.ven_id) else {
         unreachable!();
     };
-    let writes = writes_for(alloc, old, keys, resource, ven)?;
-    Ok(writes)
+    writes_for(alloc, old, keys, resource, ven)
 }
 
 /// The law of the writes of a group: they ascend.
