@@ -1,57 +1,32 @@
 -- What edits of a book do to what its events ask for.
-use Rattle.std.proofs.Common.{◌≡◌, ◌++◌, ◌∷◌, [], ◌+◌, Bool, true, false, not, cond, List, Some, None, set, map, filter, is_some, refl, ap, sym, ◌∙◌, bytes_eq}
+use Rattle.std.proofs.Common.{◌++◌, ◌∷◌, [], ◌+◌, not, filter, refl, ap, bytes_eq}
 use Rattle.std.proofs.lemmas.Bool.{false≢true}
 use Rattle.std.proofs.lemmas.List.{map-append}
-use Rattle.std.proofs.lemmas.Slice.Eq.{bytes_eq-Decides}
-use Rattle.std.specs.Option.{option_map_or, unwrap_or}
+use Rattle.std.specs.Option.{option_map_or}
 use Rattle.adr_object.specs.declared.object.Kind.TheVariants.{Program as program_kind, Event as event_kind, Ven as ven_kind, Resource as resource_kind}
 use Rattle.adr_object.specs.declared.object.Object.TheVariants.{Program as program_object, Event as event_object, Resource as resource_object, Ven as ven_object}
 use Rattle.adr_object.specs.declared.object.Edit.TheVariants.{Create, Change, Remove}
 use Rattle.adr_object.specs.declared.party.Program.{Program}
 use Rattle.adr_model.specs.declared.written.Written.{Written}
-use Rattle.adr_keys.specs.declared.key.Key.{Key}
-use Rattle.adr_audience.specs.Asks.{asks, asked_in, asks_of, fresh_asks, with_program}
+use Rattle.adr_audience.specs.Asks.{asks, asked_in}
 use Rattle.adr_audience.specs.Laws.{AsksOfCreated, AsksOfChanged, AsksOfRemoved, AsksOfChangedProgram, AsksOfCreatedProgram, AsksOfRemovedProgram, AsksOfOthers}
-use Rattle.adr_audience.proofs.Placed.{put_at_place, drop_at_place, by_id, put, found_own, found_other, found_before, found_beside, same_rows, none_has}
+use Rattle.adr_audience.proofs.Named.{rows_renewed}
+use Rattle.adr_audience.proofs.Placed.{put_at_place, drop_at_place, by_id, found_before, found_beside, same_rows, none_has}
 
 pub asks_of_created : AsksOfCreated
-asks_of_created book event program e =
-    map-append (λ w. asked_in book w.event) book.events (record { event = event; written = book.version + 1 } ∷ []) ∙ ap (λ o. asks_of book ++ option_map_or (asks event) o [] ∷ []) e
+asks_of_created book event = map-append (λ w. asked_in book w.event) book.events (record { event = event; written = book.version + 1 } ∷ [])
 
 pub asks_of_changed : AsksOfChanged
-asks_of_changed book place old event program d e i v =
+asks_of_changed book place old event d e i =
     put_at_place (λ w. w.event.id) (λ w. asked_in book w.event) (record { event = event; written = book.version + 1 }) book.events place old d e i
-    ∙ ap (λ o. set (asks_of book) place (option_map_or (asks event) o [])) v
 
 pub asks_of_removed : AsksOfRemoved
 asks_of_removed book place w d e = drop_at_place (λ x. x.event.id) (λ x. asked_in book x.event) book.events place w d e
 
 -- ---- a program that changes
 
-module _ (program : Program) (ps : List Program) (there : is_some (by_id (λ (x : Program). x.id) program.id ps) ≡ true) where
-  one_row : (w : Written) → option_map_or (asks w.event) (by_id (λ (x : Program). x.id) w.event.program_id (put (λ (x : Program). x.id) program ps)) []
-      ≡ cond (bytes_eq program.id w.event.program_id) (asks w.event program) (option_map_or (asks w.event) (by_id (λ (x : Program). x.id) w.event.program_id ps) [])
-  one_row w = by (bytes_eq program.id w.event.program_id) refl
-    where
-      by : (b : Bool) → bytes_eq program.id w.event.program_id ≡ b → option_map_or (asks w.event) (by_id (λ (x : Program). x.id) w.event.program_id (put (λ (x : Program). x.id) program ps)) []
-          ≡ cond b (asks w.event program) (option_map_or (asks w.event) (by_id (λ (x : Program). x.id) w.event.program_id ps) [])
-      by true e = ap (λ o. option_map_or (asks w.event) o []) (ap (λ i. by_id (λ (x : Program). x.id) i (put (λ (x : Program). x.id) program ps)) (sym ((bytes_eq-Decides program.id w.event.program_id).0 e)) ∙ found_own (λ (x : Program). x.id) program ps there)
-      by false e = ap (λ o. option_map_or (asks w.event) o []) (found_other (λ (x : Program). x.id) program w.event.program_id ps e)
-
-  all_rows : (ws : List Written) → map (λ w. option_map_or (asks w.event) (by_id (λ (x : Program). x.id) w.event.program_id (put (λ (x : Program). x.id) program ps)) []) ws
-      ≡ with_program program ws (map (λ w. option_map_or (asks w.event) (by_id (λ (x : Program). x.id) w.event.program_id ps) []) ws)
-  all_rows [] = refl
-  all_rows (w ∷ ws) =
-      ap (λ x. x ∷ map (λ y. option_map_or (asks y.event) (by_id (λ (x : Program). x.id) y.event.program_id (put (λ (x : Program). x.id) program ps)) []) ws)
-      (one_row w ∙ chosen (bytes_eq program.id w.event.program_id) (asks w.event program) (option_map_or (asks w.event) (by_id (λ (x : Program). x.id) w.event.program_id ps) []))
-      ∙ ap (λ xs. unwrap_or (fresh_asks program w.event) (option_map_or (asks w.event) (by_id (λ (x : Program). x.id) w.event.program_id ps) []) ∷ xs) (all_rows ws)
-    where
-      chosen : (b : Bool) (x y : List Key) → cond b x y ≡ unwrap_or (cond b (Some x) None) y
-      chosen true x y = refl
-      chosen false x y = refl
-
 pub asks_of_changed_program : AsksOfChangedProgram
-asks_of_changed_program book program there = all_rows program book.programs there book.events
+asks_of_changed_program book program there = rows_renewed (λ (w : Written). asks w.event) (λ w. w.event.program_id) (λ p. p.id) program book.programs there book.events
 
 -- ---- a program that comes or goes
 

@@ -4,28 +4,25 @@ use Rattle.std.proofs.lemmas.Bool.{false≢true}
 use Rattle.std.proofs.lemmas.List.{length-map}
 use Rattle.adr_value.specs.declared.limits.TheConstants.{MOST_VERSION}
 use Rattle.adr_refusal.specs.declared.refusal.Refusal.{Refusal}
-use Rattle.adr_refusal.specs.declared.refusal.Refusal.TheVariants.{Exists, NotThere, NoProgram, NoVen, InUse, Full}
+use Rattle.adr_refusal.specs.declared.refusal.Refusal.TheVariants.{NotThere, InUse, Full}
 use Rattle.adr_object.specs.Object.{kind_of, id_of}
 use Rattle.adr_object.specs.declared.event.Event.{Event}
 use Rattle.adr_object.specs.declared.object.Edit.{Edit}
-use Rattle.adr_object.specs.declared.object.Edit.TheVariants.{Create, Change, Remove}
+use Rattle.adr_object.specs.declared.object.Edit.TheVariants.{Change, Remove}
 use Rattle.adr_object.specs.declared.object.Kind.{Kind}
 use Rattle.adr_object.specs.declared.object.Kind.TheVariants.{Event as event_kind, Resource as resource_kind}
 use Rattle.adr_object.specs.declared.object.Object.{Object}
 use Rattle.adr_object.specs.declared.object.Object.TheVariants.{Event as event_object, Resource as resource_object}
-use Rattle.adr_object.specs.declared.party.Program.{Program}
 use Rattle.adr_object.specs.declared.party.Resource.{Resource}
-use Rattle.adr_object.specs.declared.party.Ven.{Ven}
 use Rattle.adr_model.specs.declared.written.Written.{Written}
-use Rattle.adr_model.specs.Book.{Book, program_by, ven_by, resource_by, event_by}
+use Rattle.adr_model.specs.Book.{Book, resource_by, event_by}
 use Rattle.adr_model.specs.Edits.{step, made, faults, fault_if, layout_faults, reference_faults, has_id, is_full_for, is_named}
 use Rattle.adr_model.specs.Whole.{IsWhole}
 use Rattle.adr_model.proofs.EditLemmas.{accepted}
 use Rattle.adr_model.proofs.Keyed.{found}
 use Rattle.adr_model.proofs.Steps.{no_fault, no_faults_before, no_faults_after}
 use Rattle.adr_store.proofs.Accepted.{is_ok}
-use Rattle.adr_audience.specs.Asks.{asks, asked_in, asks_of}
-use Rattle.adr_audience.specs.Offers.{offers}
+use Rattle.adr_audience.specs.Asks.{asked_in, asks_of}
 use Rattle.adr_audience.specs.Rows.{offered_in, offers_of}
 use Rattle.adr_audience.proofs.AskedEdits.{asks_of_changed, asks_of_removed}
 use Rattle.adr_audience.proofs.Edited.{rows_of_changed, rows_of_removed}
@@ -45,39 +42,9 @@ on_ok (Err e) f h = h
 pub not_missing : {X : Type 0} (o : Option X) → false ≡ is_some o → is_some o ≡ true → ⊥
 not_missing o e h = false≢true (e ∙ h)
 
--- nor where it is a copy of it
-pub not_none : {X : Type 0} (a o : Option X) → a ≡ None → a ≡ o → is_some o ≡ true → ⊥
-not_none a o n e h = false≢true (sym (ap is_some n) ∙ ap is_some e ∙ h)
-
 module _ (book : Book) where
   faultless : (edit : Edit) → IsOk (step book edit) → faults book edit ≡ []
   faultless edit h = let s = is_ok (step book edit) h in (accepted book s.0 edit s.1).0
-
-  created_names : (o : Object) → IsOk (step book (Create o)) → reference_faults book o ≡ []
-  created_names o h =
-      let full : List Refusal = fault_if (nat_le MOST_VERSION book.version || is_full_for book (Create o)) Full in
-      let before : List Refusal = layout_faults o ++ fault_if (has_id book (kind_of o) (id_of o)) Exists in
-      no_faults_after before (reference_faults book o) (no_faults_before (before ++ reference_faults book o) full (faultless (Create o) h))
-
-  changed_names : (o : Object) → IsOk (step book (Change o)) → reference_faults book o ≡ []
-  changed_names o h =
-      let full : List Refusal = fault_if (nat_le MOST_VERSION book.version || is_full_for book (Change o)) Full in
-      let before : List Refusal = layout_faults o ++ fault_if (not (has_id book (kind_of o) (id_of o))) NotThere in
-      no_faults_after before (reference_faults book o) (no_faults_before (before ++ reference_faults book o) full (faultless (Change o) h))
-
-  -- the ven of a resource that comes or changes is there
-  pub ven_of_created : (r : Resource) → IsOk (step book (Create (resource_object r))) → is_some (ven_by book r.ven_id) ≡ true
-  ven_of_created r h = is_true (is_some (ven_by book r.ven_id)) (no_fault (not (is_some (ven_by book r.ven_id))) NoVen (created_names (resource_object r) h))
-
-  pub ven_of_changed : (r : Resource) → IsOk (step book (Change (resource_object r))) → is_some (ven_by book r.ven_id) ≡ true
-  ven_of_changed r h = is_true (is_some (ven_by book r.ven_id)) (no_fault (not (is_some (ven_by book r.ven_id))) NoVen (changed_names (resource_object r) h))
-
-  -- the program of an event that comes or changes is there
-  pub program_of_created : (e : Event) → IsOk (step book (Create (event_object e))) → is_some (program_by book e.program_id) ≡ true
-  program_of_created e h = is_true (is_some (program_by book e.program_id)) (no_fault (not (is_some (program_by book e.program_id))) NoProgram (created_names (event_object e) h))
-
-  pub program_of_changed : (e : Event) → IsOk (step book (Change (event_object e))) → is_some (program_by book e.program_id) ≡ true
-  program_of_changed e h = is_true (is_some (program_by book e.program_id)) (no_fault (not (is_some (program_by book e.program_id))) NoProgram (changed_names (event_object e) h))
 
   -- an object that changes is there
   pub changed_is_there : (o : Object) → IsOk (step book (Change o)) → has_id book (kind_of o) (id_of o) ≡ true
@@ -117,13 +84,13 @@ row_of_event book place o e h = let l = within book.events place o e h in omega 
 -- ---- the rows after an edit of the object at a place
 
 module _ (book : Book) (place : ℕ) (whole : IsWhole book) where
-  pub rows_changed : (new : Resource) (ven : Ven) → slice_get book.resources place ≡ resource_by book new.id → is_some (resource_by book new.id) ≡ true → ven_by book new.ven_id ≡ Some ven
-      → offers_of (made book (Change (resource_object new))) ≡ set (offers_of book) place (offers new ven)
-  rows_changed new ven at there v = by (resource_by book new.id) refl there
+  pub rows_changed : (new : Resource) → slice_get book.resources place ≡ resource_by book new.id → is_some (resource_by book new.id) ≡ true
+      → offers_of (made book (Change (resource_object new))) ≡ set (offers_of book) place (offered_in book new)
+  rows_changed new at there = by (resource_by book new.id) refl there
     where
-      by : (o : Option Resource) → resource_by book new.id ≡ o → is_some o ≡ true → offers_of (made book (Change (resource_object new))) ≡ set (offers_of book) place (offers new ven)
+      by : (o : Option Resource) → resource_by book new.id ≡ o → is_some o ≡ true → offers_of (made book (Change (resource_object new))) ≡ set (offers_of book) place (offered_in book new)
       by None e h = absurd (false≢true h)
-      by (Some old) e h = rows_of_changed book place old new ven whole.resource_ids (at ∙ e) (found (λ (r : Resource). r.id) new.id book.resources old e).1 v
+      by (Some old) e h = rows_of_changed book place old new whole.resource_ids (at ∙ e) (found (λ (r : Resource). r.id) new.id book.resources old e).1
 
   pub rows_removed : (id : List ℕ) → slice_get book.resources place ≡ resource_by book id → is_some (resource_by book id) ≡ true
       → offers_of (made book (Remove resource_kind id)) ≡ remove (offers_of book) place
@@ -135,13 +102,13 @@ module _ (book : Book) (place : ℕ) (whole : IsWhole book) where
           subst (λ i. offers_of (made book (Remove resource_kind i)) ≡ remove (offers_of book) place) (found (λ (r : Resource). r.id) id book.resources old e).1
           (rows_of_removed book place old whole.resource_ids (at ∙ e))
 
-  pub asks_changed : (new : Event) (program : Program) → slice_get book.events place ≡ event_by book new.id → is_some (event_by book new.id) ≡ true → program_by book new.program_id ≡ Some program
-      → asks_of (made book (Change (event_object new))) ≡ set (asks_of book) place (asks new program)
-  asks_changed new program at there v = by (event_by book new.id) refl there
+  pub asks_changed : (new : Event) → slice_get book.events place ≡ event_by book new.id → is_some (event_by book new.id) ≡ true
+      → asks_of (made book (Change (event_object new))) ≡ set (asks_of book) place (asked_in book new)
+  asks_changed new at there = by (event_by book new.id) refl there
     where
-      by : (o : Option Written) → event_by book new.id ≡ o → is_some o ≡ true → asks_of (made book (Change (event_object new))) ≡ set (asks_of book) place (asks new program)
+      by : (o : Option Written) → event_by book new.id ≡ o → is_some o ≡ true → asks_of (made book (Change (event_object new))) ≡ set (asks_of book) place (asked_in book new)
       by None e h = absurd (false≢true h)
-      by (Some old) e h = asks_of_changed book place old new program whole.sound.ids (at ∙ e) (found (λ (w : Written). w.event.id) new.id book.events old e).1 v
+      by (Some old) e h = asks_of_changed book place old new whole.sound.ids (at ∙ e) (found (λ (w : Written). w.event.id) new.id book.events old e).1
 
   pub asks_removed : (id : List ℕ) → slice_get book.events place ≡ event_by book id → is_some (event_by book id) ≡ true
       → asks_of (made book (Remove event_kind id)) ≡ remove (asks_of book) place

@@ -5,6 +5,7 @@ pub mod Applied
 pub mod Shared
 pub mod Listed
 pub mod Placed
+pub mod Named
 pub mod Edited
 pub mod AskedEdits
 pub mod Followed

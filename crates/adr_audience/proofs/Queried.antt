@@ -3,7 +3,6 @@ use Rattle.std.proofs.Common.{◌≡◌, ℕ, ◌<◌, ◌+◌, ◌&&◌, ◌||�
 use Rattle.std.proofs.lemmas.List.{take_more}
 use Rattle.std.proofs.lemmas.List.Folds.{list_any-append, list_all-append}
 use Rattle.std.specs.List.{list_any, list_all, range_with_len}
-use Rattle.adr_object.specs.declared.event.Target.{Target}
 
 pub or_false : (b : Bool) → (b || false) ≡ b
 or_false true = refl

@@ -18,9 +18,9 @@ use Rattle.adr_model.specs.Whole.{IsWhole, event_ids}
 use Rattle.adr_keys.specs.Rows.{offers_key}
 use Rattle.adr_audience.specs.Offers.{offers}
 use Rattle.adr_model.specs.declared.written.Written.{Written}
-use Rattle.adr_audience.specs.Asks.{asks, asks_of, with_program}
+use Rattle.adr_audience.specs.Asks.{asked_in, asks_of, with_program}
 use Rattle.adr_audience.specs.Query.{is_for}
-use Rattle.adr_audience.specs.Rows.{offers_of, with_ven}
+use Rattle.adr_audience.specs.Rows.{offered_in, offers_of, with_ven}
 
 -- an event is for what a resource with its ven offers just where it applies to the resource
 abbrev pub RowsMatchAsScenes : Type 0
@@ -56,16 +56,14 @@ RowsOfOthers = (book : Book) (edit : Edit) → is_of_program_or_event edit ≡ t
 
 -- a resource comes last, with its ven
 abbrev pub RowsOfCreated : Type 0
-RowsOfCreated =
-    (book : Book) (r : Resource) (ven : Ven) → ven_by book r.ven_id ≡ Some ven
-    → offers_of (made book (Create (resource r))) ≡ offers_of book ++ offers r ven ∷ []
+RowsOfCreated = (book : Book) (r : Resource) → offers_of (made book (Create (resource r))) ≡ offers_of book ++ offered_in book r ∷ []
 
 -- a resource changes in its place
 abbrev pub RowsOfChanged : Type 0
 RowsOfChanged =
-    (book : Book) (place : ℕ) (old new : Resource) (ven : Ven) → IsDistinct bytes_eq (map (λ x. x.id) book.resources)
-    → slice_get book.resources place ≡ Some old → old.id ≡ new.id → ven_by book new.ven_id ≡ Some ven
-    → offers_of (made book (Change (resource new))) ≡ set (offers_of book) place (offers new ven)
+    (book : Book) (place : ℕ) (old new : Resource) → IsDistinct bytes_eq (map (λ x. x.id) book.resources)
+    → slice_get book.resources place ≡ Some old → old.id ≡ new.id
+    → offers_of (made book (Change (resource new))) ≡ set (offers_of book) place (offered_in book new)
 
 -- a resource goes, and the gap is closed
 abbrev pub RowsOfRemoved : Type 0
@@ -91,16 +89,14 @@ RowsOfRemovedVen = (book : Book) (id : List ℕ) → is_named book ven_kind id �
 
 -- an event comes last, with its program
 abbrev pub AsksOfCreated : Type 0
-AsksOfCreated =
-    (book : Book) (event : Event) (program : Program) → program_by book event.program_id ≡ Some program
-    → asks_of (made book (Create (event_object event))) ≡ asks_of book ++ asks event program ∷ []
+AsksOfCreated = (book : Book) (event : Event) → asks_of (made book (Create (event_object event))) ≡ asks_of book ++ asked_in book event ∷ []
 
 -- an event changes in its place
 abbrev pub AsksOfChanged : Type 0
 AsksOfChanged =
-    (book : Book) (place : ℕ) (old : Written) (event : Event) (program : Program) → IsDistinct bytes_eq (event_ids book)
-    → slice_get book.events place ≡ Some old → old.event.id ≡ event.id → program_by book event.program_id ≡ Some program
-    → asks_of (made book (Change (event_object event))) ≡ set (asks_of book) place (asks event program)
+    (book : Book) (place : ℕ) (old : Written) (event : Event) → IsDistinct bytes_eq (event_ids book)
+    → slice_get book.events place ≡ Some old → old.event.id ≡ event.id
+    → asks_of (made book (Change (event_object event))) ≡ set (asks_of book) place (asked_in book event)
 
 -- an event goes, and the gap is closed
 abbrev pub AsksOfRemoved : Type 0

@@ -1,4 +1,4 @@
-//! Both indexes of whom events are for, as one value that follows the edits.
+//! Whom events are for, as one value that follows the edits.
 ghost use Rattle.std.specs.Prelude.{◌≡◌, IfOk, IsOk, OnOk, OnErr};
 ghost use Rattle.adr_refusal.specs.Answer.{OnlyNoMemory};
 ghost use Rattle.adr_object.specs.declared.object.Edit.TheVariants.{Create, Change, Remove};
@@ -9,25 +9,34 @@ ghost use Rattle.adr_audience.specs.Asks.{applying_events};
 ghost use Rattle.adr_audience.specs.Keys.{AreKeysOf};
 ghost use Rattle.adr_audience.specs.Laws.{applying_places};
 
-use crate::audience::Audience;
-use crate::targeting::Targeting;
+use crate::asking::{add_event, asks_of, follow_event, follow_program, remove_event};
+use crate::candidates::{applies_at, candidates};
+use crate::offering::{add_resource, follow_resource, follow_ven, offers_of, remove_resource};
+use crate::offers::offered;
+use crate::query::places_for;
+use adr_keys::Index;
 use adr_object::{Edit, Event, Id, Kind, Object, Program, Resource, Ven};
 use adr_store::Store;
 use adr_value::Refusal;
 use std::alloc::Global;
 use std::marker::Model;
 
-/// What the resources offer and what the events ask for, each in order of creation, with an index of both. Contracts see
-/// the rows of keys; they are of the one book whose edits were followed.
+/// What the resources of a book offer and what its events ask for, each in order of creation, with an index from each
+/// key to the places that have it. Contracts see the rows of keys.
 pub struct Audiences {
-    resources: Audience,
-    events: Targeting,
+    resources: Index,
+    events: Index,
+    alloc: Global,
 }
 
 // A function of its own, so that callers that let a value go need not look into it.
 impl Drop for Audiences {
     fn drop(self) {
-        let Audiences { resources, events } = self;
+        let Audiences {
+            resources,
+            events,
+            alloc: _,
+        } = self;
         drop(resources);
         drop(events);
     }
@@ -47,8 +56,9 @@ impl Audiences {
         ensures { AreKeysOf empty result }
     {
         Audiences {
-            resources: Audience::new(alloc),
-            events: Targeting::new(alloc),
+            resources: Index::new(alloc),
+            events: Index::new(alloc),
+            alloc,
         }
     }
 
@@ -59,22 +69,28 @@ impl Audiences {
         ensures refusal { OnlyNoMemory result }
     {
         Ok(Audiences {
-            resources: Audience::of(alloc, store)?,
-            events: Targeting::of(alloc, store)?,
+            resources: offers_of(alloc, store)?,
+            events: asks_of(alloc, store)?,
+            alloc,
         })
     }
 
     /// The places of the resources that an event of the program is for, in order of creation. `NoMemory` where there is
-    /// no room for them. Cost: that of `Audience::audience`.
+    /// no room for them.
+    ///
+    /// Cost: a look-up for each value that is asked for, and a pass over the words of its set, a word for 64 places.
     pub fn resources_for(&self, event: &Event, program: &Program) -> Result<Vec<usize>, Refusal>
         ensures places { (book : Book) → IsWhole book → AreKeysOf book self.now → IfOk result (λ places. places.items ≡ applying_places book event.now program.now) }
         ensures refusal { OnlyNoMemory result }
     {
-        self.resources.audience(event, program)
+        places_for(&self.resources, self.alloc, event, program)
     }
 
     /// The places of the events of the store that apply to the resource of the ven, in order of creation. `NoMemory`
-    /// where there is no room for them. Cost: that of `Targeting::events_for`.
+    /// where there is no room for them.
+    ///
+    /// Cost: a look-up for each key of the resource, and a judgment for each event that asks for one of them, or for
+    /// no key.
     pub fn events_for(
         &self,
         store: &Store,
@@ -84,14 +100,19 @@ impl Audiences {
         ensures places { AreKeysOf store.now self.now → IfOk result (λ places. places.items ≡ applying_events store.now resource.now ven.now) }
         ensures refusal { OnlyNoMemory result }
     {
-        self.events.events_for(store, resource, ven)
+        let row = offered(self.alloc, resource, ven)?;
+        let mut places = candidates(&self.events, self.alloc, &row)?;
+        drop(row);
+        places.retain(|place| applies_at(store, resource, ven, *place));
+        Ok(places)
     }
 
     /// Follows an edit that is accepted: the rows become those of the book with the edit made. `store` has the objects
     /// before the edit. Where there is no room for it, nothing changes.
     ///
-    /// Cost: that of the one call that the edit asks for of `Audience` or `Targeting`; programs and vens that come or go
-    /// change no row.
+    /// Cost: a look-up for each key of the resource or event that the edit names, before and after, and the words of all
+    /// sets where one goes; of each of its resources for a ven that changes, and of each of its events for a program.
+    /// Programs and vens that come or go change no row.
     pub fn follow(&mut self, store: &Store, edit: &Edit) -> Result<(), Refusal>
         requires keys { AreKeysOf store.now self.old }
         requires whole { IsWhole store.now }
@@ -120,9 +141,11 @@ impl Audiences {
     {
         match object {
             Object::Program(_) => Ok(()),
-            Object::Event(event) => self.events.add_event(store, event.get()),
+            Object::Event(event) => add_event(&mut self.events, self.alloc, store, event.get()),
             Object::Ven(_) => Ok(()),
-            Object::Resource(resource) => self.resources.add_resource(store, resource.get()),
+            Object::Resource(resource) => {
+                add_resource(&mut self.resources, self.alloc, store, resource.get())
+            }
         }
     }
 
@@ -135,10 +158,16 @@ impl Audiences {
         ensures refusal { OnlyNoMemory result }
     {
         match object {
-            Object::Program(program) => self.events.change_program(store, program.get()),
-            Object::Event(event) => self.events.follow_event(store, event.get()),
-            Object::Ven(ven) => self.resources.change_ven(store, ven.get()),
-            Object::Resource(resource) => self.resources.follow_resource(store, resource.get()),
+            Object::Program(program) => {
+                follow_program(&mut self.events, self.alloc, store, program.get())
+            }
+            Object::Event(event) => {
+                follow_event(&mut self.events, self.alloc, store, event.get())
+            }
+            Object::Ven(ven) => follow_ven(&mut self.resources, self.alloc, store, ven.get()),
+            Object::Resource(resource) => {
+                follow_resource(&mut self.resources, self.alloc, store, resource.get())
+            }
         }
     }
 
@@ -150,9 +179,9 @@ impl Audiences {
     {
         match kind {
             Kind::Program => {}
-            Kind::Event => self.events.remove_event(store, id),
+            Kind::Event => remove_event(&mut self.events, store, id),
             Kind::Ven => {}
-            Kind::Resource => self.resources.remove_resource(store, id),
+            Kind::Resource => remove_resource(&mut self.resources, store, id),
         }
     }
 }

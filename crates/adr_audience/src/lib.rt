@@ -4,14 +4,13 @@
 
 mod asking;
 mod asks;
-mod audience;
 mod audiences;
+mod candidates;
+mod laws;
 mod offering;
 mod offers;
 mod query;
-mod targeting;
 
 pub use adr_keys::{Key, Places};
-pub use audience::{Audience, rows_match_as_scenes, rows_of_edits};
 pub use audiences::Audiences;
-pub use targeting::{Targeting, asks_of_edits};
+pub use laws::{asks_of_edits, rows_match_as_scenes, rows_of_edits};

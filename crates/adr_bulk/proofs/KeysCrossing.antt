@@ -4,8 +4,6 @@ use Rattle.std.proofs.Crossing as std
 use Rattle.adr_keys.specs.contracts.key.Key as Key
 use Rattle.adr_keys.specs.contracts.row.Row as Row
 use Rattle.adr_keys.specs.contracts.index.Index as Index
-use Rattle.adr_audience.specs.contracts.audience.Audience as Audience
-use Rattle.adr_audience.specs.contracts.targeting.Targeting as Targeting
 use Rattle.adr_audience.specs.contracts.audiences.Audiences as Audiences
 use Rattle.adr_value.proofs.Crossing.{name_sync, text_sync}
 
@@ -18,11 +16,5 @@ row_sync = search (sendable, std.crosses, key_sync) depth 60 fits 60000
 index_sync : IsSync Index.the_row
 index_sync = search (sendable, std.crosses, row_sync, key_sync) depth 60 fits 60000
 
-audience_sync : IsSync Audience.the_row
-audience_sync = search (sendable, std.crosses, index_sync) depth 60 fits 60000
-
-targeting_sync : IsSync Targeting.the_row
-targeting_sync = search (sendable, std.crosses, index_sync) depth 60 fits 60000
-
 pub audiences_sync : IsSync Audiences.the_row
-audiences_sync = search (sendable, std.crosses, audience_sync, targeting_sync) depth 60 fits 60000
+audiences_sync = search (sendable, std.crosses, index_sync) depth 60 fits 60000

@@ -16,13 +16,13 @@ returns-in-Program-clause-ok c =
     let program = c.in-Program.program in
     let keys = subst (AreKeysOf book) (sym c.self.view_is) c.requires.keys in
     let there = changed_is_there book (program_object program) (subst (λ o. IsOk (step book (Change o))) c.in-Program.is c.requires.accepted) in
-    on_ok c.change_program.result
+    on_ok c.follow_program.result
     (λ e. (
       keys.0 ∙ ap (λ o. offers_of (made book (Change o))) (sym c.in-Program.is),
       e ∙ ap (λ p. with_program p book.events c.self.inside.events) c.get.ensures ∙ ap (with_program program book.events) keys.1
           ∙ sym (asks_of_changed_program book program there) ∙ ap (λ o. asks_of (made book (Change o))) (sym c.in-Program.is),
     ))
-    c.change_program.ensures.ok
+    c.follow_program.ensures.ok
 
 pub returns-in-Ven-clause-ok : goal.returns-in-Ven-clause-ok
 returns-in-Ven-clause-ok c =
@@ -30,10 +30,10 @@ returns-in-Ven-clause-ok c =
     let ven = c.in-Ven.ven in
     let keys = subst (AreKeysOf book) (sym c.self.view_is) c.requires.keys in
     let there = changed_is_there book (ven_object ven) (subst (λ o. IsOk (step book (Change o))) c.in-Ven.is c.requires.accepted) in
-    on_ok c.change_ven.result
+    on_ok c.follow_ven.result
     (λ e. (
       e ∙ ap (λ v. with_ven v book.resources c.self.inside.resources) c.get-in-Ven.ensures ∙ ap (with_ven ven book.resources) keys.0
           ∙ sym (rows_of_changed_ven book ven there) ∙ ap (λ o. offers_of (made book (Change o))) (sym c.in-Ven.is),
       keys.1 ∙ ap (λ o. asks_of (made book (Change o))) (sym c.in-Ven.is),
     ))
-    c.change_ven.ensures.ok
+    c.follow_ven.ensures.ok
