@@ -13,7 +13,7 @@ use Rattle.adr_group.proofs.Crossing.{group_send, group_sync}
 use Rattle.adr_seats.specs.contracts.seats.Seats as Seats
 use Rattle.adr_schedule.specs.contracts.schedule.Schedule as Schedule
 use Rattle.adr_schedule.specs.contracts.resolution.Resolution as Resolution
-use Rattle.adr_snapshot.specs.contracts.snapshot.Snapshot as Snapshot
+use Rattle.adr_board.specs.contracts.snapshot.Snapshot as Snapshot
 use Rattle.logbook.proofs.tokens.Seen.TheSendSync as seen
 use Rattle.left_right.proofs.part.Part.TheSendSync as part
 use Rattle.atomic_table.proofs.shared.Seat.TheSendSync as seat

@@ -15,7 +15,7 @@ use Rattle.adr_board.specs.Publications.{publication_of}
 use Rattle.adr_board.proofs.Histories.{first_attempt}
 use Rattle.adr_board.proofs.Linked.{ends_opened}
 use Rattle.adr_board.specs.declared.shown.Showing.{Showing}
-use Rattle.adr_snapshot.specs.Published.{PublishedBook}
+use Rattle.adr_board.specs.Published.{PublishedBook}
 use Rattle.adr_board.specs.Rules.{IsCarried, IsLast, MayFollow, publication_in}
 use Rattle.adr_board.proofs.Steps.{followed}
 

@@ -6,7 +6,7 @@ use Rattle.adr_book.specs.Ledger.{Ledger}
 use Rattle.adr_board.specs.Publications.{EndsWith, publication_of}
 use Rattle.adr_board.specs.Boards.{last_of}
 use Rattle.adr_board.specs.Rules.{publication_in}
-use Rattle.adr_snapshot.specs.Published.{PublishedBook, last_batch}
+use Rattle.adr_board.specs.Published.{PublishedBook, last_batch}
 
 pub last_batch_snoc : (batches : List (List Edit)) (batch : List Edit) → last_batch (batches ++ batch ∷ []) ≡ batch
 last_batch_snoc [] batch = refl

@@ -13,3 +13,9 @@ pub mod Prefixes
 pub mod Linked
 pub mod Turns
 pub mod Histories
+pub mod Ordered
+pub mod Listed
+pub mod PrivateNames
+pub mod Untils
+pub mod AllTypes
+pub mod Timelines

@@ -9,7 +9,7 @@ use Rattle.adr_model.specs.Book.{Book, empty}
 use Rattle.adr_model.specs.Edits.{after_from, step, step_to}
 use Rattle.adr_model.proofs.Lists.{In-append_left, In-append_right}
 use Rattle.adr_book.specs.Ledger.{Ledger, journal_of, joined}
-use Rattle.adr_snapshot.specs.Types.{ArePrivate, edit_names, HasPrivateNames}
+use Rattle.adr_board.specs.Types.{ArePrivate, edit_names, HasPrivateNames}
 
 abbrev pub StaysPrivate : Type 0
 StaysPrivate = (full : ℕ) (old new : Book) (x : Edit) → HasPrivateNames old → ArePrivate (edit_names x) → step_to full old x ≡ Ok new → HasPrivateNames new

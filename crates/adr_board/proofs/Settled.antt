@@ -6,7 +6,7 @@ use mathlib.Core.List.{IsPrefix}
 use Rattle.adr_model.specs.declared.entry.Tie.{Tie}
 use Rattle.adr_model.specs.Machine.{Publication, opening}
 use Rattle.adr_board.proofs.Prefixes.{prefix_length, prefix_trans, prefix_whole}
-use Rattle.adr_snapshot.specs.Published.{PublishedBook}
+use Rattle.adr_board.specs.Published.{PublishedBook}
 use Rattle.adr_board.specs.Boards.{View, Grows}
 use Rattle.adr_board.specs.Rules.{IsLast, IsLastBy, publication_in}
 use Rattle.adr_board.specs.Replay.{IsOf, reach}

@@ -16,7 +16,7 @@ use Rattle.adr_board.proofs.Prefixes.{prefix_trans, prefix_whole}
 use Rattle.adr_board.proofs.Histories.{seen_at}
 use Rattle.adr_board.specs.declared.shown.Showing.{Showing}
 use Rattle.adr_board.specs.Boards.{View, Grows}
-use Rattle.adr_snapshot.specs.Published.{PublishedBook}
+use Rattle.adr_board.specs.Published.{PublishedBook}
 use Rattle.adr_board.specs.Rules.{IsLastBy, IsCarried, IsSight, IsTaken, publication_in}
 
 abbrev Publications : Type 0

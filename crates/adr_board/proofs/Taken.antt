@@ -12,7 +12,7 @@ use Rattle.adr_model.specs.Edits.{full_at, step_to}
 use Rattle.adr_model.specs.Machine.{Publication, after_edit, after_publish, last_book, last_number, opening, refused, done, published, condensed, told, seen}
 use Rattle.adr_board.specs.declared.board.Published.{Published as Numbered}
 use Rattle.adr_board.specs.Boards.{Board, View, last_of, newcomer, with_published}
-use Rattle.adr_snapshot.specs.Published.{PublishedBook}
+use Rattle.adr_board.specs.Published.{PublishedBook}
 use Rattle.adr_board.specs.declared.run_steps.Step.TheVariants.{Edit, Publish, Condense, Tell, Look}
 use Rattle.adr_board.specs.declared.run_steps.Shown.TheVariants.{Done, Refused, Published, Told, Condensed, Seen}
 use Rattle.adr_board.specs.Replay.{IsOf, IsStep, reach, state_of}

@@ -3,3 +3,5 @@ pub mod Rules
 pub mod Replay
 pub mod History
 pub mod Publications
+pub mod Published
+pub mod Types

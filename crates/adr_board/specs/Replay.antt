@@ -5,7 +5,7 @@ use Rattle.adr_refusal.specs.declared.refusal.Refusal.{Refusal}
 use Rattle.adr_refusal.specs.declared.refusal.Refusal.TheVariants.{NoMemory, NoRuntime}
 use Rattle.adr_model.specs.declared.entry.Tie.{Tie}
 use Rattle.adr_model.specs.Machine.{Action, Publication, Reply, State, Steps, edit, publish, condense, tell, look, refused, done, published, condensed, told, seen, last_number, opening}
-use Rattle.adr_snapshot.specs.Published.{PublishedBook}
+use Rattle.adr_board.specs.Published.{PublishedBook}
 use Rattle.adr_board.specs.Boards.{Board, View}
 use Rattle.adr_board.specs.Rules.{publication_in}
 use Rattle.adr_board.specs.declared.run_steps.Step.{Step}

@@ -20,7 +20,7 @@ use Rattle.adr_model.specs.Machine.{Publication}
 use Rattle.adr_board.specs.declared.diary.Entry.{Entry}
 use Rattle.adr_board.specs.History.{EndsInAttempt}
 use Rattle.adr_board.specs.Publications.{EndsWith}
-use Rattle.adr_snapshot.specs.Published.{PublishedBook, last_batch}
+use Rattle.adr_board.specs.Published.{PublishedBook, last_batch}
 use Rattle.adr_board.specs.declared.shown.Shown.{Shown}
 use Rattle.adr_board.specs.declared.shown.Showing.{Showing}
 

@@ -14,8 +14,8 @@ ghost use Rattle.adr_model.specs.Machine.{Publication, opening};
 ghost use Rattle.adr_model.specs.Touches.{touches};
 ghost use Rattle.adr_book.specs.Ledger.{sealed_of};
 ghost use Rattle.adr_regroup.specs.Compared.{most_compared_in};
-ghost use Rattle.adr_snapshot.specs.Published.{PublishedBook};
-ghost use Rattle.adr_snapshot.specs.Types.{ArePrivate, edit_names, HasPrivateNames};
+ghost use Rattle.adr_board.specs.Published.{PublishedBook};
+ghost use Rattle.adr_board.specs.Types.{ArePrivate, edit_names, HasPrivateNames};
 ghost use Rattle.adr_board.specs.History.{HasLast, begun, published_by, seen_by};
 ghost use Rattle.adr_board.specs.Publications.{publication_of};
 ghost use Rattle.adr_board.specs.Boards.{Grows, last_of, newcomer, with_published};
@@ -23,13 +23,13 @@ ghost use Rattle.adr_board.specs.Rules.{IsCarried, IsLast, IsLastBy, IsSight, Is
 
 use crate::rule::{Add, Look, Naming, RuledReader, RuledWriter};
 use crate::shown::Shown;
+use crate::snapshot::{Snapshot, has_private_names, names_stay_private};
 use crate::{Diary, Page};
 use adr_book::{Book, SharedList};
 use adr_desk::{Desk, Gate, Receipt};
 use adr_model::Tie;
 use adr_object::Edit;
 use adr_schedule::Resolution;
-use adr_snapshot::{Snapshot, has_private_names, names_stay_private};
 use adr_value::Refusal;
 use adr_value::limits::MOST_PUBLICATIONS;
 use core::mem::replace_with;
@@ -373,7 +373,7 @@ impl<J: Naming> Model for Editor<J> {
     ghost use Rattle.left_right.specs.Sides.{view as known};
     ghost use Rattle.adr_book.specs.Ledger.{sealed_of};
     ghost use Rattle.adr_board.specs.History.{HasLast, published_by};
-    ghost use Rattle.adr_snapshot.specs.Types.{HasPrivateNames};
+    ghost use Rattle.adr_board.specs.Types.{HasPrivateNames};
     ghost use Rattle.adr_board.specs.Rules.{IsLast, showing};
 
     ghost view = { λ e. record { tie = e.desk.tie; book = e.desk.book; published = known e.writer.desk.place } };

@@ -11,11 +11,12 @@ mod rule;
 mod run;
 mod run_steps;
 mod shown;
+mod snapshot;
 
 pub use adr_desk::{Desk, Gate, NoGate, Receipt};
-pub use adr_snapshot::Snapshot;
 pub use board::{Board, Editor, NewBoard, Published, Reader, Told};
 pub use diary::{Attempt, Diary, Entry, Law, Page, Publication};
 pub use rule::Naming;
 pub use run::replay;
 pub use run_steps::{Shown, Step};
+pub use snapshot::Snapshot;

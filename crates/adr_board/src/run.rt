@@ -10,9 +10,9 @@ ghost use Rattle.adr_board.specs.Replay.{AreSteps, IsOf, IsRun, IsStep, NamesRea
 use crate::board::{Board, Editor, NewBoard, Reader};
 use crate::rule::Naming;
 use crate::run_steps::{Shown, Step};
+use crate::snapshot::Snapshot;
 use adr_model::Tie;
 use adr_object::Edit;
-use adr_snapshot::Snapshot;
 use adr_value::Refusal;
 use std::alloc::Global;
 use std::marker::Brand;

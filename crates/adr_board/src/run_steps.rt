@@ -1,7 +1,7 @@
 //! The steps of a run, and what they show.
 use crate::board::Published;
+use crate::snapshot::Snapshot;
 use adr_object::Edit;
-use adr_snapshot::Snapshot;
 use adr_value::Refusal;
 use std::sync::Arc;
 

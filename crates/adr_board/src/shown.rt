@@ -3,7 +3,7 @@ ghost use Rattle.std.specs.Prelude.{◌≡◌};
 ghost use Rattle.adr_board.specs.Rules.{showing};
 
 use crate::Page;
-use adr_snapshot::Snapshot;
+use crate::snapshot::Snapshot;
 use left_right::Absorb;
 use std::alloc::AllocError;
 use std::sync::Arc;

@@ -9,9 +9,13 @@ use Rattle.adr_calendar.specs.declared.lines.Shown.{Shown as Borrowed}
 abbrev pub shown_view : Borrowed → Shown
 shown_view s = record { event = s.event.now; interval = s.interval; values = s.values.now }
 
+-- `event e1 interval 0`
+abbrev pub event_text : Shown → List ℕ
+event_text s = codes "event " ++ s.event ++ codes " interval " ++ signed_decimal s.interval
+
 -- ` event e1 interval 0 values 10`
 abbrev pub shown_text : Shown → List ℕ
-shown_text s = codes " event " ++ s.event ++ codes " interval " ++ signed_decimal s.interval ++ codes " " ++ values_text s.values
+shown_text s = codes " " ++ event_text s ++ codes " " ++ values_text s.values
 
 -- the event as one that no edit wrote: what an interval of it shows doesn't turn on the edit
 abbrev pub event_alone : Event → Written

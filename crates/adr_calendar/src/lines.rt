@@ -6,7 +6,7 @@ ghost use Rattle.adr_refusal.specs.Answer.{OnlyNoMemory};
 ghost use Rattle.adr_time.specs.Text.{moment_text};
 ghost use Rattle.adr_model.specs.Answer.{state_text};
 ghost use Rattle.adr_model.specs.Queries.{end_within, is_bare_byte, segment_text, type_text};
-ghost use Rattle.adr_calendar.specs.Shown.{shown_text, shown_view};
+ghost use Rattle.adr_calendar.specs.Shown.{event_text, shown_text, shown_view};
 
 use crate::moments::LastMoment;
 use crate::printing::{put, put_end, put_id, put_natural, put_quoted, put_values};
@@ -31,6 +31,17 @@ pub fn put_version(out: &mut Vec<u8>, version: u64) -> Result<(), Refusal>
     put_natural(out, u128::from(version))
 }
 
+/// Appends `event e1 interval 0`.
+fn put_event(out: &mut Vec<u8>, shown: Shown<'_>) -> Result<(), Refusal>
+    ensures ok { OnOk result (out.new.items ≡ out.old.items ++ event_text (shown_view shown.entry)) }
+    ensures memory { OnlyNoMemory result }
+{
+    put(out, b"event ")?;
+    put(out, shown.event.text().as_bytes())?;
+    put(out, b" interval ")?;
+    put_id(out, shown.interval)
+}
+
 /// Appends what is shown and until when: `event e1 interval 0 until end values 10`, or `none until end`.
 pub fn put_state(out: &mut Vec<u8>, shown: Option<Shown<'_>>, end: End) -> Result<(), Refusal>
     ensures ok { OnOk result (out.new.items ≡ out.old.items ++ state_text (option_map shown_view shown.entry) end) }
@@ -40,10 +51,7 @@ pub fn put_state(out: &mut Vec<u8>, shown: Option<Shown<'_>>, end: End) -> Resul
         put(out, b"none until ")?;
         return put_end(out, end);
     };
-    put(out, b"event ")?;
-    put(out, shown.event.text().as_bytes())?;
-    put(out, b" interval ")?;
-    put_id(out, shown.interval)?;
+    put_event(out, shown)?;
     put(out, b" until ")?;
     put_end(out, end)?;
     put(out, b" ")?;
@@ -70,10 +78,8 @@ fn put_shown(out: &mut Vec<u8>, shown: Shown<'_>) -> Result<(), Refusal>
     ensures ok { OnOk result (out.new.items ≡ out.old.items ++ shown_text (shown_view shown.entry)) }
     ensures memory { OnlyNoMemory result }
 {
-    put(out, b" event ")?;
-    put(out, shown.event.text().as_bytes())?;
-    put(out, b" interval ")?;
-    put_id(out, shown.interval)?;
+    put(out, b" ")?;
+    put_event(out, shown)?;
     put(out, b" ")?;
     put_values(out, shown.values)
 }

@@ -95,10 +95,6 @@ impl Tried for Books {
         make(&mut self.book, call)
     }
 
-    fn is_as_before(&self, call: &Call) -> bool {
-        self.is_made(call)
-    }
-
     fn repeat(&mut self, call: &Call) -> Result<u64, Refusal> {
         match call {
             Call::Copy => Ok(self.twin.version()),
@@ -106,7 +102,7 @@ impl Tried for Books {
         }
     }
 
-    fn is_made(&self, call: &Call) -> bool {
+    fn is_left(&self, call: &Call, _is_made: bool) -> bool {
         let is_same_beside = match call {
             Call::Apply(_, edit) => {
                 same_by_id(self.book.objects(), self.twin.objects(), edited_id(edit))

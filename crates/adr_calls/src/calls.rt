@@ -1,7 +1,7 @@
 //! Calls that lines name, each made of what they are tried on and, once it has answered, of its twin.
 use adr_object::Edit;
 use adr_test_values::lines::{edit, word};
-use adr_test_values::telling::{tell_ordinary, tell_refused, tell_same, told};
+use adr_test_values::telling::{tell_call, tell_ordinary, tell_refused, tell_same, told};
 use adr_value::Refusal;
 use std::alloc::Global;
 use std::io;
@@ -44,14 +44,11 @@ pub(crate) trait Tried {
     ) -> Result<u64, Refusal>
         requires { IsSync R.row };
 
-    /// Whether all is as before the call.
-    fn is_as_before(&self, call: &Call) -> bool;
-
     /// Makes the call of the twin, as far as that shows something: what is to be answered.
     fn repeat(&mut self, call: &Call) -> Result<u64, Refusal>;
 
-    /// Whether all is as the call that was made again leaves it.
-    fn is_made(&self, call: &Call) -> bool;
+    /// Whether all is as before the call or, where it is made, as it leaves all.
+    fn is_left(&self, call: &Call, is_made: bool) -> bool;
 }
 
 fn number(word: &str) -> usize {
@@ -88,22 +85,22 @@ fn is_for_want(call: &Call, answer: Result<u64, Refusal>) -> bool {
 }
 
 /// Makes the call, again where there was no memory, and tells what it answers and leaves.
-fn tell_call<T: Tried, R: AllocGlobal + Print + Wait + Threads + Sync>(
+fn tell_tried<T: Tried, R: AllocGlobal + Print + Wait + Threads + Sync>(
     rt: &R,
     tried: &mut T,
     call: &Call,
 ) -> io::Result<()> {
     let mut answer = tried.make(rt, call);
     if is_for_want(call, answer) {
-        tell_refused(rt, tried.is_as_before(call))?;
+        tell_refused(rt, tried.is_left(call, false))?;
         answer = tried.make(rt, call);
     }
     tell_ordinary(rt, answer)?;
     let expected = tried.repeat(call);
-    tell_same(rt, answer == expected && tried.is_made(call))
+    tell_same(rt, answer == expected && tried.is_left(call, true))
 }
 
-/// Makes the call of the line, which stands before it with its number, so that no two of a part are the same.
+/// Makes the call of the line, which stands before it with its number.
 pub(crate) fn try_line<T: Tried, R: AllocGlobal + Print + Wait + Threads + Sync>(
     rt: &R,
     tried: &mut T,
@@ -112,8 +109,8 @@ pub(crate) fn try_line<T: Tried, R: AllocGlobal + Print + Wait + Threads + Sync>
 ) -> io::Result<()> {
     let call = told(call_of(rt.alloc(), line))?;
     let prepared = tried.prepare(&call);
-    println!(rt; "{line}: call {number}")?;
-    let tried = tell_call(rt, tried, &call);
+    tell_call(rt, line, number)?;
+    let tried = tell_tried(rt, tried, &call);
     drop(call);
     told(prepared)?;
     tried

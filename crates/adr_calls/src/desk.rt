@@ -146,10 +146,6 @@ impl Tried for Desks {
         }
     }
 
-    fn is_as_before(&self, call: &Call) -> bool {
-        self.is_made(call)
-    }
-
     fn repeat(&mut self, call: &Call) -> Result<u64, Refusal> {
         match call {
             Call::Apply(_, edit) => apply(&mut self.twin, edit),
@@ -159,7 +155,7 @@ impl Tried for Desks {
         }
     }
 
-    fn is_made(&self, call: &Call) -> bool {
+    fn is_left(&self, call: &Call, _is_made: bool) -> bool {
         let is_same_beside = match call {
             Call::Apply(_, edit) => same_beside(&self.desk, &self.twin, edit),
             _ => true,

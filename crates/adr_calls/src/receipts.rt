@@ -170,12 +170,23 @@ fn is_within(range: &str, number: u128) -> bool {
     u128::from(least) <= number && number <= u128::from(most)
 }
 
+fn tell_receipt<R: Print>(rt: &R, line: &str) -> io::Result<()> {
+    println!(rt; "receipt: {line}")
+}
+
 fn tell_compares<R: Print>(rt: &R, range: &str, number: u128) -> io::Result<()> {
     if is_within(range, number) {
         println!(rt; "  compares {range}")
     } else {
         println!(rt; "  compares {number}, which is not {range}")
     }
+}
+
+/// What the receipt tells, and whether all workers tell the same.
+fn tell_told<R: Print>(rt: &R, range: &str, told: &Told, is_same: bool) -> io::Result<()> {
+    print!(rt; "{}", told.touches)?;
+    tell_compares(rt, range, told.compares)?;
+    tell_same(rt, is_same)
 }
 
 /// Makes the edit of the line, and tells its touches and whether it compares as many ranks as the range says.
@@ -186,12 +197,9 @@ fn tell<R: Print + Threads + Sync>(
     range: &str,
     line: &str,
 ) -> io::Result<()> {
-    println!(rt; "receipt: {line}")?;
     let receipt = told(told_beside(rt, alloc, desk, 0, line))?;
     let is_same = is_told_by_all(rt, alloc, desk, line, &receipt);
-    print!(rt; "{}", receipt.touches)?;
-    tell_compares(rt, range, receipt.compares)?;
-    tell_same(rt, is_same == Ok(true))
+    tell_told(rt, range, &receipt, is_same == Ok(true))
 }
 
 fn make(alloc: Global, desk: &mut Desk, line: &str) -> Result<(), Refusal> {
@@ -208,6 +216,7 @@ fn try_line<R: AllocGlobal + Print + Threads + Sync>(
     match word(line) {
         ("tell", line) => {
             let (range, line) = word(line);
+            tell_receipt(rt, line)?;
             tell(rt, rt.alloc(), desk, range, line)
         }
         _ => told(make(rt.alloc(), desk, line)),

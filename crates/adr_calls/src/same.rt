@@ -1,8 +1,8 @@
 //! Desks and publications by what they show.
+use adr_board::Snapshot;
 use adr_book::Book;
 use adr_desk::Desk;
 use adr_object::{Id, Kind, Resource};
-use adr_snapshot::Snapshot;
 use adr_test_values::same::{same_book, same_store, same_timeline};
 use adr_timeline::Timeline;
 use adr_value::PayloadType;

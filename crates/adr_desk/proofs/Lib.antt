@@ -7,3 +7,10 @@ pub mod Made
 pub mod Room
 pub mod Shifted
 pub mod Sides
+pub mod KeysCrossing
+pub mod Choosing
+pub mod Covering
+pub mod Gathered
+pub mod Owning
+pub mod Collected
+pub mod Seats

@@ -3,3 +3,5 @@ pub mod Desk
 pub mod Edited
 pub mod Ranks
 pub mod Room
+pub mod Bulk
+pub mod Loaded

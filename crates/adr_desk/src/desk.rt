@@ -12,13 +12,13 @@ ghost use Rattle.adr_model.specs.Timeline.{shows, IsCanonical};
 ghost use Rattle.adr_model.specs.Touches.{touches};
 ghost use Rattle.adr_book.specs.Ledger.{sealed_of};
 ghost use Rattle.adr_regroup.specs.Compared.{most_compared_in};
-ghost use Rattle.adr_bulk.specs.Loaded.{accepted_of, answers_to, objects_after};
+ghost use Rattle.adr_desk.specs.Loaded.{accepted_of, answers_to, objects_after};
 
+use crate::bulk::{commit_all, index_all, seat_all};
 use crate::make::{Made, make};
 use crate::receipt::Receipt;
 use adr_audience::Audiences;
 use adr_book::{Book, Judged, judged};
-use adr_bulk::{commit_all, index_all, seat_all};
 use adr_group::{Done, Gate, Job, NoGate, do_all, do_jobs};
 use adr_lines::{Indexes, exchange_laws};
 use adr_model::Tie;

@@ -3,6 +3,7 @@
 //! it touches.
 
 mod accepted;
+mod bulk;
 mod desk;
 mod events;
 mod kinds;

@@ -6,9 +6,9 @@ ghost use Rattle.adr_server.specs.Text.{answer_line, refusal_line};
 ghost use Rattle.adr_fan.specs.Queries.{query_in};
 
 use crate::queries::Query;
+use adr_board::Snapshot;
 use adr_calendar::{at, list, roll, types};
 use adr_server::put_refusal;
-use adr_snapshot::Snapshot;
 use adr_value::Refusal;
 use std::alloc::Global;
 

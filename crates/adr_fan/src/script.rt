@@ -124,13 +124,7 @@ impl<J: Naming> FanDesk<J> {
         }
         let sent = Sent::new(query, self.last_number());
         self.sent.reserve(1)?;
-        let Ok(copies) = copies_of(rt.alloc(), &sent, self.boxes.len()) else {
-            return Err(Unanswered::NoMemory);
-        };
-        make_room(rt, self.boxes.as_slice())?;
-        if send_all(rt, self.boxes.as_slice(), copies).is_err() {
-            return Err(Unanswered::NoRuntime);
-        }
+        deliver(rt, self.boxes.as_slice(), &sent)?;
         self.sent.push_reserved(sent);
         Ok(())
     }
@@ -187,6 +181,22 @@ fn send_all<R: Wait>(rt: &R, boxes: &[Arc<Mailbox>], copies: Vec<Sent>) -> Resul
         mailbox.send(rt, sent)?;
     }
     Ok(())
+}
+
+/// Sends a copy to each mailbox, once there is room in all.
+fn deliver<H: AllocGlobal + Wait>(
+    rt: &H,
+    boxes: &[Arc<Mailbox>],
+    sent: &Sent,
+) -> Result<(), Unanswered> {
+    let Ok(copies) = copies_of(rt.alloc(), sent, boxes.len()) else {
+        return Err(Unanswered::NoMemory);
+    };
+    make_room(rt, boxes)?;
+    match send_all(rt, boxes, copies) {
+        Ok(()) => Ok(()),
+        Err(_) => Err(Unanswered::NoRuntime),
+    }
 }
 
 /// No query comes from now on.

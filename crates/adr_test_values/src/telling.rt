@@ -1,7 +1,7 @@
 //! What is told of a call, and how long it took.
 //!
 //! What is measured is let go by `drop` before an answer is looked at: at the end of its scope it would be taken apart, field
-//! by field, in the proof of each function that has it.
+//! by field, in the proof of each function that has it. For the same reason a line is printed by a function of its own.
 ghost use Rattle.std.specs.Prelude.{◌≡◌, Ok, IfOk};
 
 use adr_value::Refusal;
@@ -52,9 +52,24 @@ pub fn tell_same(rt: &impl Print, is_same: bool) -> io::Result<()> {
     )
 }
 
+/// Prints the call that comes next, by its line and number, so that no two of a part are the same.
+pub fn tell_call(rt: &impl Print, line: &str, number: usize) -> io::Result<()> {
+    println!(rt; "{line}: call {number}")
+}
+
+/// Prints the call that comes next.
+pub fn tell_next(rt: &impl Print, call: &str) -> io::Result<()> {
+    println!(rt; "{call}")
+}
+
+/// Prints that a call was refused.
+pub fn tell_want(rt: &impl Print) -> io::Result<()> {
+    println!(rt; "  refused")
+}
+
 /// Prints that a call was refused, and whether all is as before it.
 pub fn tell_refused(rt: &impl Print, is_same: bool) -> io::Result<()> {
-    println!(rt; "  refused")?;
+    tell_want(rt)?;
     tell_same(rt, is_same)
 }
 

@@ -11,6 +11,10 @@ use std::rt::Clock;
 use std::thread::Threads;
 use std::time::Instant;
 
+fn print_cost<R: Print>(rt: &R, compares: u128, nanoseconds: io::Result<u128>) -> io::Result<()> {
+    println!(rt; "{compares} {}", nanoseconds?)
+}
+
 /// Makes the edit, and prints how many ranks its repair compares, and the nanoseconds that it takes.
 fn print_edit<R: Print + Clock>(rt: &R, desk: &mut Desk, edit: Edit) -> io::Result<()> {
     let start = Instant::now(rt);
@@ -19,7 +23,7 @@ fn print_edit<R: Print + Clock>(rt: &R, desk: &mut Desk, edit: Edit) -> io::Resu
     let receipt = told(receipt)?;
     let compares = receipt.compares;
     drop(receipt);
-    println!(rt; "{compares} {}", nanoseconds?)
+    print_cost(rt, compares, nanoseconds)
 }
 
 /// A line is an edit, or `seal`, which closes the open batch.
@@ -56,6 +60,10 @@ fn edits_of(alloc: Global, lines: &str) -> Result<Vec<Edit>, Refusal> {
     Ok(edits)
 }
 
+fn print_time<R: Print>(rt: &R, nanoseconds: io::Result<u128>) -> io::Result<()> {
+    println!(rt; "{}", nanoseconds?)
+}
+
 /// Prints the nanoseconds in which a desk is loaded with the edits of the lines at once.
 pub(crate) fn print_load<R: AllocGlobal + Print + Clock + Threads + Sync>(
     rt: &R,
@@ -64,5 +72,5 @@ pub(crate) fn print_load<R: AllocGlobal + Print + Clock + Threads + Sync>(
     let edits = told(edits_of(rt.alloc(), lines))?;
     let start = Instant::now(rt);
     let loaded = Desk::load(rt, rt.alloc(), edits, Tie::Newest);
-    println!(rt; "{}", taken(rt, start, loaded)?)
+    print_time(rt, taken(rt, start, loaded))
 }

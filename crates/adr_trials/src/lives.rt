@@ -3,11 +3,10 @@ ghost use Rattle.std.specs.Prelude.{◌≡◌};
 ghost use Rattle.adr_model.specs.declared.entry.Tie.TheVariants.{Newest};
 
 use crate::boards::{CHANGE, fill, make};
-use adr_board::{Board, Editor, Naming, NewBoard, Reader};
+use adr_board::{Board, Editor, Naming, NewBoard, Reader, Snapshot};
 use adr_calls::publish;
 use adr_model::Tie;
 use adr_refusal::Refusal;
-use adr_snapshot::Snapshot;
 use adr_test_values::telling::told;
 use std::alloc::Global;
 use std::io;
@@ -25,7 +24,8 @@ pub(crate) struct Life {
     pub(crate) edits: u64,
 }
 
-/// For each place some edits and a publication, which lets the one go that stood there; and then a base.
+/// For each place some edits and a publication, which lets the one go that stood there; and then a base, whose version it
+/// answers.
 fn live<J: Naming, R: Wait>(
     rt: &R,
     alloc: Global,
@@ -33,7 +33,7 @@ fn live<J: Naming, R: Wait>(
     reader: &mut Reader<J>,
     held: &mut [Option<Arc<Snapshot>>],
     edits: u64,
-) -> Result<(), Refusal> {
+) -> Result<u64, Refusal> {
     for place in held.iter_mut() {
         for _ in 0..edits {
             make(alloc, editor, CHANGE)?;
@@ -41,8 +41,7 @@ fn live<J: Naming, R: Wait>(
         publish(rt, editor)?;
         *place = Some(reader.look()?);
     }
-    editor.condense()?;
-    Ok(())
+    editor.condense()
 }
 
 fn places(alloc: Global, count: u64) -> Result<Vec<Option<Arc<Snapshot>>>, Refusal> {
@@ -51,6 +50,10 @@ fn places(alloc: Global, count: u64) -> Result<Vec<Option<Arc<Snapshot>>>, Refus
         held.push(None)?;
     }
     Ok(held)
+}
+
+fn print_number<R: Print>(rt: &R, number: u64) -> io::Result<()> {
+    println!(rt; "{number}")
 }
 
 /// The rounds of the life. After each stands a line with the last publication's number, for a measurement of time and memory
@@ -65,7 +68,7 @@ fn live_with<J: Naming, R: Print + Wait>(
 ) -> io::Result<()> {
     for _ in 0..life.rounds {
         told(live(rt, alloc, editor, reader, held, life.edits))?;
-        println!(rt; "{}", editor.last().number())?;
+        print_number(rt, editor.last().number())?;
     }
     Ok(())
 }

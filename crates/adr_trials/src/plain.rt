@@ -1,52 +1,63 @@
 //! The plain machine's replies to a script.
+ghost use Rattle.std.specs.Prelude.{◌≡◌, ◌≤◌, [], vec_capacity};
+
 use adr_plain::Plain;
 use adr_refusal::Refusal;
-use adr_server::{Command, Tie, parse_line};
+use adr_server::{Command, Tie, parse_line, put_condensed, put_ok, put_published, put_refusal};
 use std::alloc::{AllocError, Global};
 use std::io;
 
-/// What the machine replies to a command, its line's end among it.
-fn answer(alloc: Global, machine: &mut Plain, command: Command) -> Result<Vec<u8>, Refusal> {
-    let text = match command {
-        Command::Edit(edit) => {
-            let version = machine.edit(edit)?;
-            format!(in alloc; "ok {version}\n")?
-        }
+/// The room that a reply takes at most that is no answer to a query.
+const REPLY_ROOM: usize = 64;
+
+/// Puts what the machine replies to a command, its line's end among it.
+fn put_reply(machine: &mut Plain, command: Command, reply: &mut Vec<u8>) -> Result<(), Refusal>
+    requires empty { reply.old.items ≡ [] }
+    requires room { 64 ≤ vec_capacity reply.old }
+{
+    match command {
+        Command::Edit(edit) => put_ok(reply, machine.edit(edit)?),
         Command::Publish => {
             let published = machine.publish()?;
-            let number = published.number;
-            let version = published.version;
-            format!(in alloc; "published {number} version {version}\n")?
+            put_published(reply, published.number, published.version);
         }
-        Command::Condense => {
-            let version = machine.condense()?;
-            format!(in alloc; "condensed version {version}\n")?
-        }
-        Command::At(id, payload_type, moment) => return machine.at(&id, &payload_type, moment),
+        Command::Condense => put_condensed(reply, machine.condense()?),
+        Command::At(id, payload_type, moment) => *reply = machine.at(&id, &payload_type, moment)?,
         Command::List(id, payload_type, from, to) => {
-            return machine.list(&id, &payload_type, from, to);
+            *reply = machine.list(&id, &payload_type, from, to)?;
         }
-        Command::Roll(payload_type, moment) => return machine.roll(&payload_type, moment),
-        Command::Types(id) => return machine.types(&id),
-    };
-    Ok(text.into_bytes())
+        Command::Roll(payload_type, moment) => *reply = machine.roll(&payload_type, moment)?,
+        Command::Types(id) => *reply = machine.types(&id)?,
+    }
+    Ok(())
 }
 
-fn answer_line(alloc: Global, machine: &mut Plain, line: &str) -> Result<Vec<u8>, Refusal> {
+fn put_line(
+    alloc: Global,
+    machine: &mut Plain,
+    line: &str,
+    reply: &mut Vec<u8>,
+) -> Result<(), Refusal>
+    requires empty { reply.old.items ≡ [] }
+    requires room { 64 ≤ vec_capacity reply.old }
+{
     let command = parse_line(alloc, line.as_bytes())?;
-    answer(alloc, machine, command)
+    put_reply(machine, command, reply)
 }
 
-/// What the machine replies to a line; a refusal by its number and name.
+/// The line of a refusal, by its number and name.
+fn refusal_line(alloc: Global, refusal: Refusal) -> Result<Vec<u8>, AllocError> {
+    let mut line = Vec::with_capacity(alloc, REPLY_ROOM)?;
+    put_refusal(&mut line, refusal);
+    Ok(line)
+}
+
+/// What the machine replies to a line.
 fn reply(alloc: Global, machine: &mut Plain, line: &str) -> Result<Vec<u8>, AllocError> {
-    match answer_line(alloc, machine, line) {
-        Ok(answer) => Ok(answer),
-        Err(refusal) => {
-            let number = refusal.number();
-            let name = refusal.name();
-            let text = format!(in alloc; "refused {number} {name}\n")?;
-            Ok(text.into_bytes())
-        }
+    let mut reply = Vec::with_capacity(alloc, REPLY_ROOM)?;
+    match put_line(alloc, machine, line, &mut reply) {
+        Ok(()) => Ok(reply),
+        Err(refusal) => refusal_line(alloc, refusal),
     }
 }
 

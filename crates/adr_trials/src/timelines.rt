@@ -23,6 +23,14 @@ const REPAIRS: &str = "\n| Segments | Repaired |\n|---|---|";
 
 const TIMED_REPAIRS: &str = "\n| Segments | Repaired | ns a repair |\n|---|---|---|";
 
+/// The end of a row, with the nanoseconds where they were taken.
+fn print_time<R: Print>(rt: &R, nanoseconds: Option<u128>) -> io::Result<()> {
+    match nanoseconds {
+        Some(nanoseconds) => println!(rt; " {nanoseconds} |"),
+        None => println!(rt; ""),
+    }
+}
+
 /// A row of the table: how the entries lie, their number, the segments and the comparisons of a build and, where it is
 /// timed, the nanoseconds of a build.
 fn print_build<R: AllocGlobal + Print + Clock>(
@@ -36,11 +44,12 @@ fn print_build<R: AllocGlobal + Print + Clock>(
     let (segments, compares) = measured(rt.alloc(), entries)?;
     let (name, count) = (shape.name(), entries.len());
     print!(rt; "| {name} | {count} | {segments} | {compares} |")?;
-    if is_timed {
-        let nanoseconds = fastest_build(rt, entries)?;
-        print!(rt; " {nanoseconds} |")?;
-    }
-    println!(rt; "")
+    let nanoseconds = if is_timed {
+        Some(fastest_build(rt, entries)?)
+    } else {
+        None
+    };
+    print_time(rt, nanoseconds)
 }
 
 fn print_builds<R: AllocGlobal + Print + Clock>(rt: &R, is_timed: bool) -> io::Result<()> {
@@ -64,11 +73,12 @@ fn print_repair<R: Print + Clock>(
 ) -> io::Result<()> {
     let segments = repair.segments()?;
     print!(rt; "| {count} | {segments} |")?;
-    if is_timed {
-        let nanoseconds = repair.fastest(rt)?;
-        print!(rt; " {nanoseconds} |")?;
-    }
-    println!(rt; "")
+    let nanoseconds = if is_timed {
+        Some(repair.fastest(rt)?)
+    } else {
+        None
+    };
+    print_time(rt, nanoseconds)
 }
 
 fn print_repairs<R: AllocGlobal + Print + Clock>(rt: &R, is_timed: bool) -> io::Result<()> {

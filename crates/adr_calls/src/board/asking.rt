@@ -1,9 +1,8 @@
 //! Questions of a publication.
-use adr_calendar::{at, list, roll, types};
+use adr_calendar::{Calendar, at, list, roll, types};
 use adr_object::Id;
-use adr_snapshot::Snapshot;
 use adr_test_values::lines::word;
-use adr_test_values::telling::told;
+use adr_test_values::telling::{tell_call, tell_want, told};
 use adr_time::{Moment, read_moment};
 use adr_value::{PayloadType, Refusal};
 use std::alloc::Global;
@@ -43,13 +42,13 @@ fn question_of(alloc: Global, line: &str) -> Result<Question, Refusal> {
     }
 }
 
-fn ask(alloc: Global, snapshot: &Snapshot, question: &Question) -> Result<Vec<u8>, Refusal> {
+fn ask<C: Calendar>(alloc: Global, calendar: &C, question: &Question) -> Result<Vec<u8>, Refusal> {
     let price = PayloadType::Price;
     let answer = match question {
-        Question::At(id, moment) => at(alloc, snapshot, id, &price, *moment),
-        Question::List(id, from, to) => list(alloc, snapshot, id, &price, *from, *to),
-        Question::Roll(moment) => roll(alloc, snapshot, &price, *moment),
-        Question::Types(id) => types(alloc, snapshot, id),
+        Question::At(id, moment) => at(alloc, calendar, id, &price, *moment),
+        Question::List(id, from, to) => list(alloc, calendar, id, &price, *from, *to),
+        Question::Roll(moment) => roll(alloc, calendar, &price, *moment),
+        Question::Types(id) => types(alloc, calendar, id),
     };
     drop(price);
     answer
@@ -80,42 +79,42 @@ fn tell_answer<R: Print>(rt: &R, answer: Result<Vec<u8>, Refusal>) -> io::Result
 
 /// Asks the publication the question of the line, again where the first answer had no memory, and tells its answer. The
 /// line stands before it with its number.
-pub(crate) fn try_ask<R: AllocGlobal + Print>(
+pub(crate) fn try_ask<C: Calendar, R: AllocGlobal + Print>(
     rt: &R,
-    snapshot: &Snapshot,
+    calendar: &C,
     number: usize,
     line: &str,
 ) -> io::Result<()> {
     let question = told(question_of(rt.alloc(), line))?;
-    println!(rt; "{line}: call {number}")?;
-    let told = tell_asked(rt, snapshot, &question);
+    tell_call(rt, line, number)?;
+    let told = tell_asked(rt, calendar, &question);
     drop(question);
     told
 }
 
-fn tell_asked<R: AllocGlobal + Print>(
+fn tell_asked<C: Calendar, R: AllocGlobal + Print>(
     rt: &R,
-    snapshot: &Snapshot,
+    calendar: &C,
     question: &Question,
 ) -> io::Result<()> {
-    match ask(rt.alloc(), snapshot, question) {
+    match ask(rt.alloc(), calendar, question) {
         Err(Refusal::NoMemory) => {
-            println!(rt; "  refused")?;
-            tell_answer(rt, ask(rt.alloc(), snapshot, question))
+            tell_want(rt)?;
+            tell_answer(rt, ask(rt.alloc(), calendar, question))
         }
         answer => tell_answer(rt, answer),
     }
 }
 
 /// Asks the publication who governs at `ID MOMENT`, again where the first answer had no memory.
-pub(crate) fn tell_at<R: AllocGlobal + Print>(
+pub(crate) fn tell_at<C: Calendar, R: AllocGlobal + Print>(
     rt: &R,
-    snapshot: &Snapshot,
+    calendar: &C,
     line: &str,
 ) -> io::Result<()> {
     let question = told(at_of(rt.alloc(), line))?;
-    let answer = match ask(rt.alloc(), snapshot, &question) {
-        Err(Refusal::NoMemory) => ask(rt.alloc(), snapshot, &question),
+    let answer = match ask(rt.alloc(), calendar, &question) {
+        Err(Refusal::NoMemory) => ask(rt.alloc(), calendar, &question),
         answer => answer,
     };
     drop(question);

@@ -7,7 +7,7 @@ use adr_board::{Board, Desk, Editor, Naming, NewBoard, Reader};
 use adr_model::Tie;
 use adr_object::Edit;
 use adr_test_values::lines::edit;
-use adr_test_values::telling::{tell_ordinary, tell_same, told};
+use adr_test_values::telling::{tell_next, tell_ordinary, tell_same, tell_want, told};
 use adr_value::Refusal;
 use std::alloc::Global;
 use std::io;
@@ -50,10 +50,10 @@ fn open_new<R: AllocGlobal + Wait>(rt: &R) -> Result<u64, Refusal> {
 
 /// Opens a board, and ends it.
 pub(crate) fn try_open<R: AllocGlobal + Print + Wait>(rt: &R) -> io::Result<()> {
-    println!(rt; "open: version 0")?;
+    tell_next(rt, "open: version 0")?;
     let mut answer = open_new(rt);
     if answer.is_err() {
-        println!(rt; "  refused")?;
+        tell_want(rt)?;
         answer = open_new(rt);
     }
     tell_ordinary(rt, answer)
@@ -113,10 +113,10 @@ fn over_again<R: AllocGlobal + Wait + Threads + Sync>(rt: &R) -> Result<u64, Ref
 /// Opens a board over a desk, and ends it.
 pub(crate) fn try_over<R: AllocGlobal + Print + Wait + Threads + Sync>(rt: &R) -> io::Result<()> {
     let desk = told(desk_of(rt))?;
-    println!(rt; "over: version 4")?;
+    tell_next(rt, "over: version 4")?;
     let mut answer = over_new(rt, desk);
     if answer.is_err() {
-        println!(rt; "  refused")?;
+        tell_want(rt)?;
         answer = over_again(rt);
     }
     tell_ordinary(rt, answer)?;

@@ -4,11 +4,10 @@ ghost use Rattle.adr_board.specs.Replay.{NamesReader};
 
 use crate::board::asking::tell_at;
 use crate::board::opening::READERS;
-use adr_board::{Shown, Step, replay};
+use adr_board::{Published, Shown, Snapshot, Step, replay};
 use adr_model::Tie;
-use adr_snapshot::Snapshot;
 use adr_test_values::lines::{edit, word};
-use adr_test_values::telling::told;
+use adr_test_values::telling::{tell_next, tell_want, told};
 use adr_value::Refusal;
 use std::alloc::Global;
 use std::io;
@@ -68,22 +67,32 @@ fn replayed<R: AllocGlobal + Wait>(rt: &R, lines: &str) -> Result<Vec<Shown>, Re
     replay(rt.alloc(), rt, READERS, Tie::Newest, steps)
 }
 
+fn tell_number<R: Print>(rt: &R, what: &str, number: u64) -> io::Result<()> {
+    println!(rt; "  ordinary: {what} {number}")
+}
+
+fn tell_refusal<R: Print>(rt: &R, refusal: Refusal) -> io::Result<()> {
+    println!(rt; "  ordinary: refused {refusal}")
+}
+
+fn tell_published<R: Print>(rt: &R, published: Published) -> io::Result<()> {
+    let Published { number, version } = published;
+    println!(rt; "  ordinary: published {number} version {version}")
+}
+
 /// The number of the snapshot, and what it answers of the price of `r1` in the first half hour of 2024.
 fn tell_seen<R: AllocGlobal + Print>(rt: &R, snapshot: &Snapshot) -> io::Result<()> {
-    println!(rt; "  ordinary: seen {}", snapshot.number())?;
+    tell_number(rt, "seen", snapshot.number())?;
     tell_at(rt, snapshot, "r1 2024-01-01T00:30:00Z")
 }
 
 fn tell_shown<R: AllocGlobal + Print>(rt: &R, shown: &Shown) -> io::Result<()> {
     match shown {
-        Shown::Done(version) => println!(rt; "  ordinary: done {version}"),
-        Shown::Refused(refusal) => println!(rt; "  ordinary: refused {refusal}"),
-        Shown::Published(published) => println!(rt;
-            "  ordinary: published {} version {}",
-            published.number, published.version
-        ),
-        Shown::Told => println!(rt; "  ordinary: told"),
-        Shown::Condensed(version) => println!(rt; "  ordinary: condensed {version}"),
+        Shown::Done(version) => tell_number(rt, "done", *version),
+        Shown::Refused(refusal) => tell_refusal(rt, *refusal),
+        Shown::Published(published) => tell_published(rt, *published),
+        Shown::Told => tell_next(rt, "  ordinary: told"),
+        Shown::Condensed(version) => tell_number(rt, "condensed", *version),
         Shown::Seen(snapshot) => tell_seen(rt, &**snapshot),
     }
 }
@@ -107,10 +116,10 @@ fn tell_replayed<R: AllocGlobal + Print>(
 
 /// Replays the steps of the lines: edits, `publish`, `condense`, `tell READER` and `look READER`.
 pub(crate) fn try_replay<R: AllocGlobal + Print + Wait>(rt: &R, lines: &str) -> io::Result<()> {
-    println!(rt; "replay: version 0")?;
+    tell_next(rt, "replay: version 0")?;
     match replayed(rt, lines) {
         Err(Refusal::NoMemory) => {
-            println!(rt; "  refused")?;
+            tell_want(rt)?;
             tell_replayed(rt, replayed(rt, lines))
         }
         answer => tell_replayed(rt, answer),

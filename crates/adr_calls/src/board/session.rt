@@ -7,13 +7,12 @@ use crate::board::opening::READERS;
 use crate::calls::{Call, Tried, try_line};
 use crate::desk::{apply, version_of};
 use crate::same::{are_same, show_same};
-use adr_board::{Board, Desk, Editor, Naming, NewBoard, NoGate, Reader};
+use adr_board::{Board, Desk, Editor, Naming, NewBoard, NoGate, Reader, Snapshot};
 use adr_model::Tie;
 use adr_object::Edit;
-use adr_snapshot::Snapshot;
 use adr_test_values::lines::word;
 use adr_test_values::same::same_store;
-use adr_test_values::telling::{tell_ordinary, told};
+use adr_test_values::telling::{tell_next, tell_ordinary, told};
 use adr_value::Refusal;
 use std::marker::Brand;
 use std::sync::{Arc, Wait};
@@ -67,13 +66,35 @@ impl Twin {
             && self.has_last(last)
     }
 
+    /// Whether what was seen last is what was published last.
+    fn is_seen(&self, seen: &Option<Arc<Snapshot>>) -> bool {
+        match seen {
+            Some(seen) => self.has_last(&**seen),
+            None => false,
+        }
+    }
+
     /// Whether all is as the call leaves it.
-    fn is_made(&self, desk: &Desk, last: &Snapshot, call: &Call) -> bool {
+    fn is_made(
+        &self,
+        desk: &Desk,
+        last: &Snapshot,
+        seen: &Option<Arc<Snapshot>>,
+        call: &Call,
+    ) -> bool {
         match call {
             Call::Publish => self.is_published(desk, last),
             Call::Condense => self.is_condensed(desk, last),
+            Call::Look(_) => self.is_seen(seen) && self.is_as(desk, last),
             _ => self.is_as(desk, last),
         }
+    }
+
+    /// Goes on with copies of what is there now.
+    fn renew(&mut self, desk: &Desk, last: &Snapshot) -> Result<(), Refusal> {
+        let twin = Twin::of(desk, last)?;
+        drop(mem::replace(self, twin));
+        Ok(())
     }
 
     /// Makes the call, and answers what the board is to answer.
@@ -125,11 +146,32 @@ pub fn publish<J: Naming, R: Wait>(rt: &R, editor: &mut Editor<J>) -> Result<u64
     }
 }
 
-fn look<J: Naming>(readers: &mut [Reader<J>], place: usize) -> Result<Arc<Snapshot>, Refusal> {
-    match readers.get_mut(place) {
-        Some(reader) => reader.look(),
-        None => Err(Refusal::BadLine),
-    }
+/// Lets the reader look, keeps what it sees, and answers the version of that.
+fn look<J: Naming>(
+    readers: &mut [Reader<J>],
+    seen: &mut Option<Arc<Snapshot>>,
+    place: usize,
+) -> Result<u64, Refusal> {
+    let Some(reader) = readers.get_mut(place) else {
+        return Err(Refusal::BadLine);
+    };
+    let look = reader.look()?;
+    let version = look.version();
+    drop(mem::replace(seen, Some(look)));
+    Ok(version)
+}
+
+/// Tells the reader which publication is the last, and answers that one's version.
+fn tell<J: Naming>(
+    editor: &Editor<J>,
+    readers: &mut [Reader<J>],
+    place: usize,
+) -> Result<u64, Refusal> {
+    let Some(reader) = readers.get_mut(place) else {
+        return Err(Refusal::BadLine);
+    };
+    reader.learn(&editor.tell());
+    Ok(editor.last().version())
 }
 
 /// The refusal of a look by each reader, or the number of a publication that is still seen.
@@ -145,33 +187,6 @@ fn look_in_vain<J: Naming>(readers: &mut [Reader<J>]) -> Result<u64, Refusal> {
 }
 
 impl<J: Naming> Session<J> {
-    /// Lets the reader look, keeps what it sees, and answers the version of that.
-    fn look(&mut self, place: usize) -> Result<u64, Refusal> {
-        let seen = look(self.readers.as_mut_slice(), place)?;
-        let version = seen.version();
-        drop(mem::replace(&mut self.seen, Some(seen)));
-        Ok(version)
-    }
-
-    /// Whether what was seen last is what was published last.
-    fn has_seen_last(&self) -> bool {
-        match &self.seen {
-            Some(seen) => self.twin.has_last(&**seen),
-            None => false,
-        }
-    }
-
-    /// Tells the reader which publication is the last, and answers that one's version.
-    fn tell(&mut self, place: usize) -> Result<u64, Refusal> {
-        match self.readers.get_mut(place) {
-            Some(reader) => {
-                reader.learn(&self.editor.tell());
-                Ok(self.editor.last().version())
-            }
-            None => Err(Refusal::BadLine),
-        }
-    }
-
     /// Ends the board, and answers what its readers see after that.
     fn end<R: Wait>(self, rt: &R) -> Result<u64, Refusal> {
         let Session {
@@ -191,9 +206,7 @@ impl<J: Naming> Session<J> {
 
 impl<J: Naming> Tried for Session<J> {
     fn prepare(&mut self, _call: &Call) -> Result<(), Refusal> {
-        let twin = Twin::of(self.editor.desk(), &**self.editor.last())?;
-        drop(mem::replace(&mut self.twin, twin));
-        Ok(())
+        self.twin.renew(self.editor.desk(), &**self.editor.last())
     }
 
     fn make<R: AllocGlobal + Wait + Threads + Sync>(
@@ -205,59 +218,88 @@ impl<J: Naming> Tried for Session<J> {
             Call::Apply(workers, edit) => apply_with(rt, &mut self.editor, *workers, edit),
             Call::Publish => publish(rt, &mut self.editor),
             Call::Condense => self.editor.condense(),
-            Call::Look(place) => self.look(*place),
-            Call::Tell(place) => self.tell(*place),
+            Call::Look(place) => look(self.readers.as_mut_slice(), &mut self.seen, *place),
+            Call::Tell(place) => tell(&self.editor, self.readers.as_mut_slice(), *place),
             _ => Err(Refusal::BadLine),
         }
-    }
-
-    fn is_as_before(&self, _call: &Call) -> bool {
-        self.twin.is_as(self.editor.desk(), &**self.editor.last())
     }
 
     fn repeat(&mut self, call: &Call) -> Result<u64, Refusal> {
         self.twin.make(call)
     }
 
-    fn is_made(&self, call: &Call) -> bool {
-        let is_seen = match call {
-            Call::Look(_) => self.has_seen_last(),
-            _ => true,
-        };
-        let last = &**self.editor.last();
-        is_seen && self.twin.is_made(self.editor.desk(), last, call)
+    fn is_left(&self, call: &Call, is_made: bool) -> bool {
+        let (desk, last) = (self.editor.desk(), &**self.editor.last());
+        if is_made {
+            self.twin.is_made(desk, last, &self.seen, call)
+        } else {
+            self.twin.is_as(desk, last)
+        }
+    }
+}
+
+/// What has publications that can be asked.
+trait Asked {
+    /// The last publication.
+    fn last(&self) -> &Snapshot;
+
+    /// What a reader saw last.
+    fn seen(&self) -> Option<&Snapshot>;
+}
+
+impl<J: Naming> Asked for Session<J> {
+    fn last(&self) -> &Snapshot {
+        &**self.editor.last()
+    }
+
+    fn seen(&self) -> Option<&Snapshot> {
+        match &self.seen {
+            Some(seen) => Some(&**seen),
+            None => None,
+        }
+    }
+}
+
+/// Asks what a reader saw last the question, if one has looked.
+fn try_seen<R: AllocGlobal + Print>(
+    rt: &R,
+    seen: Option<&Snapshot>,
+    number: usize,
+    question: &str,
+) -> io::Result<()> {
+    match seen {
+        Some(seen) => try_ask(rt, seen, number, question),
+        None => told(Err(Refusal::BadLine)),
     }
 }
 
 /// Makes the call of the line, or asks the last publication its question, or, behind `seen`, what a reader saw last.
-fn try_one<J: Naming, R: AllocGlobal + Print + Wait + Threads + Sync>(
+fn try_one<B: Tried + Asked, R: AllocGlobal + Print + Wait + Threads + Sync>(
     rt: &R,
-    session: &mut Session<J>,
+    board: &mut B,
     number: usize,
     line: &str,
 ) -> io::Result<()> {
-    match (word(line), &session.seen) {
-        (("at" | "list" | "roll" | "types", _), _) => {
-            try_ask(rt, &**session.editor.last(), number, line)
-        }
-        (("seen", question), Some(seen)) => try_ask(rt, &**seen, number, question),
-        _ => try_line(rt, session, number, line),
+    match word(line) {
+        ("at" | "list" | "roll" | "types", _) => try_ask(rt, board.last(), number, line),
+        ("seen", question) => try_seen(rt, board.seen(), number, question),
+        _ => try_line(rt, board, number, line),
     }
 }
 
-fn try_each<J: Naming, R: AllocGlobal + Print + Wait + Threads + Sync>(
+fn try_each<B: Tried + Asked, R: AllocGlobal + Print + Wait + Threads + Sync>(
     rt: &R,
-    session: &mut Session<J>,
+    board: &mut B,
     lines: &str,
 ) -> io::Result<()> {
     for (number, line) in lines.lines().enumerate() {
-        try_one(rt, session, number, line)?;
+        try_one(rt, board, number, line)?;
     }
     Ok(())
 }
 
 fn tell_end<R: Print>(rt: &R, seen: Result<u64, Refusal>) -> io::Result<()> {
-    println!(rt; "end: each reader looks")?;
+    tell_next(rt, "end: each reader looks")?;
     tell_ordinary(rt, seen)
 }
 

@@ -21,8 +21,8 @@ fn event_line(alloc: Global, words: [&str; 6], intervals: &str) -> Result<String
     )?)
 }
 
-/// The edit that writes the event of `ID TARGETS PRIORITY START LENGTH TYPES ..`.
-fn event_edit(alloc: Global, verb: &str, line: &str) -> Result<Edit, Refusal> {
+/// The line with a body that writes the event of `ID TARGETS PRIORITY START LENGTH TYPES ..`.
+fn event_text(alloc: Global, verb: &str, line: &str) -> Result<String, Refusal> {
     let (id, line) = word(line)?;
     let (targets, line) = word(line)?;
     let (priority, line) = word(line)?;
@@ -30,14 +30,16 @@ fn event_edit(alloc: Global, verb: &str, line: &str) -> Result<Edit, Refusal> {
     let (length, line) = word(line)?;
     let intervals = intervals(alloc, line)?;
     let words = [verb, id, targets, priority, start, length];
-    let line = event_line(alloc, words, intervals.as_str())?;
-    edit(alloc, line.as_str())
+    event_line(alloc, words, intervals.as_str())
 }
 
 /// The edit of a line: `VERB event ID TARGETS PRIORITY START LENGTH TYPES ..` writes an event; any other line has a body.
 pub fn any_edit(alloc: Global, line: &str) -> Result<Edit, Refusal> {
     match line.split_once(" event ") {
-        Some((verb, event)) if verb != "delete" => event_edit(alloc, verb, event),
+        Some((verb, event)) if verb != "delete" => {
+            let line = event_text(alloc, verb, event)?;
+            edit(alloc, line.as_str())
+        }
         _ => edit(alloc, line),
     }
 }

@@ -20,7 +20,8 @@ pub fn same_option<T: Same>(a: Option<&T>, b: Option<&T>) -> bool {
     }
 }
 
-fn same_values(a: &[Datum], b: &[Datum]) -> bool {
+/// Whether the lists are as long as one another, and each value is the same as the other's at its place.
+fn same_lists<T: Same>(a: &[T], b: &[T]) -> bool {
     for (a, b) in a.iter().zip(b) {
         if !a.same(b) {
             return false;
@@ -29,26 +30,30 @@ fn same_values(a: &[Datum], b: &[Datum]) -> bool {
     a.len() == b.len()
 }
 
-fn same_targets(a: &[Target], b: &[Target]) -> bool {
-    for (a, b) in a.iter().zip(b) {
-        if a.kind.as_str() != b.kind.as_str()
-            || !same_values(a.values.as_slice(), b.values.as_slice())
-        {
-            return false;
-        }
+impl Same for Text {
+    fn same(&self, other: &Text) -> bool {
+        self.as_str() == other.as_str()
     }
-    a.len() == b.len()
 }
 
-fn same_payloads(a: &[Payload], b: &[Payload]) -> bool {
-    for (a, b) in a.iter().zip(b) {
-        if a.kind.name() != b.kind.name()
-            || !same_values(a.values.as_slice(), b.values.as_slice())
-        {
-            return false;
-        }
+impl Same for Datum {
+    fn same(&self, other: &Datum) -> bool {
+        Datum::same(self, other)
     }
-    a.len() == b.len()
+}
+
+impl Same for Target {
+    fn same(&self, other: &Target) -> bool {
+        self.kind.as_str() == other.kind.as_str()
+            && same_lists(self.values.as_slice(), other.values.as_slice())
+    }
+}
+
+impl Same for Payload {
+    fn same(&self, other: &Payload) -> bool {
+        self.kind.name() == other.kind.name()
+            && same_lists(self.values.as_slice(), other.values.as_slice())
+    }
 }
 
 /// Whether what starts then ends at one moment by both.
@@ -60,39 +65,23 @@ fn same_lengths(start: Moment, a: Option<Length>, b: Option<Length>) -> bool {
     }
 }
 
-fn same_periods(a: Option<Period>, b: Option<Period>) -> bool {
-    match (a, b) {
-        (Some(a), Some(b)) => {
-            a.start == b.start
-                && same_lengths(a.start, a.duration, b.duration)
-                && same_lengths(a.start, a.randomize, b.randomize)
-        }
-        (None, None) => true,
-        _ => false,
+impl Same for Period {
+    fn same(&self, other: &Period) -> bool {
+        self.start == other.start
+            && same_lengths(self.start, self.duration, other.duration)
+            && same_lengths(self.start, self.randomize, other.randomize)
     }
 }
 
-fn own_period(interval: &Interval) -> Option<Period> {
-    interval.period.as_ref().map(|period| *period.get())
+fn own_period(interval: &Interval) -> Option<&Period> {
+    interval.period.as_ref().map(|period| period.get())
 }
 
-fn same_intervals(a: &[Interval], b: &[Interval]) -> bool {
-    for (a, b) in a.iter().zip(b) {
-        if a.id != b.id
-            || !same_periods(own_period(a), own_period(b))
-            || !same_payloads(a.payloads.as_slice(), b.payloads.as_slice())
-        {
-            return false;
-        }
-    }
-    a.len() == b.len()
-}
-
-fn same_texts(a: &Option<Text>, b: &Option<Text>) -> bool {
-    match (a, b) {
-        (Some(a), Some(b)) => a.as_str() == b.as_str(),
-        (None, None) => true,
-        _ => false,
+impl Same for Interval {
+    fn same(&self, other: &Interval) -> bool {
+        self.id == other.id
+            && same_option(own_period(self), own_period(other))
+            && same_lists(self.payloads.as_slice(), other.payloads.as_slice())
     }
 }
 
@@ -100,11 +89,14 @@ impl Same for Event {
     fn same(&self, other: &Event) -> bool {
         self.id.same(&other.id)
             && self.program_id.same(&other.program_id)
-            && same_texts(&self.event_name, &other.event_name)
+            && same_option(self.event_name.as_ref(), other.event_name.as_ref())
             && self.priority == other.priority
-            && same_targets(self.targets.as_slice(), other.targets.as_slice())
-            && same_periods(self.interval_period, other.interval_period)
-            && same_intervals(self.intervals.as_slice(), other.intervals.as_slice())
+            && same_lists(self.targets.as_slice(), other.targets.as_slice())
+            && same_option(
+                self.interval_period.as_ref(),
+                other.interval_period.as_ref(),
+            )
+            && same_lists(self.intervals.as_slice(), other.intervals.as_slice())
     }
 }
 
@@ -112,7 +104,7 @@ impl Same for Program {
     fn same(&self, other: &Program) -> bool {
         self.id.same(&other.id)
             && self.program_name.as_str() == other.program_name.as_str()
-            && same_targets(self.targets.as_slice(), other.targets.as_slice())
+            && same_lists(self.targets.as_slice(), other.targets.as_slice())
     }
 }
 
@@ -120,7 +112,7 @@ impl Same for Ven {
     fn same(&self, other: &Ven) -> bool {
         self.id.same(&other.id)
             && self.ven_name.as_str() == other.ven_name.as_str()
-            && same_targets(self.targets.as_slice(), other.targets.as_slice())
+            && same_lists(self.targets.as_slice(), other.targets.as_slice())
     }
 }
 
@@ -129,7 +121,7 @@ impl Same for Resource {
         self.id.same(&other.id)
             && self.resource_name.as_str() == other.resource_name.as_str()
             && self.ven_id.same(&other.ven_id)
-            && same_targets(self.targets.as_slice(), other.targets.as_slice())
+            && same_lists(self.targets.as_slice(), other.targets.as_slice())
     }
 }
 

@@ -39,8 +39,7 @@ fn index_of(alloc: Global, entries: &[Entry]) -> io::Result<Index>
     ensures { IfOk result (λ index. AreBelow (length entries.now) index.entries) }
 {
     let copy = Vec::from_slice(alloc, entries)?;
-    let index = filled(alloc, copy)?;
-    Ok(index)
+    filled(alloc, copy)
 }
 
 /// Makes room for that many more entries.

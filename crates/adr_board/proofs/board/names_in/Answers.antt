@@ -1,8 +1,8 @@
 use Rattle.std.proofs.Common.{◌≡◌, slice_get, Some, ap, sym, arith, ◌∙◌}
 use Rattle.std.proofs.lemmas.Option.{get_or_from_slice_get}
 use Rattle.std.specs.Option.{option_copied}
-use Rattle.adr_snapshot.specs.Types.{edit_names}
-use Rattle.adr_snapshot.proofs.Naming.{all_private, more_private}
+use Rattle.adr_board.specs.Types.{edit_names}
+use Rattle.adr_board.proofs.PrivateNames.{all_private, more_private}
 use Rattle.adr_board.proofs.board.names_in.Goals as goal
 
 pub loop-place-preserved : goal.loop-place-preserved

@@ -4,8 +4,8 @@ use Rattle.left_right.specs.Sides.{view as known}
 use Rattle.adr_model.specs.Book.{Book}
 use Rattle.adr_model.specs.Machine.{Publication}
 use Rattle.adr_book.specs.Ledger.{Ledger}
-use Rattle.adr_snapshot.specs.Published.{PublishedBook}
-use Rattle.adr_snapshot.specs.Types.{HasPrivateNames}
+use Rattle.adr_board.specs.Published.{PublishedBook}
+use Rattle.adr_board.specs.Types.{HasPrivateNames}
 use Rattle.adr_board.proofs.Following.{condensed, same_part}
 use Rattle.adr_board.proofs.Lasts.{last_is}
 use Rattle.adr_board.proofs.board.Editor.condense.Goals as goal

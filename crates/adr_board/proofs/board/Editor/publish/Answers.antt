@@ -6,7 +6,7 @@ use Rattle.adr_book.specs.Ledger.{Ledger, journal_of, sealed_of}
 use Rattle.adr_board.proofs.Histories.{after_refused, after_shown}
 use Rattle.adr_board.specs.declared.shown.Showing.{Showing}
 use Rattle.adr_board.specs.Rules.{publication_in, showing}
-use Rattle.adr_snapshot.specs.Types.{HasPrivateNames}
+use Rattle.adr_board.specs.Types.{HasPrivateNames}
 use Rattle.adr_board.proofs.Following.{leads_on, may_follow, shown_last}
 use Rattle.adr_board.proofs.board.Editor.publish.Goals as goal
 

@@ -1,9 +1,0 @@
-use Rattle.std.proofs.Common.{length}
-use Rattle.std.specs.Prelude.{⊤}
-use Rattle.adr_bulk.proofs.sharing.fingerprint.Given as goal
-
-abbrev pub invariant-rest : goal.invariant-rest
-invariant-rest l = ⊤
-
-abbrev pub decreases-rest : goal.decreases-rest
-decreases-rest l = length l.rest

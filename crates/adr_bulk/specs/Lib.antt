@@ -1,2 +1,0 @@
-pub mod Bulk
-pub mod Loaded

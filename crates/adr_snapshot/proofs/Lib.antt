@@ -1,6 +1,0 @@
-pub mod Ordered
-pub mod Listed
-pub mod Naming
-pub mod Untils
-pub mod AllTypes
-pub mod Told

@@ -1,2 +1,0 @@
-pub mod Published
-pub mod Types
