@@ -1,5 +1,5 @@
 -- The next publication follows from the last one.
-use Rattle.std.proofs.Common.{◌≡◌, ◌+◌, ◌*◌, List, [], ◌∷◌, ◌++◌, length, sym, ap, subst, arith, length-append, ◌∙◌, Result, Ok, Err, OnOk, OnErr}
+use Rattle.std.proofs.Common.{◌≡◌, ℕ, ◌+◌, ◌*◌, List, [], ◌∷◌, ◌++◌, length, sym, ap, subst, arith, length-append, ◌∙◌, Result, Ok, Err, OnOk, OnErr}
 use Rattle.std.proofs.lemmas.List.{append-nil}
 use Rattle.logbook.specs.Pages.{Book as History}
 use Rattle.adr_object.specs.declared.object.Edit.{Edit}
@@ -11,13 +11,12 @@ use Rattle.adr_model.proofs.EditLemmas.{journals_go_on}
 use Rattle.adr_book.specs.Ledger.{Ledger, closed_edits, journal_of, sealed_of}
 use Rattle.adr_board.specs.declared.diary.Entry.{Entry}
 use Rattle.adr_board.specs.History.{begun, published_by, EndsInAttempt}
-use Rattle.adr_board.specs.Publications.{publication_of}
+use Rattle.adr_board.specs.Publications.{EndsWith, publication_of}
 use Rattle.adr_board.proofs.Histories.{first_attempt}
-use Rattle.adr_board.proofs.Linked.{ends_opened}
+use Rattle.adr_board.proofs.Linked.{ends_opened, ends_snoc}
 use Rattle.adr_board.specs.declared.shown.Showing.{Showing}
 use Rattle.adr_board.specs.Published.{PublishedBook}
 use Rattle.adr_board.specs.Rules.{IsCarried, IsLast, MayFollow, publication_in}
-use Rattle.adr_board.proofs.Steps.{followed}
 
 -- from what the closed batches lead to the open one leads to the objects
 pub leads_on : (book : Ledger) (before : Book) (p : Publication) → after_from book.base (journal_of book) ≡ book.objects → before ≡ sealed_of book → p ≡ publication_of book → p.book ≡ after_from before p.batch
@@ -59,11 +58,13 @@ may_follow tie history v s t last log is ends next link rule same log_is says lo
     record { earlier = log; log_is = log_is; long = long; list_is = ap (λ (l : List Publication). l ++ p ∷ []) (sym says); numbered = numbered } in
     (subst (λ (x : PublishedBook). IsLast v x) is ends, next ∙ ap (λ (x : PublishedBook). x.number + 1) is, link ∙ ap (λ (x : PublishedBook). after_from x.book.objects p.batch) is, (same, at), rule)
 
--- what is shown after a publication is the last of the longer list
-pub shown_last : (tie : Tie) (history : History) (v w : List Publication) (s t : Showing) (last : PublishedBook) → MayFollow tie history v s t → w ≡ v ++ publication_in t.snapshot ∷ [] → last ≡ t.snapshot → IsLast w last
-shown_last tie history v w s t last may more is =
-    let ends = followed tie history v s t may in
-    subst (λ (l : List Publication). IsLast l last) (sym more) (subst (λ (x : PublishedBook). IsLast (v ++ publication_in t.snapshot ∷ []) x) (sym is) ends)
+-- a publication that follows from the last one is the last of the longer list
+pub follows_last : (v w : List Publication) (last next : PublishedBook)
+    → IsLast v last → next.number ≡ last.number + 1 → (publication_in next).book ≡ after_from last.book.objects (publication_in next).batch → w ≡ v ++ publication_in next ∷ []
+    → IsLast w next
+follows_last v w last next ends number link more =
+    let longer = ends_snoc v last.number (publication_in last) (publication_in next) ends link in
+    subst (λ (l : List Publication). IsLast l next) (sym more) (subst (λ (n : ℕ). EndsWith (v ++ publication_in next ∷ []) n (publication_in next)) (sym number) longer)
 
 -- number 0 is carried with the history that begins with it
 pub first_carried : (history : History) (t : Showing) → t.snapshot.number ≡ 0 → publication_in t.snapshot ≡ opening → t.page.book ≡ history → t.page.log ≡ begun opening ∷ [] → t.attempt ≡ 0 → IsCarried history (opening ∷ []) t

@@ -1,7 +1,6 @@
 -- Lists of publications that grow.
-use Rattle.std.proofs.Common.{◌≡◌, ℕ, ◌+◌, List, [], ◌∷◌, ◌++◌, length, take, refl, sym, ap, ◌∙◌, subst, arith, length-append}
+use Rattle.std.proofs.Common.{◌≡◌, ℕ, ◌+◌, List, [], ◌∷◌, ◌++◌, take, refl, sym, ap, ◌∙◌, subst, arith, length-append}
 use Rattle.std.proofs.Math.Seq.{take-append_seam}
-use mathlib.Core.List.{IsPrefix}
 use Rattle.adr_model.specs.Book.{Book, empty}
 use Rattle.adr_model.specs.Edits.{after_from}
 use Rattle.adr_model.specs.Laws.{AreLinked}

@@ -1,5 +1,6 @@
--- A run on a new board.
-use Rattle.std.proofs.Common.{◌≡◌, ℕ, List, [], ◌∷◌, length, replicate, Result, Ok, Err, IfOk, ap, subst}
+-- A new board, and a run on it.
+use Rattle.std.proofs.Common.{◌≡◌, ℕ, ◌+◌, false, List, [], ◌∷◌, ◌++◌, length, replicate, Result, Ok, Err, IfOk, ap, ◌∙◌, sym, subst, if◌then◌else◌, is_err, is_ok}
+use Rattle.std.proofs.lemmas.List.Elements.{All-append, All-cons, All-nil}
 use Rattle.std.specs.Prelude.{All}
 use Rattle.std.specs.declared.vec.Vec.{Vec}
 use Rattle.adr_refusal.specs.declared.refusal.Refusal.{Refusal}
@@ -11,6 +12,14 @@ use Rattle.adr_board.specs.declared.run_steps.Step.{Step}
 use Rattle.adr_board.specs.declared.run_steps.Shown.{Shown}
 use Rattle.adr_board.specs.Replay.{AreSteps, IsRun, state_of}
 use Rattle.adr_board.proofs.Reached.{newcomers_reached}
+
+-- one more newcomer, where there was room for it
+pub one_more : {X E : Type 0} (r : Result X E) (before after : List View) (reader : View) (old new count : ℕ)
+    → is_err r ≡ false → after ≡ (if is_ok r then before ++ reader ∷ [] else before) → new ≡ (if is_ok r then old + 1 else old)
+    → old ≡ count → All (λ v. v ≡ newcomer) before → reader ≡ newcomer → (new ≡ count + 1) × All (λ v. v ≡ newcomer) after
+one_more (Ok x) before after reader old new count room list long counted all one =
+    (long ∙ ap (λ (n : ℕ). n + 1) counted, subst (λ (vs : List View). All (λ v. v ≡ newcomer) vs) (sym list) (All-append (λ v. v ≡ newcomer) before (reader ∷ []) all (All-cons (λ v. v ≡ newcomer) reader [] one (All-nil (λ v. v ≡ newcomer)))))
+one_more (Err e) before after reader old new count room list long counted all one = absurd (cc (room))
 
 -- the board as it was opened
 pub record IsOpened (b : Board) (views : List View) (tie : Tie) (readers : ℕ) : Type 0 where

@@ -483,39 +483,26 @@ impl<J: Naming> Editor<J> {
             return Err(Refusal::Full);
         }
         let _leads = self.desk.book().journal();
-        let place = self.diary.attempts;
-        let Some(attempt) = self.diary.begin(self.desk.book()) else {
-            return Err(Refusal::NoMemory);
-        };
-        let prepared = match prepare(self.alloc, &self.desk, number + 1) {
-            Ok(prepared) => prepared,
-            Err(refusal) => {
-                self.diary.end(attempt, self.desk.book(), false);
-                return Err(refusal);
-            }
-        };
         let Prepared {
             sealed,
             shown,
             last,
-        } = prepared;
+        } = prepare(self.alloc, &self.desk, number + 1)?;
+        let place = self.diary.attempts;
+        let Some(attempt) = self.diary.begin(self.desk.book()) else {
+            return Err(Refusal::NoMemory);
+        };
         let shown = Shown::of(shown, place, &attempt.page);
-        match show_next(&mut self.writer, rt, shown) {
-            Ok(()) => {
-                self.diary.end(attempt, self.desk.book(), true);
-                self.desk.go_on_from(sealed);
-                self.last = last;
-                self.attempt = place;
-                Ok(Published {
-                    number: number + 1,
-                    version: self.desk.book().version(),
-                })
-            }
-            Err(refusal) => {
-                self.diary.end(attempt, self.desk.book(), false);
-                Err(refusal)
-            }
-        }
+        let outcome = show_next(&mut self.writer, rt, shown);
+        self.diary.end(attempt, self.desk.book(), outcome.is_ok());
+        outcome?;
+        self.desk.go_on_from(sealed);
+        self.last = last;
+        self.attempt = place;
+        Ok(Published {
+            number: number + 1,
+            version: self.desk.book().version(),
+        })
     }
 
     /// Counts the accepted edits from the last publication on, lets the closed batches go and answers that
@@ -577,6 +564,19 @@ struct Started<J: Naming> {
     diary: Diary,
 }
 
+// Publication 0.
+fn opening_snapshot(alloc: Global, tie: Tie) -> Result<Arc<Snapshot>, Refusal>
+    ensures number { IfOk result (λ s. (arc_value s).number ≡ 0) }
+    ensures tie { IfOk result (λ s. (arc_value s).tie ≡ tie) }
+    ensures book { IfOk result (λ s. publication_of (arc_value s).book ≡ opening) }
+    ensures publication { IfOk result (λ s. publication_in (arc_value s) ≡ opening) }
+    ensures refusal { OnlyNoMemory result }
+{
+    let snapshot = Snapshot::first(alloc, tie)?;
+    snapshot.snapshot_laws();
+    Arc::new(alloc, snapshot).map_err(|_| Refusal::NoMemory)
+}
+
 fn start<J: Naming>(
     alloc: Global,
     board: NewBoard,
@@ -598,37 +598,27 @@ fn start<J: Naming>(
     ensures refusal { OnlyNoMemory result }
 {
     let NewBoard { mut diary } = board;
-    let snapshot = Snapshot::first(alloc, tie)?;
-    snapshot.snapshot_laws();
+    let last = opening_snapshot(alloc, tie)?;
+    let shown = shared(&last)?;
+    let other = shared(&last)?;
     let place = diary.attempts;
-    let Some(attempt) = diary.begin(snapshot.book()) else {
+    let Some(attempt) = diary.begin(last.book()) else {
         return Err(Refusal::NoMemory);
     };
     let page = attempt.page.again();
-    let Ok(last) = Arc::new(alloc, snapshot) else {
-        return Err(Refusal::NoMemory);
-    };
-    let Ok(shown) = Arc::try_clone(&last) else {
-        return Err(Refusal::NoMemory);
-    };
-    let Ok(other) = Arc::try_clone(&last) else {
-        return Err(Refusal::NoMemory);
-    };
     let first = Shown::of(shown, place, &page);
     let second = Shown::of(other, place, &page);
-    match RuledWriter::<J>::new(alloc, first, second, readers) {
-        Ok(writer) => {
-            diary.end(attempt, last.book(), true);
-            Ok(Started {
-                writer,
-                last,
-                attempt: place,
-                page,
-                diary,
-            })
-        }
-        Err(_) => Err(Refusal::NoMemory),
-    }
+    let Ok(writer) = RuledWriter::<J>::new(alloc, first, second, readers) else {
+        return Err(Refusal::NoMemory);
+    };
+    diary.end(attempt, last.book(), true);
+    Ok(Started {
+        writer,
+        last,
+        attempt: place,
+        page,
+        diary,
+    })
 }
 
 fn seat_readers<J: Naming>(

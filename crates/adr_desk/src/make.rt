@@ -186,7 +186,7 @@ pub(crate) fn make<C: Fn(&Indexes, &[Job]) -> Result<Vec<Done>, Refusal>>(
     edit_laws();
     let book = old.book();
     let after = committed(book, edit)?;
-    let touched = Touched::between(book.copy()?, after.copy()?, edit.edit().copy()?);
+    let touched = Touched::between(book, &after, edit.edit())?;
     let mut meter = Meter::new();
     let accepted = Accepted {
         tie: old.tie(),

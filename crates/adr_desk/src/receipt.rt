@@ -49,12 +49,17 @@ impl Model for Touched {
 }
 
 impl Touched {
-    /// The touches between the books before and after an edit.
-    pub(crate) fn between(old: Book, new: Book, edit: Edit) -> Touched
-        requires { step old.objects edit ≡ Ok new.objects }
-        ensures { result ≡ touches_between_books old.objects new.objects }
+    /// The touches between the books before and after an edit, of which it keeps copies, which share all.
+    pub(crate) fn between(old: &Book, new: &Book, edit: &Edit) -> Result<Touched, Refusal>
+        requires { step old.now.objects edit.now ≡ Ok new.now.objects }
+        ensures touched { IfOk result (λ touched. touched ≡ touches_between_books old.now.objects new.now.objects) }
+        ensures refusal { OnlyNoMemory result }
     {
-        Touched { old, new, edit }
+        Ok(Touched {
+            old: old.copy()?,
+            new: new.copy()?,
+            edit: edit.copy()?,
+        })
     }
 
     /// The touches, listed. `NoMemory` where there is no room for the list. Cost: a look at each resource and event; of an

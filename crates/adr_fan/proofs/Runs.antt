@@ -1,8 +1,8 @@
 -- From what the loop told and the readers handed back to what was written.
-use Rattle.std.proofs.Common.{◌≡◌, ℕ, List, [], ◌++◌, length, Option, refl, sym, subst, append-nil, inl, inr}
+use Rattle.std.proofs.Common.{◌≡◌, ℕ, ◌+◌, List, [], ◌++◌, length, Option, refl, ap, ◌∙◌, sym, subst, append-nil, inl, inr}
 use Rattle.std.proofs.lemmas.Result.{on_ok_weaker}
 use Rattle.std.specs.declared.vec.Vec.{Vec}
-use Rattle.std.specs.Prelude.{◌^◌, Result, Ok, Err, true, false, IfOk, IfErr, OnOk, IsErrOf}
+use Rattle.std.specs.Prelude.{◌^◌, Result, Ok, Err, true, false, IfOk, OnOk, IsErrOf}
 use Rattle.std.specs.Io.KnownBytes.{Appends, IsAtEnd}
 use Rattle.adr_script.specs.declared.fault.Fault.{Fault}
 use Rattle.adr_script.specs.declared.fault.Fault.TheVariants.{Reading, Reads, Writing, Runtime}
@@ -21,7 +21,7 @@ use Rattle.adr_fan.specs.declared.levels.Stop.{Stop}
 use Rattle.adr_fan.specs.declared.levels.Stop.TheVariants.{WriteFailed, NoRuntime}
 use Rattle.adr_fan.specs.declared.reading.Reply.{Reply}
 use Rattle.adr_server.specs.Fan.{Fan, fan_start, AreReaderParts, IsFannedOf}
-use Rattle.adr_fan.specs.Levels.{lines_told, HasTold, HasToldInPart, IsServed, WritesPart, IsFannedInPart, IsCutShort, ended_as, fault_of, HasWritten, IsFanRun}
+use Rattle.adr_fan.specs.Levels.{lines_told, GoesOn, HasTold, HasToldInPart, IsServed, WritesPart, IsFannedInPart, IsCutShort, ended_as, fault_of, HasWritten, IsFanRun}
 use Rattle.adr_fan.specs.Parts.{AreParts, all_texts}
 use Rattle.adr_fan.proofs.Parts.{parts_are}
 use Rattle.adr_fan.proofs.CutShort.{Answers, fanned, fanned_in_part, told_in_part}
@@ -96,21 +96,33 @@ cut_off {s = s} {t = t} {a = a} {b = b} {d = d} {e = e} c served = record {
 }
 
 -- one part more, or none
-pub goes_on : {s t : Fan} {a b d e : Known} {reads : ReadLog} {writes : WriteLog} (c : Collected) (result : Result Collected Stop)
-    → IfOk result (λ more. more.ending ≡ c.ending) → IfErr result (λ stop. stop ≡ NoRuntime) → IsServed s a b d e reads writes t (Ok c) → IsServed s a b d e reads writes t result
-goes_on {s = s} {t = t} {a = a} {b = b} {d = d} {e = e} {reads = reads} {writes = writes} c (Err stop) same is served =
-    subst (λ f. IsServed s a b d e reads writes t (Err f)) (sym is) (cut_off c served)
-goes_on {s = s} {t = t} {a = a} {b = b} {d = d} {e = e} {reads = reads} c (Ok more) same is served = record {
-  told = subst (λ ending. HasTold ending s a b d e t) (sym same) served.told;
-  end = subst (λ ending. ending ≡ All → IsAtEnd b) (sym same) served.end;
-  err = tt;
-  ended = subst (λ ending. ending ≡ All → has_ended reads ≡ true) (sym same) served.ended;
-  read_ends = subst (λ ending. ending ≡ All → has_read_failed reads ≡ false) (sym same) served.read_ends;
-  write_ends = λ h. absurd (cc (served.write_ends h));
-  read_failed = subst (λ ending. ending ≡ ReadFailed → has_read_failed reads ≡ true) (sym same) served.read_failed;
-  no_more_reads = subst (λ ending. ending ≡ NoMoreReads → reads_made reads ≡ 2 ^ 32) (sym same) served.no_more_reads;
-  write_failed = λ h. absurd (cc h);
-}
+pub goes_on : {s t : Fan} {a b d e : Known} {reads : ReadLog} {writes : WriteLog} (before after : Result Collected Stop) → GoesOn t before after → IsServed s a b d e reads writes t before → IsServed s a b d e reads writes t after
+goes_on {s = s} {t = t} {a = a} {b = b} {d = d} {e = e} {reads = reads} {writes = writes} (Err stop) after same served = subst (λ r. IsServed s a b d e reads writes t r) (sym same) served
+goes_on {s = s} {t = t} {a = a} {b = b} {d = d} {e = e} {reads = reads} {writes = writes} (Ok c) (Err stop) goes served =
+    subst (λ f. IsServed s a b d e reads writes t (Err f)) (sym goes.1) (cut_off c served)
+goes_on {s = s} {t = t} {a = a} {b = b} {d = d} {e = e} {reads = reads} (Ok c) (Ok more) goes served =
+    let same = goes.0.0 in
+    record {
+      told = subst (λ ending. HasTold ending s a b d e t) (sym same) served.told;
+      end = subst (λ ending. ending ≡ All → IsAtEnd b) (sym same) served.end;
+      err = tt;
+      ended = subst (λ ending. ending ≡ All → has_ended reads ≡ true) (sym same) served.ended;
+      read_ends = subst (λ ending. ending ≡ All → has_read_failed reads ≡ false) (sym same) served.read_ends;
+      write_ends = λ h. absurd (cc (served.write_ends h));
+      read_failed = subst (λ ending. ending ≡ ReadFailed → has_read_failed reads ≡ true) (sym same) served.read_failed;
+      no_more_reads = subst (λ ending. ending ≡ NoMoreReads → reads_made reads ≡ 2 ^ 32) (sym same) served.no_more_reads;
+      write_failed = λ h. absurd (cc h);
+    }
+
+pub one_more : (t : Fan) (before after : Result Collected Stop) (count more : ℕ) → GoesOn t before after → more ≡ count + 1 → IfOk before (λ c. length c.parts.items ≡ count) → IfOk after (λ c. length c.parts.items ≡ more)
+one_more t (Err stop) after count more same next counted = subst (λ r. IfOk r (λ c. length c.parts.items ≡ more)) (sym same) tt
+one_more t (Ok c) (Err stop) count more goes next counted = tt
+one_more t (Ok c) (Ok d) count more goes next counted = goes.0.1 ∙ (ap (λ (n : ℕ). n + 1) counted ∙ sym next)
+
+pub all_parts : (t : Fan) (before after : Result Collected Stop) → GoesOn t before after → IfOk before (λ c. AreParts t c.parts.items) → IfOk after (λ c. AreParts t c.parts.items)
+all_parts t (Err stop) after same all = subst (λ r. IfOk r (λ c. AreParts t c.parts.items)) (sym same) tt
+all_parts t (Ok c) (Err stop) goes all = tt
+all_parts t (Ok c) (Ok d) goes all = goes.0.2 all
 
 -- ---- how a run ends
 

@@ -1,5 +1,5 @@
 -- What the threads and the input come to.
-use Rattle.std.specs.Prelude.{◌≡◌, ◌⊎◌, ◌^◌, ℕ, true, false, List, ◌++◌, Option, Result, Ok, Err, IfOk, OnOk, OnErr, IsErrOf}
+use Rattle.std.specs.Prelude.{◌≡◌, ◌⊎◌, ◌+◌, ◌^◌, ℕ, true, false, List, ◌++◌, length, Option, Result, Ok, Err, IfOk, IfErr, OnOk, OnErr, IsErrOf}
 use Rattle.adr_script.specs.declared.fault.Fault.{Fault}
 use Rattle.adr_script.specs.declared.fault.Fault.TheVariants.{Reading, Reads, Writing, Runtime}
 use Rattle.adr_script.specs.declared.log.ReadLog.{ReadLog}
@@ -15,6 +15,7 @@ use Rattle.adr_fan.specs.declared.levels.Ending.{Ending}
 use Rattle.adr_fan.specs.declared.levels.Ending.TheVariants.{All, ReadFailed, NoMoreReads}
 use Rattle.adr_fan.specs.declared.levels.Stop.{Stop}
 use Rattle.adr_fan.specs.declared.levels.Stop.TheVariants.{WriteFailed, NoRuntime}
+use Rattle.adr_fan.specs.Parts.{AreParts}
 use Rattle.adr_server.specs.Fan.{Fan, fan_reply, fan_next, IsFanned, IsFannedOf}
 
 -- the lines that are answered where the input ended so
@@ -44,6 +45,14 @@ pub record IsServed (s : Fan) (left_old left_new held_old held_new : Option (Lis
   pub read_failed : IfOk result (λ c. c.ending ≡ ReadFailed → has_read_failed reads ≡ true)
   pub no_more_reads : IfOk result (λ c. c.ending ≡ NoMoreReads → reads_made reads ≡ 2 ^ 32)
   pub write_failed : IsErrOf result WriteFailed → has_write_failed writes ≡ true
+
+-- What was collected, with the part of one reader more, whose replies are checked: the input ended as it did before, and a
+-- run without a runtime for it stops. Where nothing was collected, nothing is
+abbrev pub GoesOn : Fan → Result Collected Stop → Result Collected Stop → Type 0
+GoesOn fan (Err stop) after = after ≡ Err stop
+GoesOn fan (Ok before) after =
+    IfOk after (λ c. (c.ending ≡ before.ending) × (length c.parts.items ≡ length before.parts.items + 1) × (AreParts fan before.parts.items → AreParts fan c.parts.items))
+    × IfErr after (λ stop. stop ≡ NoRuntime)
 
 -- a front of the text was written
 abbrev pub WritesPart : Option (List ℕ) → Option (List ℕ) → List ℕ → Type 0

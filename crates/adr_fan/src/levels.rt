@@ -1,8 +1,7 @@
 //! The threads, one in each level of a recursion, and the input in the innermost.
-ghost use Rattle.std.specs.Prelude.{◌≡◌, ◌≤◌, ◌+◌, ◌^◌, false, [], IfOk, IfErr, length};
+ghost use Rattle.std.specs.Prelude.{◌≡◌, ◌≤◌, ◌^◌, false, [], IfOk, length};
 ghost use Rattle.adr_script.specs.Logs.{reads_made, has_read_failed, has_write_failed};
-ghost use Rattle.adr_fan.specs.Levels.{fault_of, IsServed};
-ghost use Rattle.adr_fan.specs.declared.levels.Stop.TheVariants.{NoRuntime};
+ghost use Rattle.adr_fan.specs.Levels.{fault_of, GoesOn, IsServed};
 ghost use Rattle.adr_fan.specs.Parts.{AreParts, AreTrue};
 
 use crate::mailbox::Mailbox;
@@ -135,22 +134,19 @@ pub(crate) fn level<
     };
     let collected = level(rt, gate, reader, writer, logs, desk, seats);
     let part = child.join(rt);
-    with_part(desk, part, collected?)
+    with_part(desk, part, collected)
 }
 
-/// What was collected, and the replies of one reader more, once they are checked.
+/// What was collected, and the replies of one reader more, once they are checked. Nothing where nothing was collected.
 fn with_part<J: Naming>(
     desk: &FanDesk<J>,
     part: Part<J>,
-    collected: Collected,
+    collected: Result<Collected, Stop>,
 ) -> Result<Collected, Stop>
     requires { AreTrue J.tie part.reader.seen part.replies.items }
-    ensures ending { IfOk result (λ c. c.ending ≡ collected.ending) }
-    ensures count { IfOk result (λ c. length c.parts.items ≡ length collected.parts.items + 1) }
-    ensures parts { IfOk result (λ c. AreParts desk.now collected.parts.items → AreParts desk.now c.parts.items) }
-    ensures stop { IfErr result (λ stop. stop ≡ NoRuntime) }
+    ensures { GoesOn desk.now collected result }
 {
-    let Collected { mut parts, ending } = collected;
+    let Collected { mut parts, ending } = collected?;
     let Some(replies) = desk.check(part) else {
         return Err(Stop::NoRuntime);
     };

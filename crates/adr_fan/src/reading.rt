@@ -128,6 +128,19 @@ fn reply_all<J: Naming, R: Wait, G: Gate>(
     part
 }
 
+/// What a reader's thread shares with who starts it.
+fn shares_of<R: Clone + Drop, G: Drop>(
+    rt: &R,
+    gate: &Arc<G>,
+    mailbox: &Arc<Mailbox>,
+) -> Option<(R, Arc<G>, Arc<Mailbox>)> {
+    Some((
+        rt.clone().ok()?,
+        Arc::try_clone(gate).ok()?,
+        Arc::try_clone(mailbox).ok()?,
+    ))
+}
+
 /// Starts a reader's thread.
 pub(crate) fn start<
     J: Naming + Send + 'static,
@@ -142,9 +155,7 @@ pub(crate) fn start<
 ) -> Option<PromisedHandle<Part<J>, Answers<J>>>
     ensures { IfSome result (λ child. child.promise.0.value.seen ≡ reader.seen) }
 {
-    let there = rt.clone().ok()?;
-    let gate = Arc::try_clone(gate).ok()?;
-    let mailbox = Arc::try_clone(mailbox).ok()?;
+    let (there, gate, mailbox) = shares_of(rt, gate, mailbox)?;
     let alloc = rt.alloc();
     let promise = Answers(Snapshot::of(&reader));
     thread::spawn_with(rt, promise, move || {

@@ -1,5 +1,5 @@
 //! The editor's side: what answers the lines.
-ghost use Rattle.std.specs.Prelude.{◌≡◌, ◌≤◌, [], OnOk, OnErr, IfSome, vec_capacity};
+ghost use Rattle.std.specs.Prelude.{◌≡◌, ◌≤◌, ◌++◌, ◌∷◌, [], OnOk, OnErr, IfSome, vec_capacity};
 ghost use Rattle.adr_server.specs.declared.command.Command.TheVariants.{Edit as EditCommand, Publish as PublishCommand, Condense as CondenseCommand};
 ghost use Rattle.adr_model.specs.Machine.{last_number};
 ghost use Rattle.adr_server.specs.Fan.{editor_reply, editor_next, sent_reply, with_query};
@@ -123,6 +123,14 @@ impl<J: Naming> FanDesk<J> {
             return Ok(());
         }
         let sent = Sent::new(query, self.last_number());
+        self.send_on(rt, sent)
+    }
+
+    /// Sends it to every reader, and keeps it.
+    fn send_on<H: AllocGlobal + Wait>(&mut self, rt: &H, sent: Sent) -> Result<(), Unanswered>
+        ensures ok { OnOk result (self.new ≡ record self.old { sent = self.old.sent ++ sent ∷ [] }) }
+        ensures err { OnErr result (self.new ≡ self.old) }
+    {
         self.sent.reserve(1)?;
         deliver(rt, self.boxes.as_slice(), &sent)?;
         self.sent.push_reserved(sent);

@@ -231,8 +231,7 @@ impl Schedule {
             slots,
         } = remade;
         if let Some(slots) = slots {
-            let after = self.exchanged(alloc, slots.as_slice(), &made)?;
-            return Ok(after);
+            return self.exchanged(alloc, slots.as_slice(), &made);
         }
         let mut seats = self.seats.get().copy()?;
         let groups = self.groups.copy()?;

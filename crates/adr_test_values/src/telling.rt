@@ -1,7 +1,8 @@
 //! What is told of a call, and how long it took.
 //!
 //! What is measured is let go by `drop` before an answer is looked at: at the end of its scope it would be taken apart, field
-//! by field, in the proof of each function that has it. For the same reason a line is printed by a function of its own.
+//! by field, in the proof of each function that has it. A line is printed by a function of its own, since a step that prints
+//! is proved over the types of all that is in scope there.
 ghost use Rattle.std.specs.Prelude.{◌≡◌, Ok, IfOk};
 
 use adr_value::Refusal;

@@ -2,11 +2,10 @@ use Rattle.std.proofs.Common.{ap, sym, ◌∙◌}
 use Rattle.adr_book.specs.Judged.{placed_by}
 use Rattle.adr_desk.proofs.make.make.Goals as goal
 
-pub between-touched-requires : goal.between-touched-requires
-between-touched-requires g c =
+pub between-requires : goal.between-requires
+between-requires g c =
     let book = c.book-book.result.now in
-    rw (c.in_ok-copy.ensures, c.in_ok-copy-2.ensures, c.in_ok-copy-3.ensures, c.edit.ensures)
-    (c.edit_laws.ensures.bases book.base.version book.objects c.in_ok-after.after.objects c.args.edit.now c.in_ok-after.ensures.objects)
+    rw c.edit.ensures (c.edit_laws.ensures.bases book.base.version book.objects c.in_ok-after.after.objects c.args.edit.now c.in_ok-after.ensures.objects)
 
 pub grouped-requires-clause-accepted : goal.grouped-requires-clause-accepted
 grouped-requires-clause-accepted g c =
@@ -18,7 +17,7 @@ grouped-requires-clause-accepted g c =
     }
 
 pub returns-clause-touched : goal.returns-clause-touched
-returns-clause-touched g c = rw (c.between-touched.ensures, c.in_ok-copy.ensures, c.in_ok-copy-2.ensures, c.of.ensures.book, c.book-book.ensures)
+returns-clause-touched g c = rw (c.in_ok-touched.ensures.touched, c.of.ensures.book, c.book-book.ensures)
 
 pub returns-clause-compares : goal.returns-clause-compares
-returns-clause-compares g c = rw (c.count.ensures.value, c.of.ensures.book, c.between-touched.ensures, c.in_ok-copy.ensures, c.in_ok-copy-2.ensures) c.in_ok-schedule.ensures.least
+returns-clause-compares g c = rw (c.count.ensures.value, c.of.ensures.book, c.in_ok-touched.ensures.touched) c.in_ok-schedule.ensures.least

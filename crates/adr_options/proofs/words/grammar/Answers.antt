@@ -1,7 +1,7 @@
 use Rattle.std.proofs.Common.{rules, ap, ap₂, ◌∙◌, ◌≡◌, codes, [], ◌∷◌}
 use Rattle.std.proofs.lemmas.Result.{IfOk-weaker}
 use Rattle.clap.specs.Walk.{texts}
-use Rattle.clap.specs.Words.{app_of, with_subcommand}
+use Rattle.clap.specs.Words.{with_subcommand}
 use Rattle.adr_options.specs.Grammar.{command_grammar}
 use Rattle.adr_options.proofs.Reading.{names_are_somewhere}
 use Rattle.adr_options.proofs.words.grammar.Goals as goal

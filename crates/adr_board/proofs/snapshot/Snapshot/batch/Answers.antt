@@ -1,4 +1,4 @@
-use Rattle.std.proofs.Common.{◌≡◌, ◌-◌, [], length, slice_get, ap, sym, ◌∙◌}
+use Rattle.std.proofs.Common.{◌-◌, [], slice_get, ap, sym, ◌∙◌}
 use Rattle.std.specs.Prelude.{unwrap_or}
 use Rattle.std.specs.Option.{option_copied}
 use Rattle.adr_board.specs.Published.{last_batch, PublishedBook}

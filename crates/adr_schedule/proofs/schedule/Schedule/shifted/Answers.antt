@@ -1,4 +1,5 @@
 use Rattle.std.proofs.Common.{sym, subst}
+use Rattle.std.proofs.lemmas.Result.{IfOk-weaker}
 use Rattle.std.specs.Prelude.{IfSome}
 use Rattle.adr_schedule.specs.Moves.{AreMadeFor}
 use Rattle.adr_schedule.specs.Seating.{Seating}
@@ -49,10 +50,12 @@ pub returns-in-Some-clause-shifted : goal.returns-in-Some-clause-shifted
 returns-in-Some-clause-shifted g c =
     let seats = c.args.self.now.seats in
     let all = subst (λ o. IfSome o (λ slots. AreAllOf seats c.args.places.now slots.items)) c.in-Some.is c.in_ok-remade.ensures.all in
-    c.in_ok-after.ensures.shifted c.args.change.now c.args.indexes.now c.args.places.now (subst (λ l. AreAllOf seats c.args.places.now l) (sym c.as_slice.ensures.value) all) c.in_ok-remade.ensures.made
+    let slots = subst (λ l. AreAllOf seats c.args.places.now l) (sym c.as_slice.ensures.value) all in
+    IfOk-weaker c.exchanged.result _ _ (λ after shifted. shifted c.args.change.now c.args.indexes.now c.args.places.now slots c.in_ok-remade.ensures.made) c.exchanged.ensures.shifted
 
 pub returns-in-Some-clause-right : goal.returns-in-Some-clause-right
 returns-in-Some-clause-right g c =
     let seats = c.args.self.now.seats in
     let all = subst (λ o. IfSome o (λ slots. AreAllOf seats c.args.places.now slots.items)) c.in-Some.is c.in_ok-remade.ensures.all in
-    c.in_ok-after.ensures.right c.args.change.now c.args.indexes.now c.args.places.now (subst (λ l. AreAllOf seats c.args.places.now l) (sym c.as_slice.ensures.value) all) c.in_ok-remade.ensures.made
+    let slots = subst (λ l. AreAllOf seats c.args.places.now l) (sym c.as_slice.ensures.value) all in
+    IfOk-weaker c.exchanged.result _ _ (λ after right. right c.args.change.now c.args.indexes.now c.args.places.now slots c.in_ok-remade.ensures.made) c.exchanged.ensures.right
