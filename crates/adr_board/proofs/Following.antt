@@ -1,22 +1,20 @@
 -- The next publication follows from the last one.
-use Rattle.std.proofs.Common.{◌≡◌, ℕ, ◌+◌, ◌*◌, List, [], ◌∷◌, ◌++◌, length, sym, ap, subst, arith, length-append, ◌∙◌, Result, Ok, Err, OnOk, OnErr}
+use Rattle.std.proofs.Common.{◌≡◌, ℕ, ◌+◌, List, [], ◌∷◌, ◌++◌, sym, ap, subst, ◌∙◌, Result, Ok, Err, OnOk, OnErr}
 use Rattle.std.proofs.lemmas.List.{append-nil}
 use Rattle.logbook.specs.Pages.{Book as History}
 use Rattle.adr_object.specs.declared.object.Edit.{Edit}
-use Rattle.adr_model.specs.declared.entry.Tie.{Tie}
 use Rattle.adr_model.specs.Book.{Book, empty}
 use Rattle.adr_model.specs.Edits.{after_from}
 use Rattle.adr_model.specs.Machine.{Publication, opening}
 use Rattle.adr_model.proofs.EditLemmas.{journals_go_on}
 use Rattle.adr_book.specs.Ledger.{Ledger, closed_edits, journal_of, sealed_of}
-use Rattle.adr_board.specs.declared.diary.Entry.{Entry}
-use Rattle.adr_board.specs.History.{begun, published_by, EndsInAttempt}
+use Rattle.adr_board.specs.History.{begun}
 use Rattle.adr_board.specs.Publications.{EndsWith, publication_of}
 use Rattle.adr_board.proofs.Histories.{first_attempt}
 use Rattle.adr_board.proofs.Linked.{ends_opened, ends_snoc}
 use Rattle.adr_board.specs.declared.shown.Showing.{Showing}
 use Rattle.adr_board.specs.Published.{PublishedBook}
-use Rattle.adr_board.specs.Rules.{IsCarried, IsLast, MayFollow, publication_in}
+use Rattle.adr_board.specs.Rules.{IsCarried, IsLast, publication_in}
 
 -- from what the closed batches lead to the open one leads to the objects
 pub leads_on : (book : Ledger) (before : Book) (p : Publication) → after_from book.base (journal_of book) ≡ book.objects → before ≡ sealed_of book → p ≡ publication_of book → p.book ≡ after_from before p.batch
@@ -45,18 +43,6 @@ condensed (Err e) last at old new same is base closed kept = subst (λ (b : Ledg
 pub same_part : {X E D P : Type 0} (r : Result X E) (part : D → P) (new old : D) → OnErr r (new ≡ old) → OnErr r (part new ≡ part old)
 same_part (Ok x) part new old same = tt
 same_part (Err e) part new old same = ap part same
-
--- what is to be shown may follow what is shown
-pub may_follow : (tie : Tie) (history : History) (v : List Publication) (s t : Showing) (last : PublishedBook) (log : List Entry)
-    → last ≡ s.snapshot → IsLast v last → t.snapshot.number ≡ last.number + 1 → (publication_in t.snapshot).book ≡ after_from last.book.objects (publication_in t.snapshot).batch
-    → t.snapshot.tie ≡ tie → t.page.book ≡ history → t.page.log ≡ log ++ begun (publication_in t.snapshot) ∷ [] → published_by log ≡ v → length log ≡ 2 * t.attempt
-    → MayFollow tie history v s t
-may_follow tie history v s t last log is ends next link rule same log_is says long =
-    let p = publication_in t.snapshot in
-    let numbered : length (v ++ p ∷ []) ≡ t.snapshot.number + 1 = omega (arith, length-append v (p ∷ []), ends.numbered, next) in
-    let at : EndsInAttempt (v ++ p ∷ []) t.page.log t.snapshot.number t.attempt p =
-    record { earlier = log; log_is = log_is; long = long; list_is = ap (λ (l : List Publication). l ++ p ∷ []) (sym says); numbered = numbered } in
-    (subst (λ (x : PublishedBook). IsLast v x) is ends, next ∙ ap (λ (x : PublishedBook). x.number + 1) is, link ∙ ap (λ (x : PublishedBook). after_from x.book.objects p.batch) is, (same, at), rule)
 
 -- a publication that follows from the last one is the last of the longer list
 pub follows_last : (v w : List Publication) (last next : PublishedBook)

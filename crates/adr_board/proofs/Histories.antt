@@ -1,5 +1,5 @@
 -- What histories say.
-use Rattle.std.proofs.Common.{◌≡◌, ℕ, ◌+◌, ◌*◌, ◌<◌, ◌≤◌, Bool, true, false, List, [], ◌∷◌, ◌++◌, length, refl, sym, ap, ◌∙◌, subst, arith, length-append, append_assoc}
+use Rattle.std.proofs.Common.{◌≡◌, ◌⊎◌, inl, inr, ℕ, ◌+◌, ◌*◌, ◌<◌, ◌≤◌, Bool, true, false, List, [], ◌∷◌, ◌++◌, length, refl, sym, ap, ◌∙◌, subst, arith, length-append, append_assoc}
 use Rattle.std.proofs.lemmas.List.{append-nil}
 use mathlib.Core.List.{IsPrefix}
 use Rattle.adr_model.specs.Machine.{Publication, opening}
@@ -86,8 +86,13 @@ begins_same xs ys both n a m b ps q last at one other same =
     subst (λ (l : List Publication). IsPrefix (published_by xs) l) list (prefix_self (published_by xs))
 
 -- the history after an attempt that was refused
-pub after_refused : (log new : List Entry) (p : Publication) (n a : ℕ) (ps : List Publication) → new ≡ log ++ begun p ∷ ended false p ∷ [] → published_by log ≡ ps → HasLast log n a → (published_by new ≡ ps) × HasLast new n a
+after_refused : (log new : List Entry) (p : Publication) (n a : ℕ) (ps : List Publication) → new ≡ log ++ begun p ∷ ended false p ∷ [] → published_by log ≡ ps → HasLast log n a → (published_by new ≡ ps) × HasLast new n a
 after_refused log new p n a ps is says last = (ap published_by is ∙ (published_refused log p ∙ says), subst (λ (l : List Entry). HasLast l n a) (sym is) (last_refused log n a p last))
+
+-- after one that did not begin, or was refused
+pub after_undone : (log new : List Entry) (p : Publication) (n a : ℕ) (ps : List Publication) → (new ≡ log) ⊎ (new ≡ log ++ begun p ∷ ended false p ∷ []) → published_by log ≡ ps → HasLast log n a → (published_by new ≡ ps) × HasLast new n a
+after_undone log new p n a ps (inl same) says last = (ap published_by same ∙ says, subst (λ (l : List Entry). HasLast l n a) (sym same) last)
+after_undone log new p n a ps (inr is) says last = after_refused log new p n a ps is says last
 
 -- and after one that was shown
 pub after_shown : (log new : List Entry) (p q : Publication) (n a : ℕ) (ps qs : List Publication)

@@ -1,5 +1,5 @@
 //! The editor of a board, its readers, and what it tells them.
-ghost use Rattle.std.specs.Prelude.{◌≡◌, ◌⊎◌, ◌+◌, ◌<◌, ◌≤◌, ◌++◌, ◌∷◌, [], length, All, IfErr, IfNone, IfOk, IfSome, IsTrue, List, None, Ok, OnErr, OnOk, Some, is_some, option_map, true, vec_len};
+ghost use Rattle.std.specs.Prelude.{◌≡◌, ◌⊎◌, ◌+◌, ◌<◌, ◌≤◌, ◌++◌, ◌∷◌, [], length, All, IfErr, IfNone, IfOk, IfSome, IsTrue, List, None, Ok, OnErr, OnOk, Some, false, is_some, option_map, true, vec_len};
 ghost use Rattle.std.specs.Arc.{arc_value};
 ghost use Rattle.std.specs.List.{flat_map};
 ghost use mathlib.Core.List.{IsPrefix};
@@ -9,14 +9,14 @@ ghost use Rattle.adr_refusal.specs.Copy.{IsCopyOf};
 ghost use Rattle.adr_refusal.specs.declared.refusal.Refusal.TheVariants.{NoRuntime, NoMemory, Full};
 ghost use Rattle.adr_model.specs.declared.entry.Tie.{Tie};
 ghost use Rattle.adr_model.specs.Book.{empty};
-ghost use Rattle.adr_model.specs.Edits.{full_at, made as made_book, step_to};
+ghost use Rattle.adr_model.specs.Edits.{after_from, full_at, made as made_book, step_to};
 ghost use Rattle.adr_model.specs.Machine.{Publication, opening};
 ghost use Rattle.adr_model.specs.Touches.{touches};
 ghost use Rattle.adr_book.specs.Ledger.{sealed_of};
 ghost use Rattle.adr_regroup.specs.Compared.{most_compared_in};
 ghost use Rattle.adr_board.specs.Published.{PublishedBook};
 ghost use Rattle.adr_board.specs.Types.{ArePrivate, edit_names, HasPrivateNames};
-ghost use Rattle.adr_board.specs.History.{HasLast, begun, published_by, seen_by};
+ghost use Rattle.adr_board.specs.History.{HasLast, begun, ended, published_by, seen_by};
 ghost use Rattle.adr_board.specs.Publications.{publication_of};
 ghost use Rattle.adr_board.specs.Boards.{Grows, last_of, newcomer, with_published};
 ghost use Rattle.adr_board.specs.Rules.{IsCarried, IsLast, IsLastBy, IsSight, IsTaken, MayFollow, publication_in, showing};
@@ -314,6 +314,38 @@ fn show_next<J: Naming, R: Wait>(
     )
 }
 
+// Shows readers this snapshot of the book, as an attempt that the diary notes with how it ended.
+fn attempt_to_show<J: Naming, R: Wait>(
+    writer: &mut RuledWriter<J>,
+    diary: &mut Diary,
+    rt: &R,
+    book: &Book,
+    snapshot: Arc<Snapshot>,
+) -> Result<(), Refusal>
+    requires last { IsLast (known writer.old.desk.place) (showing writer.old.desk.shown.value).snapshot }
+    requires next { (arc_value snapshot).number ≡ (showing writer.old.desk.shown.value).snapshot.number + 1 }
+    requires leads { (publication_of book.now).book ≡ after_from (showing writer.old.desk.shown.value).snapshot.book.objects (publication_of book.now).batch }
+    requires publication { publication_in (arc_value snapshot) ≡ publication_of book.now }
+    requires tie { (arc_value snapshot).tie ≡ J.tie }
+    requires history { diary.old.page.book ≡ J.history }
+    requires says { published_by diary.old.page.log ≡ known writer.old.desk.place }
+    ensures shown { OnOk result ((showing writer.new.desk.shown.value).snapshot ≡ arc_value snapshot) }
+    ensures place { OnOk result (known writer.new.desk.place ≡ known writer.old.desk.place ++ publication_of book.now ∷ []) }
+    ensures noted { OnOk result (diary.new.page.log ≡ diary.old.page.log ++ begun (publication_of book.now) ∷ ended true (publication_of book.now) ∷ []) }
+    ensures unshown { OnErr result ((writer.new.desk.shown.value ≡ writer.old.desk.shown.value) × (known writer.new.desk.place ≡ known writer.old.desk.place)) }
+    ensures undone { OnErr result ((diary.new.page.log ≡ diary.old.page.log) ⊎ (diary.new.page.log ≡ diary.old.page.log ++ begun (publication_of book.now) ∷ ended false (publication_of book.now) ∷ [])) }
+    ensures history { diary.new.page.book ≡ diary.old.page.book }
+    ensures refusal { OnlyNoMemory result }
+{
+    let Some(attempt) = diary.begin(book) else {
+        return Err(Refusal::NoMemory);
+    };
+    let shown = Shown::of(snapshot, diary.attempts, &attempt.page);
+    let outcome = show_next(writer, rt, shown);
+    diary.end(attempt, book, outcome.is_ok());
+    outcome
+}
+
 // What a publication is made of, before anything changes.
 struct Prepared {
     sealed: Resolution,
@@ -489,13 +521,13 @@ impl<J: Naming> Editor<J> {
             last,
         } = prepare(self.alloc, &self.desk, number + 1)?;
         let place = self.diary.attempts;
-        let Some(attempt) = self.diary.begin(self.desk.book()) else {
-            return Err(Refusal::NoMemory);
-        };
-        let shown = Shown::of(shown, place, &attempt.page);
-        let outcome = show_next(&mut self.writer, rt, shown);
-        self.diary.end(attempt, self.desk.book(), outcome.is_ok());
-        outcome?;
+        attempt_to_show(
+            &mut self.writer,
+            &mut self.diary,
+            rt,
+            self.desk.book(),
+            shown,
+        )?;
         self.desk.go_on_from(sealed);
         self.last = last;
         self.attempt = place;

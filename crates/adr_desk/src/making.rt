@@ -102,7 +102,7 @@ fn regrouped<C: Fn(&Indexes, &[Job]) -> Result<Vec<Done>, Refusal>>(
     let gone = gone_side(alloc, accepted.tie, accepted.old, accepted.edit)?;
     let alone = Change { gone, come: None };
     let no_ranks: Option<&NewestRanks> = None;
-    let after = mid.shifted(
+    mid.shifted(
         alloc,
         indexes,
         crew,
@@ -110,8 +110,7 @@ fn regrouped<C: Fn(&Indexes, &[Job]) -> Result<Vec<Done>, Refusal>>(
         &alone,
         no_ranks,
         meter,
-    )?;
-    Ok(after)
+    )
 }
 
 /// The groups after the edit, and then the keys. A refused call leaves the keys.

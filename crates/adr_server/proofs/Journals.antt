@@ -82,13 +82,21 @@ kept_line k s line h = by_command k s (line_named line) h
 
 -- ---- runs
 
--- what the plain machine tells from its start on is the text of the script
-pub told_text : (tie : Tie) (s t : Kept) (lines : List (List ℕ)) (out : List ℕ) → s ≡ kept_start tie → Told (AnswersBy kept_reply kept_next) s lines out t
-    → IsText script_reply script_next (script_start tie) lines out
-told_text tie s t lines out is h =
-    alike_IsText kept_reply kept_next script_reply script_next IsKept (λ k s line. kept_line k s line) (kept_start tie) (script_start tie) lines out (kept-start tie)
-    (told_is_text (AnswersBy kept_reply kept_next) kept_reply kept_next (λ s line told t h. h) (kept_start tie) s t lines out is h)
+-- what is told from what is kept on is its text
+pub told_text : (k s t : Kept) (lines : List (List ℕ)) (out : List ℕ) → s ≡ k → Told (AnswersBy kept_reply kept_next) s lines out t → IsText kept_reply kept_next k lines out
+told_text = told_is_text (AnswersBy kept_reply kept_next) kept_reply kept_next (λ s line told t h. h)
 
-pub told_text_in_part : (tie : Tie) (s t : Kept) (lines : List (List ℕ)) (out : List ℕ) → s ≡ kept_start tie → IsToldInPart (AnswersBy kept_reply kept_next) s lines out t
+pub told_text_in_part : (k s t : Kept) (lines : List (List ℕ)) (out : List ℕ) → s ≡ k → IsToldInPart (AnswersBy kept_reply kept_next) s lines out t
+    → IsTextInPart kept_reply kept_next k lines out
+told_text_in_part k s t lines out is (more, told) = (more, told_text k s t lines (out ++ more) is told)
+
+-- the text of the plain machine from its start on is the text of the script
+pub script_text : (tie : Tie) (s : Kept) (lines : List (List ℕ)) (out : List ℕ) → s ≡ kept_start tie → IsText kept_reply kept_next s lines out
+    → IsText script_reply script_next (script_start tie) lines out
+script_text tie s lines out is =
+    alike_IsText kept_reply kept_next script_reply script_next IsKept (λ k s line. kept_line k s line) s (script_start tie) lines out
+    (subst (λ k. IsKept k (script_start tie)) (sym is) (kept-start tie))
+
+pub script_text_in_part : (tie : Tie) (s : Kept) (lines : List (List ℕ)) (out : List ℕ) → s ≡ kept_start tie → IsTextInPart kept_reply kept_next s lines out
     → IsTextInPart script_reply script_next (script_start tie) lines out
-told_text_in_part tie s t lines out is (more, told) = (more, told_text tie s t lines (out ++ more) is told)
+script_text_in_part tie s lines out is (more, h) = (more, script_text tie s lines (out ++ more) is h)

@@ -56,17 +56,6 @@ impl<J: Naming, C: Hands> Edited<J, C> {
             alloc,
         })
     }
-
-    /// Ends the board.
-    pub(crate) fn close<H: Wait>(self, rt: &H) {
-        let Edited {
-            editor,
-            hands,
-            alloc: _,
-        } = self;
-        drop(hands);
-        editor.close(rt);
-    }
 }
 
 impl<J: Naming, C: Hands> Resolver for Edited<J, C> {
@@ -117,5 +106,15 @@ impl<J: Naming, C: Hands> Resolver for Edited<J, C> {
 
     fn types(&self, id: &Id) -> Result<Vec<u8>, Refusal> {
         adr_calendar::types(self.alloc, &**self.editor.last(), id)
+    }
+
+    fn close<H: Wait>(self, rt: &H) {
+        let Edited {
+            editor,
+            hands,
+            alloc: _,
+        } = self;
+        drop(hands);
+        editor.close(rt);
     }
 }

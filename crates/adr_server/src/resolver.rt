@@ -73,6 +73,9 @@ pub trait Resolver {
     /// The reply to `types`, with its line feeds. Refused as `at`.
     fn types(&self, id: &Id) -> Result<Vec<u8>, Refusal>
         ensures { Answers (result_map (λ v. v.items) result) (types (kept self.now).tie (kept self.now).published id.now) };
+
+    /// Ends it, once there are no more commands.
+    fn close<H: Wait>(self, rt: &H);
 }
 
 impl Resolver for Plain {
@@ -111,5 +114,10 @@ impl Resolver for Plain {
 
     fn types(&self, id: &Id) -> Result<Vec<u8>, Refusal> {
         Plain::types(self, id)
+    }
+
+    fn close<H: Wait>(self, rt: &H) {
+        let _ = rt;
+        drop(self);
     }
 }

@@ -1,5 +1,7 @@
 use Rattle.std.proofs.Common.{◌≡◌, List, Option, None, ℕ, ◌*◌, ◌<◌, ◌^◌, length, refl, sum_by, ap, sym, subst, ◌∙◌, arith}
+use Rattle.std.specs.Prelude.{Result, Ok, Err, IfOk}
 use Rattle.std.specs.Option.{option_map}
+use Rattle.std.proofs.lemmas.Result.{on_ok_weaker}
 use Rattle.std.proofs.lemmas.Slice.Eq.{slice_eq-Decides}
 use Rattle.std.proofs.lemmas.Bool.Decides.{Decides-eqb}
 use Rattle.adr_model.specs.declared.entry.Rank.{Rank}
@@ -92,19 +94,23 @@ returns-then-eq-clause-least g c =
     let first = ap (sum_by (most_at c.args.change.now c.args.indexes.now accepted.schedule.now)) c.as_slice.ensures.value in
     omega (arith, cost, first, c.requires.begun, c.in_ok-mid.ensures.least)
 
+both : {T E : Type 0} (r : Result T E) (P Q R : T → Type 0) → ((v : T) → P v → Q v → R v) → IfOk r P → IfOk r Q → IfOk r R
+both (Ok v) P Q R f p q = f v p q
+both (Err e) P Q R f p q = tt
+
 pub returns-clause-seated : goal.returns-clause-seated
 returns-clause-seated g c =
     let accepted = c.args.accepted.now in
     let book = accepted.old.now.objects in
     let edit = accepted.edit.now in
     let alone : Change = record { gone = c.in_ok-gone.gone; come = None } in
-    seated_after c.right_moves.ensures accepted.tie book (gone_of book edit) (come_of book edit) c.args.indexes.now c.args.change.now alone
+    both c.shifted-2.result _ _ _ (λ after shifted right. seated_after c.right_moves.ensures accepted.tie book (gone_of book edit) (come_of book edit) c.args.indexes.now c.args.change.now alone
     c.requires.change.gone c.requires.change.come c.in_ok-gone.ensures.side refl c.requires.indexed
-    accepted.schedule.now c.in_ok-mid.mid c.in_ok-after.after c.as_slice.result.now c.as_slice-4.result.now
+    accepted.schedule.now c.in_ok-mid.mid after c.as_slice.result.now c.as_slice-4.result.now
     (λ p r v at e. ap (λ ps. is_among ps p) c.as_slice.ensures.value ∙ c.in_ok-joining.ensures.apply p r v at e)
     (λ p r u at e. ap (λ ps. is_among ps p) c.as_slice-4.ensures.value ∙ c.in_ok-leaving.ensures.apply p r u at e)
-    c.in_ok-mid.ensures.shifted c.in_ok-mid.ensures.right c.in_ok-after.ensures.shifted c.in_ok-after.ensures.right
-    accepted.new.now.objects c.requires.change.exchange c.requires.seated
+    c.in_ok-mid.ensures.shifted c.in_ok-mid.ensures.right shifted right
+    accepted.new.now.objects c.requires.change.exchange c.requires.seated) c.shifted-2.ensures.shifted c.shifted-2.ensures.right
 
 pub returns-clause-least : goal.returns-clause-least
 returns-clause-least g c =
@@ -122,4 +128,4 @@ returns-clause-least g c =
     c.in_ok-joining.ensures.once c.in_ok-leaving.ensures.once in
     let first = ap (sum_by (most_at c.args.change.now c.args.indexes.now accepted.schedule.now)) c.as_slice.ensures.value in
     let second = ap (sum_by (most_at alone c.args.indexes.now c.in_ok-mid.mid)) c.as_slice-4.ensures.value in
-    omega (arith, cost, first, second, c.requires.begun, c.in_ok-mid.ensures.least, c.in_ok-after.ensures.least)
+    on_ok_weaker c.shifted-2.result (λ least. omega (arith, cost, first, second, c.requires.begun, c.in_ok-mid.ensures.least, least)) c.shifted-2.ensures.least

@@ -1,5 +1,5 @@
-use Rattle.std.proofs.Common.{◌≡◌, ◌∙◌, sym, ap}
-use Rattle.std.specs.Prelude.{Ok, Err}
+use Rattle.std.proofs.Common.{◌∙◌, sym, ap}
+use Rattle.std.specs.Prelude.{Err}
 use Rattle.adr_refusal.specs.declared.refusal.Refusal.TheVariants.{BadMoment}
 use Rattle.adr_time.specs.Reading.{moment_named}
 use Rattle.adr_server.proofs.Words.{is_text, no_text}

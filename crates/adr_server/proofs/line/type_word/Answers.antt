@@ -1,5 +1,5 @@
-use Rattle.std.proofs.Common.{◌≡◌, ◌∙◌, sym, ap, subst, inr}
-use Rattle.std.specs.Prelude.{Result, Ok, Err}
+use Rattle.std.proofs.Common.{◌∙◌, sym, ap, subst, inr}
+use Rattle.std.specs.Prelude.{Result, Err}
 use Rattle.adr_refusal.specs.Answer.{Answers}
 use Rattle.adr_refusal.specs.declared.refusal.Refusal.{Refusal}
 use Rattle.adr_refusal.specs.declared.refusal.Refusal.TheVariants.{BadText}
