@@ -2,8 +2,7 @@
 
 ghost use Rattle.std.specs.Prelude.{◌≤◌};
 
-use adr_fan::{NoGate, fan};
-use adr_server::{Fault, Job, Tie, job, run, status};
+use adr_server::{Fault, Job, Logs, NoGate, Tie, fan, job, run, status};
 use clap::{Error, error};
 use std::fmt::Display;
 use std::process::ExitCode;
@@ -64,7 +63,8 @@ fn run_script<R: AllocGlobal + Input + Print + Eprint + Threads + Wait + Sync>(
 {
     let mut reader = rt.reader();
     let mut writer = io::writer(rt);
-    let outcome = run(rt, &mut reader, &mut writer, workers, tie);
+    let mut logs = Logs::new();
+    let outcome = run(rt, &mut reader, &mut writer, &mut logs, workers, tie);
     end(rt, &outcome)
 }
 
@@ -79,7 +79,8 @@ fn fan_script<
     };
     let mut reader = rt.reader();
     let mut writer = io::writer(rt);
-    let outcome = fan(rt, &mut reader, &mut writer, readers, tie, &gate);
+    let mut logs = Logs::new();
+    let outcome = fan(rt, &mut reader, &mut writer, &mut logs, readers, &gate, tie);
     end(rt, &outcome)
 }
 

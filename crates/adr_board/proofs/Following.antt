@@ -1,27 +1,27 @@
 -- The next publication follows from the last one.
-use Rattle.std.proofs.Common.{◌≡◌, ℕ, ◌+◌, List, [], ◌∷◌, ◌++◌, sym, ap, subst, ◌∙◌, Result, Ok, Err, OnOk, OnErr}
+use Rattle.std.proofs.Common.{◌≡◌, ℕ, ◌+◌, List, [], ◌∷◌, ◌++◌, refl, sym, ap, subst, ◌∙◌, Result, Ok, Err, OnOk, OnErr}
 use Rattle.std.proofs.lemmas.List.{append-nil}
 use Rattle.logbook.specs.Pages.{Book as History}
 use Rattle.adr_object.specs.declared.object.Edit.{Edit}
 use Rattle.adr_model.specs.Book.{Book, empty}
 use Rattle.adr_model.specs.Edits.{after_from}
-use Rattle.adr_model.specs.Machine.{Publication, opening}
 use Rattle.adr_model.proofs.EditLemmas.{journals_go_on}
 use Rattle.adr_book.specs.Ledger.{Ledger, closed_edits, journal_of, sealed_of}
 use Rattle.adr_board.specs.History.{begun}
-use Rattle.adr_board.specs.Publications.{EndsWith, publication_of}
+use Rattle.adr_board.specs.Publications.{EndsWith, opening_book, sealed}
 use Rattle.adr_board.proofs.Histories.{first_attempt}
+use Rattle.adr_board.proofs.Lasts.{last_batch_snoc}
 use Rattle.adr_board.proofs.Linked.{ends_opened, ends_snoc}
 use Rattle.adr_board.specs.declared.shown.Showing.{Showing}
-use Rattle.adr_board.specs.Published.{PublishedBook}
-use Rattle.adr_board.specs.Rules.{IsCarried, IsLast, publication_in}
+use Rattle.adr_board.specs.Published.{PublishedBook, last_batch}
+use Rattle.adr_board.specs.Rules.{IsCarried, IsLast}
 
--- from what the closed batches lead to the open one leads to the objects
-pub leads_on : (book : Ledger) (before : Book) (p : Publication) → after_from book.base (journal_of book) ≡ book.objects → before ≡ sealed_of book → p ≡ publication_of book → p.book ≡ after_from before p.batch
-leads_on book before p leads is same =
+-- from what the closed batches lead to the open one, which is the last of the sealed book, leads to the objects
+pub leads_on : (book : Ledger) (before : Book) → after_from book.base (journal_of book) ≡ book.objects → before ≡ sealed_of book → (sealed book).objects ≡ after_from before (last_batch (sealed book).closed)
+leads_on book before leads is =
     let on : after_from book.base (journal_of book) ≡ after_from (sealed_of book) book.pending = journals_go_on book.base (closed_edits book.closed) book.pending in
     let next : book.objects ≡ after_from before book.pending = sym leads ∙ (on ∙ ap (λ (b : Book). after_from b book.pending) (sym is)) in
-    subst (λ (q : Publication). q.book ≡ after_from before q.batch) (sym same) next
+    next ∙ ap (after_from before) (sym (last_batch_snoc book.closed book.pending))
 
 -- where no batch is open the closed ones lead to the objects
 pub all_closed : (book : Ledger) → after_from book.base (journal_of book) ≡ book.objects → book.pending ≡ [] → sealed_of book ≡ book.objects
@@ -45,23 +45,34 @@ same_part (Ok x) part new old same = tt
 same_part (Err e) part new old same = ap part same
 
 -- a publication that follows from the last one is the last of the longer list
-pub follows_last : (v w : List Publication) (last next : PublishedBook)
-    → IsLast v last → next.number ≡ last.number + 1 → (publication_in next).book ≡ after_from last.book.objects (publication_in next).batch → w ≡ v ++ publication_in next ∷ []
+pub follows_last : (v w : List Ledger) (last next : PublishedBook)
+    → IsLast v last → next.number ≡ last.number + 1 → next.book.objects ≡ after_from last.book.objects (last_batch next.book.closed) → w ≡ v ++ next.book ∷ []
     → IsLast w next
 follows_last v w last next ends number link more =
-    let longer = ends_snoc v last.number (publication_in last) (publication_in next) ends link in
-    subst (λ (l : List Publication). IsLast l next) (sym more) (subst (λ (n : ℕ). EndsWith (v ++ publication_in next ∷ []) n (publication_in next)) (sym number) longer)
+    let longer = ends_snoc v last.number last.book next.book ends link in
+    subst (λ (l : List Ledger). IsLast l next) (sym more) (subst (λ (n : ℕ). EndsWith (v ++ next.book ∷ []) n next.book) (sym number) longer)
 
 -- number 0 is carried with the history that begins with it
-pub first_carried : (history : History) (t : Showing) → t.snapshot.number ≡ 0 → publication_in t.snapshot ≡ opening → t.page.book ≡ history → t.page.log ≡ begun opening ∷ [] → t.attempt ≡ 0 → IsCarried history (opening ∷ []) t
+pub first_carried : (history : History) (t : Showing) → t.snapshot.number ≡ 0 → t.snapshot.book ≡ opening_book → t.page.book ≡ history → t.page.log ≡ begun opening_book ∷ [] → t.attempt ≡ 0 → IsCarried history (opening_book ∷ []) t
 first_carried history t number is same log_is place =
-    let begins : t.page.log ≡ begun (publication_in t.snapshot) ∷ [] = log_is ∙ ap (λ (r : Publication). begun r ∷ []) (sym is) in
-    (same, first_attempt t.page.log t.snapshot.number t.attempt (publication_in t.snapshot) begins number place is)
+    let begins : t.page.log ≡ begun t.snapshot.book ∷ [] = log_is ∙ ap (λ (r : Ledger). begun r ∷ []) (sym is) in
+    (same, first_attempt t.page.log t.snapshot.number t.attempt t.snapshot.book begins number place is)
 
 -- a new board's publication is its last
-pub opened_last : (v : List Publication) (s : PublishedBook) → v ≡ opening ∷ [] → s.number ≡ 0 → publication_in s ≡ opening → IsLast v s
-opened_last v s is number publication = rw (is, number, publication) ends_opened
+pub opened_last : (v : List Ledger) (s : PublishedBook) → v ≡ opening_book ∷ [] → s.number ≡ 0 → s.book ≡ opening_book → IsLast v s
+opened_last v s is number book = rw (is, number, book) ends_opened
 
 -- and what the closed batches of its desk lead to
-pub opened_objects : (s : PublishedBook) (book : Ledger) → publication_in s ≡ opening → book.base ≡ empty → book.closed ≡ [] → s.book.objects ≡ sealed_of book
-opened_objects s book publication base closed = ap (λ (p : Publication). p.book) publication ∙ no_batches book empty base closed
+pub opened_objects : (s : PublishedBook) (book : Ledger) → s.book ≡ opening_book → book.base ≡ empty → book.closed ≡ [] → s.book.objects ≡ sealed_of book
+opened_objects s book first base closed = ap (λ (b : Ledger). b.objects) first ∙ no_batches book empty base closed
+
+-- books that are the same in each part are the same
+pub same_book : (a b : Ledger) → a.base ≡ b.base → a.objects ≡ b.objects → a.closed ≡ b.closed → a.pending ≡ b.pending → a ≡ b
+same_book a b base objects closed pending =
+    let whole : record { base = a.base; objects = a.objects; closed = a.closed; pending = a.pending } ≡ record { base = b.base; objects = b.objects; closed = b.closed; pending = b.pending } =
+    rw (base, objects, closed, pending) refl in
+    whole
+
+-- a book with no base, no objects and no batch is that of publication 0
+pub is_opening : (book : Ledger) → book.base ≡ empty → book.objects ≡ empty → book.closed ≡ [] → book.pending ≡ [] → book ≡ opening_book
+is_opening book base objects closed pending = same_book book opening_book base objects closed pending

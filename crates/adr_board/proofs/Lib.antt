@@ -9,6 +9,7 @@ pub mod Reached
 pub mod Runs
 pub mod Settled
 pub mod Taken
+pub mod Replayed
 pub mod Prefixes
 pub mod Linked
 pub mod Turns

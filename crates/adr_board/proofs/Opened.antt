@@ -6,8 +6,9 @@ use Rattle.std.specs.declared.vec.Vec.{Vec}
 use Rattle.adr_refusal.specs.declared.refusal.Refusal.{Refusal}
 use Rattle.adr_model.specs.declared.entry.Tie.{Tie}
 use Rattle.adr_model.specs.Book.{empty}
-use Rattle.adr_model.specs.Machine.{State, opening, start}
+use Rattle.adr_model.specs.Machine.{State, start}
 use Rattle.adr_board.specs.Boards.{Board, View, newcomer}
+use Rattle.adr_board.specs.Publications.{opening_book, publications_in}
 use Rattle.adr_board.specs.declared.run_steps.Step.{Step}
 use Rattle.adr_board.specs.declared.run_steps.Shown.{Shown}
 use Rattle.adr_board.specs.Replay.{AreSteps, IsRun, state_of}
@@ -27,7 +28,7 @@ pub record IsOpened (b : Board) (views : List View) (tie : Tie) (readers : ℕ) 
   pub base : b.book.base ≡ empty
   pub objects : b.book.objects ≡ empty
   pub pending : b.book.pending ≡ []
-  pub published : b.published ≡ opening ∷ []
+  pub published : b.published ≡ opening_book ∷ []
   pub count : length views ≡ readers
   pub newcomers : All (λ v. v ≡ newcomer) views
 
@@ -35,7 +36,7 @@ from_start : (b c : Board) (views after : List View) (tie : Tie) (readers : ℕ)
     → (end : State) × IsRun (start tie readers) steps shown end
 from_start b c views after tie readers steps shown opened run =
     let zero : b.book.base.version ≡ 0 = ap (λ x. x.version) opened.base in
-    let begin : state_of b (replicate readers 0) ≡ start tie readers = cc (opened.rule, zero, opened.objects, opened.pending, opened.published) in
+    let begin : state_of b (replicate readers 0) ≡ start tie readers = cc (opened.rule, zero, opened.objects, opened.pending, ap publications_in opened.published) in
     let (next, there, goes) = run (replicate readers 0) (newcomers_reached views readers opened.newcomers opened.count) in
     (state_of c next, subst (λ (s : State). IsRun s steps shown (state_of c next)) begin goes)
 

@@ -9,7 +9,7 @@ use Rattle.adr_refusal.specs.declared.refusal.Refusal.{Refusal}
 use Rattle.adr_refusal.specs.declared.refusal.Refusal.TheVariants.{NoMemory, NoRuntime}
 use Rattle.adr_refusal.specs.Answer.{OnlyNoMemory}
 use Rattle.adr_model.specs.declared.entry.Tie.{Tie}
-use Rattle.adr_model.specs.Machine.{Publication}
+use Rattle.adr_book.specs.Ledger.{Ledger}
 use Rattle.adr_board.specs.declared.diary.Entry.{Entry}
 use Rattle.adr_board.specs.History.{seen_by, EndsInAttempt}
 use Rattle.adr_board.proofs.Prefixes.{prefix_trans, prefix_whole}
@@ -17,17 +17,17 @@ use Rattle.adr_board.proofs.Histories.{seen_at}
 use Rattle.adr_board.specs.declared.shown.Showing.{Showing}
 use Rattle.adr_board.specs.Boards.{View, Grows}
 use Rattle.adr_board.specs.Published.{PublishedBook}
-use Rattle.adr_board.specs.Rules.{IsLastBy, IsCarried, IsSight, IsTaken, publication_in}
+use Rattle.adr_board.specs.Rules.{IsLastBy, IsCarried, IsSight, IsTaken}
 
 abbrev Publications : Type 0
-Publications = List Publication
+Publications = List Ledger
 
 -- what is shown beside a snapshot is what its reader has seen
 pub sighted : (history : History) (v w : Publications) (s : Showing) → IsPrefix v w → IsCarried history w s
     → IsPrefix v w × (seen_by s.page.log ≡ w) × (s.page.book ≡ history) × IsSight (seen_by s.page.log) s.page.log s.snapshot.number s.attempt
 sighted history v w s longer carried =
-    let is : seen_by s.page.log ≡ w = seen_at w s.page.log s.snapshot.number s.attempt (publication_in s.snapshot) carried.1 in
-    (longer, is, carried.0, (publication_in s.snapshot, subst (λ (p : Publications). EndsInAttempt p s.page.log s.snapshot.number s.attempt (publication_in s.snapshot)) (sym is) carried.1))
+    let is : seen_by s.page.log ≡ w = seen_at w s.page.log s.snapshot.number s.attempt s.snapshot.book carried.1 in
+    (longer, is, carried.0, (s.snapshot.book, subst (λ (p : Publications). EndsInAttempt p s.page.log s.snapshot.number s.attempt s.snapshot.book) (sym is) carried.1))
 
 -- a snapshot of the last of the publications seen before is that of the last one now where it has the number of what is seen
 pub still_last : (tie : Tie) (old new : Publications) (log : List Entry) (number attempt : ℕ) (s : PublishedBook) → IsPrefix old new → IsSight new log number attempt

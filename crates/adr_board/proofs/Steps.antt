@@ -7,24 +7,24 @@ use Rattle.crossbeam_utils.specs.Register.{Admits, TurnsAt}
 use Rattle.atomic_table.proofs.Lists.{at_set, at_snoc}
 use Rattle.logbook.specs.Pages.{Book as History}
 use Rattle.adr_model.specs.declared.entry.Tie.{Tie}
-use Rattle.adr_model.specs.Machine.{Publication, opening}
-use Rattle.adr_board.specs.Publications.{EndsWith}
+use Rattle.adr_book.specs.Ledger.{Ledger}
+use Rattle.adr_board.specs.Publications.{EndsWith, opening_book}
 use Rattle.adr_board.proofs.Prefixes.{prefix_self, prefix_trans, prefix_whole}
 use Rattle.adr_board.proofs.Linked.{ends_snoc, ends_opened}
 use Rattle.adr_board.specs.declared.shown.Shown.{Shown}
 use Rattle.adr_board.specs.declared.shown.Showing.{Showing}
-use Rattle.adr_board.specs.Rules.{IsLast, IsLastBy, IsCarried, Keeps, Looks, Adds, MayFollow, publication_in, showing}
+use Rattle.adr_board.specs.Rules.{IsLast, IsLastBy, IsCarried, Keeps, Looks, Adds, MayFollow, showing}
 
 abbrev Publications : Type 0
-Publications = List Publication
+Publications = List Ledger
 
 -- a reader that has seen publication 0 alone may come at any time
-pub admits : (tie : Tie) (history : History) → Admits (Keeps tie history) (opening ∷ [])
+pub admits : (tie : Tie) (history : History) → Admits (Keeps tie history) (opening_book ∷ [])
 admits tie history x views h = (
   h.0,
   h.1,
   h.2,
-  (λ seat v at. ⊎_elim (h.3 seat v) (λ (e : opening ∷ [] ≡ v). subst (λ (z : Publications). IsPrefix z h.0) e h.1.0.opens) (at_snoc views (opening ∷ []) v seat at)),
+  (λ seat v at. ⊎_elim (h.3 seat v) (λ (e : opening_book ∷ [] ≡ v). subst (λ (z : Publications). IsPrefix z h.0) e h.1.0.opens) (at_snoc views (opening_book ∷ []) v seat at)),
 )
 
 -- the views begin the list where one of them becomes w
@@ -40,23 +40,23 @@ looks tie history seat v x views h at =
     (P, (P, h.1, h.2, set_within views seat P P P h.3 (prefix_self P) (prefix_self P)), (h.3 seat v at, h.1, h.2))
 
 -- the list with what may follow ends with it
-pub followed : (tie : Tie) (history : History) (v : Publications) (s t : Showing) → MayFollow tie history v s t → IsLast (v ++ publication_in t.snapshot ∷ []) t.snapshot
+pub followed : (tie : Tie) (history : History) (v : Publications) (s t : Showing) → MayFollow tie history v s t → IsLast (v ++ t.snapshot.book ∷ []) t.snapshot
 followed tie history v s t may =
-    subst (λ (n : ℕ). EndsWith (v ++ publication_in t.snapshot ∷ []) n (publication_in t.snapshot)) (sym may.1)
-    (ends_snoc v s.snapshot.number (publication_in s.snapshot) (publication_in t.snapshot) may.0 may.2)
+    subst (λ (n : ℕ). EndsWith (v ++ t.snapshot.book ∷ []) n t.snapshot.book) (sym may.1)
+    (ends_snoc v s.snapshot.number s.snapshot.book t.snapshot.book may.0 may.2)
 
 -- the editor has seen as many publications as there are, so it has seen the whole list
 pub adds : (tie : Tie) (history : History) (seat : ℕ) (v : Publications) (x y : Shown) (t : Showing) → MayFollow tie history v (showing x) t → showing y ≡ t → TurnsAt (Keeps tie history) seat v x y Adds
 adds tie history seat v x y t may is views h at =
     let s = showing x in
     let P = h.0 in
-    let Q : Publications = v ++ publication_in t.snapshot ∷ [] in
+    let Q : Publications = v ++ t.snapshot.book ∷ [] in
     let whole : v ≡ P = prefix_whole v P (h.3 seat v at) (omega (arith, may.0.numbered, h.1.0.numbered)) in
-    let longer : IsPrefix P Q = subst (λ (z : Publications). IsPrefix z Q) whole (publication_in t.snapshot ∷ [], refl) in
+    let longer : IsPrefix P Q = subst (λ (z : Publications). IsPrefix z Q) whole (t.snapshot.book ∷ [], refl) in
     let ends : IsLastBy tie Q t.snapshot = (followed tie history v s t may, may.4) in (
       Q,
       (Q, subst (λ (z : Showing). IsLastBy tie Q z.snapshot) (sym is) ends, subst (λ (z : Showing). IsCarried history Q z) (sym is) may.3, set_within views seat Q P Q h.3 longer (prefix_self Q)),
-      ap (λ (z : Showing). v ++ publication_in z.snapshot ∷ []) (sym is),
+      ap (λ (z : Showing). v ++ z.snapshot.book ∷ []) (sym is),
     )
 
 -- the last operation is what is shown
@@ -65,11 +65,11 @@ absorbed s [] x = refl
 absorbed s (y ∷ ys) x = absorbed (showing y) ys x
 
 -- the rule holds of a new board
-pub starts : (tie : Tie) (history : History) (x : Shown) → (showing x).snapshot.number ≡ 0 → (showing x).snapshot.tie ≡ tie → publication_in (showing x).snapshot ≡ opening → IsCarried history (opening ∷ []) (showing x) → Keeps tie history x ((opening ∷ []) ∷ [])
+pub starts : (tie : Tie) (history : History) (x : Shown) → (showing x).snapshot.number ≡ 0 → (showing x).snapshot.tie ≡ tie → (showing x).snapshot.book ≡ opening_book → IsCarried history (opening_book ∷ []) (showing x) → Keeps tie history x ((opening_book ∷ []) ∷ [])
 starts tie history x number rule publication carried = (
-  opening ∷ [],
+  opening_book ∷ [],
   (rw (number, publication) ends_opened, rule),
   carried,
-  (λ seat v at. ⊎_elim (λ (e : get_elem? {A = Publications} [] seat ≡ some v). absurd (some-ne-none v (sym e))) (λ (e : opening ∷ [] ≡ v). subst (λ (z : Publications). IsPrefix z (opening ∷ [])) e ([], refl))
-      (at_snoc [] (opening ∷ []) v seat at)),
+  (λ seat v at. ⊎_elim (λ (e : get_elem? {A = Publications} [] seat ≡ some v). absurd (some-ne-none v (sym e))) (λ (e : opening_book ∷ [] ≡ v). subst (λ (z : Publications). IsPrefix z (opening_book ∷ [])) e ([], refl))
+      (at_snoc [] (opening_book ∷ []) v seat at)),
 )

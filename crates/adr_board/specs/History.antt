@@ -1,17 +1,17 @@
--- The history of attempts to publish, and the publications that it says.
+-- The history of attempts to publish, and the publications that it says, by their books.
 use Rattle.std.specs.Prelude.{ℕ, suc, ◌≡◌, ◌+◌, ◌*◌, ◌⊎◌, Bool, true, false, List, [], ◌∷◌, ◌++◌, length, replicate}
 use mathlib.Core.List.{IsPrefix}
 use Rattle.logbook.specs.Pages.{Cell, Step, View, Book, Named, may_make}
-use Rattle.adr_model.specs.Machine.{Publication}
+use Rattle.adr_book.specs.Ledger.{Ledger}
 use Rattle.adr_board.specs.declared.diary.Entry.{Entry}
 
 -- ---- the entries, and the rule of the log
 
-abbrev pub ended : Bool → Publication → Entry
+abbrev pub ended : Bool → Ledger → Entry
 ended shown publication = record { shown = shown; publication = publication }
 
 -- an attempt begins; the entry is like that of the end of one that was refused
-abbrev pub begun : Publication → Entry
+abbrev pub begun : Ledger → Entry
 begun publication = ended false publication
 
 -- so many cells whose attempts have ended
@@ -48,23 +48,23 @@ Ends s v found w = w.0 ≡ v.0 ++ s.ask ∷ []
 
 -- ---- what a history says
 
-abbrev pub put_if : Bool → Publication → List Publication → List Publication
+abbrev pub put_if : Bool → Ledger → List Ledger → List Ledger
 put_if true publication rest = publication ∷ rest
 put_if false publication rest = rest
 
 -- the publications: those whose attempts ended by being shown
-abbrev pub published_by : List Entry → List Publication
+abbrev pub published_by : List Entry → List Ledger
 published_by [] = []
 published_by (e ∷ es) = put_if e.shown e.publication (published_by es)
 
 -- the same, with the attempt that the history ends with, for whoever sees that it was shown
-abbrev pub seen_by : List Entry → List Publication
+abbrev pub seen_by : List Entry → List Ledger
 seen_by [] = []
 seen_by (e ∷ []) = e.publication ∷ []
 seen_by (e ∷ f ∷ es) = put_if e.shown e.publication (seen_by (f ∷ es))
 
 -- the history ends with the beginning of the attempt of this place; if it was shown, these are the publications, and the last has this number
-pub record EndsInAttempt (published : List Publication) (log : List Entry) (number attempt : ℕ) (publication : Publication) : Type 0 where
+pub record EndsInAttempt (published : List Ledger) (log : List Entry) (number attempt : ℕ) (publication : Ledger) : Type 0 where
   pub earlier : List Entry
   pub log_is : log ≡ earlier ++ begun publication ∷ []
   pub long : length earlier ≡ 2 * attempt
@@ -74,7 +74,7 @@ pub record EndsInAttempt (published : List Publication) (log : List Entry) (numb
 -- the last publication that the history says has this number, and was the attempt of this place
 pub record HasLast (log : List Entry) (number attempt : ℕ) : Type 0 where
   pub earlier : List Entry
-  pub publication : Publication
+  pub publication : Ledger
   pub begins : IsPrefix (earlier ++ begun publication ∷ []) log
   pub long : length earlier ≡ 2 * attempt
   pub list_is : published_by log ≡ published_by earlier ++ publication ∷ []

@@ -5,9 +5,10 @@ use Rattle.adr_refusal.specs.declared.refusal.Refusal.{Refusal}
 use Rattle.adr_refusal.specs.declared.refusal.Refusal.TheVariants.{NoMemory, NoRuntime}
 use Rattle.adr_model.specs.declared.entry.Tie.{Tie}
 use Rattle.adr_model.specs.Machine.{Action, Publication, Reply, State, Steps, edit, publish, condense, tell, look, refused, done, published, condensed, told, seen, last_number, opening}
+use Rattle.adr_book.specs.Ledger.{sealed_of}
 use Rattle.adr_board.specs.Published.{PublishedBook}
 use Rattle.adr_board.specs.Boards.{Board, View}
-use Rattle.adr_board.specs.Rules.{publication_in}
+use Rattle.adr_board.specs.Publications.{publication_in, publications_in}
 use Rattle.adr_board.specs.declared.run_steps.Step.{Step}
 use Rattle.adr_board.specs.declared.run_steps.Step.TheVariants.{Edit, Publish, Condense, Tell, Look}
 use Rattle.adr_board.specs.declared.run_steps.Shown.{Shown}
@@ -27,9 +28,10 @@ action_of s Condense = condense
 action_of s (Tell i) = tell i (last_number s)
 action_of s (Look i) = look i
 
--- the snapshot is that of the publication whose number it has, under this rule for ties
+-- the snapshot is that of the publication whose number it has, under this rule for ties, and the base and the batches that it stores lead to
+-- its objects
 abbrev pub IsOf : Tie → List Publication → PublishedBook → Type 0
-IsOf tie publications s = (s.number < length publications) × (get_or publications s.number opening ≡ publication_in s) × (s.tie ≡ tie)
+IsOf tie publications s = (s.number < length publications) × (get_or publications s.number opening ≡ publication_in s.book) × (s.tie ≡ tie) × (sealed_of s.book ≡ s.book.objects)
 
 -- what is shown in a state says the reply
 abbrev pub Says : State → Shown → Reply → Type 0
@@ -68,7 +70,7 @@ AreReached _ _ = ⊥
 
 -- the state of a board whose readers see from these numbers on
 abbrev pub state_of : Board → List ℕ → State
-state_of b numbers = record { tie = b.tie; base = b.book.base.version; current = b.book.objects; published = b.published; pending = b.book.pending; seen = numbers }
+state_of b numbers = record { tie = b.tie; base = b.book.base.version; current = b.book.objects; published = publications_in b.published; pending = b.book.pending; seen = numbers }
 
 -- wherever the readers may stand by what they know, the machine may take the step from there, and they may stand there afterwards
 abbrev pub IsStep : Board → List View → Step → Shown → Board → List View → Type 0

@@ -10,16 +10,15 @@ ghost use Rattle.adr_refusal.specs.declared.refusal.Refusal.TheVariants.{NoRunti
 ghost use Rattle.adr_model.specs.declared.entry.Tie.{Tie};
 ghost use Rattle.adr_model.specs.Book.{empty};
 ghost use Rattle.adr_model.specs.Edits.{after_from, full_at, made as made_book, step_to};
-ghost use Rattle.adr_model.specs.Machine.{Publication, opening};
 ghost use Rattle.adr_model.specs.Touches.{touches};
-ghost use Rattle.adr_book.specs.Ledger.{sealed_of};
+ghost use Rattle.adr_book.specs.Ledger.{Ledger, sealed_of};
 ghost use Rattle.adr_regroup.specs.Compared.{most_compared_in};
-ghost use Rattle.adr_board.specs.Published.{PublishedBook};
+ghost use Rattle.adr_board.specs.Published.{PublishedBook, last_batch};
 ghost use Rattle.adr_board.specs.Types.{ArePrivate, edit_names, HasPrivateNames};
 ghost use Rattle.adr_board.specs.History.{HasLast, begun, ended, published_by, seen_by};
-ghost use Rattle.adr_board.specs.Publications.{publication_of};
+ghost use Rattle.adr_board.specs.Publications.{opening_book, sealed};
 ghost use Rattle.adr_board.specs.Boards.{Grows, last_of, newcomer, with_published};
-ghost use Rattle.adr_board.specs.Rules.{IsCarried, IsLast, IsLastBy, IsSight, IsTaken, MayFollow, publication_in, showing};
+ghost use Rattle.adr_board.specs.Rules.{IsCarried, IsLast, IsLastBy, IsSight, IsTaken, MayFollow, showing};
 
 use crate::rule::{Add, Look, Naming, RuledReader, RuledWriter};
 use crate::shown::Shown;
@@ -27,7 +26,7 @@ use crate::snapshot::{Snapshot, has_private_names, names_stay_private};
 use crate::{Diary, Page};
 use adr_book::{Book, SharedList};
 use adr_desk::{Desk, Gate, Receipt};
-use adr_model::Tie;
+use adr_model::{Published, Tie};
 use adr_object::Edit;
 use adr_schedule::Resolution;
 use adr_value::Refusal;
@@ -37,13 +36,6 @@ use std::alloc::Global;
 use std::marker::{Model, PhantomData};
 use std::sync::{Arc, Wait};
 use std::thread::Threads;
-
-/// The number of a publication, and the version that it shows.
-#[derive(Clone, Copy, Debug, PartialEq, Eq)]
-pub struct Published {
-    pub number: u64,
-    pub version: u64,
-}
 
 /// What the editor told. Contracts see the publications that there were.
 #[derive(Drop)]
@@ -56,10 +48,10 @@ pub struct Told<J: Naming> {
 
 impl<J: Naming> Model for Told<J> {
     ghost use Rattle.std.specs.Prelude.{◌≡◌, List};
-    ghost use Rattle.adr_model.specs.Machine.{Publication};
+    ghost use Rattle.adr_book.specs.Ledger.{Ledger};
     ghost use Rattle.adr_board.specs.History.{HasLast, published_by};
 
-    ghost Value = { List Publication };
+    ghost Value = { List Ledger };
 
     ghost view = { λ t. published_by t.page.log };
 
@@ -215,7 +207,7 @@ fn renewed(
 ) -> Result<Arc<Snapshot>, Refusal>
     requires has { fresh ≡ None → is_some own ≡ true }
     requires copy { IfSome fresh (λ copy. OnlyNoMemory copy) }
-    ensures last { (tie : Tie) (published : List Publication) → IsTaken tie published fresh own → IfOk result (λ s. IsLastBy tie published (arc_value s)) }
+    ensures last { (tie : Tie) (published : List Ledger) → IsTaken tie published fresh own → IfOk result (λ s. IsLastBy tie published (arc_value s)) }
     ensures refusal { OnlyNoMemory result }
 {
     match (fresh, own) {
@@ -284,7 +276,7 @@ fn show<J: Naming, R: Wait>(
     shown: Shown,
 ) -> (RuledWriter<J>, Result<(), Refusal>)
     requires { MayFollow J.tie J.history (known writer.desk.place) (showing writer.desk.shown.value) (showing shown) }
-    ensures ok { IfOk result.1 (λ _. (showing result.0.desk.shown.value ≡ showing shown) × (known result.0.desk.place ≡ known writer.desk.place ++ publication_in (showing shown).snapshot ∷ [])) }
+    ensures ok { IfOk result.1 (λ _. (showing result.0.desk.shown.value ≡ showing shown) × (known result.0.desk.place ≡ known writer.desk.place ++ (showing shown).snapshot.book ∷ [])) }
     ensures err { IfErr result.1 (λ e. (e ≡ NoMemory) × (result.0.desk.shown.value ≡ writer.desk.shown.value) × (known result.0.desk.place ≡ known writer.desk.place)) }
 {
     let mut writer = writer;
@@ -304,7 +296,7 @@ fn show_next<J: Naming, R: Wait>(
     shown: Shown,
 ) -> Result<(), Refusal>
     requires { MayFollow J.tie J.history (known writer.old.desk.place) (showing writer.old.desk.shown.value) (showing shown) }
-    ensures ok { IfOk result (λ _. (showing writer.new.desk.shown.value ≡ showing shown) × (known writer.new.desk.place ≡ known writer.old.desk.place ++ publication_in (showing shown).snapshot ∷ [])) }
+    ensures ok { IfOk result (λ _. (showing writer.new.desk.shown.value ≡ showing shown) × (known writer.new.desk.place ≡ known writer.old.desk.place ++ (showing shown).snapshot.book ∷ [])) }
     ensures err { IfErr result (λ e. (e ≡ NoMemory) × (writer.new.desk.shown.value ≡ writer.old.desk.shown.value) × (known writer.new.desk.place ≡ known writer.old.desk.place)) }
 {
     replace_with(
@@ -314,7 +306,7 @@ fn show_next<J: Naming, R: Wait>(
     )
 }
 
-// Shows readers this snapshot of the book, as an attempt that the diary notes with how it ended.
+// Shows readers this snapshot of the sealed book, as an attempt that the diary notes with how it ended.
 fn attempt_to_show<J: Naming, R: Wait>(
     writer: &mut RuledWriter<J>,
     diary: &mut Diary,
@@ -324,16 +316,16 @@ fn attempt_to_show<J: Naming, R: Wait>(
 ) -> Result<(), Refusal>
     requires last { IsLast (known writer.old.desk.place) (showing writer.old.desk.shown.value).snapshot }
     requires next { (arc_value snapshot).number ≡ (showing writer.old.desk.shown.value).snapshot.number + 1 }
-    requires leads { (publication_of book.now).book ≡ after_from (showing writer.old.desk.shown.value).snapshot.book.objects (publication_of book.now).batch }
-    requires publication { publication_in (arc_value snapshot) ≡ publication_of book.now }
+    requires leads { book.now.objects ≡ after_from (showing writer.old.desk.shown.value).snapshot.book.objects (last_batch book.now.closed) }
+    requires publication { (arc_value snapshot).book ≡ book.now }
     requires tie { (arc_value snapshot).tie ≡ J.tie }
     requires history { diary.old.page.book ≡ J.history }
     requires says { published_by diary.old.page.log ≡ known writer.old.desk.place }
     ensures shown { OnOk result ((showing writer.new.desk.shown.value).snapshot ≡ arc_value snapshot) }
-    ensures place { OnOk result (known writer.new.desk.place ≡ known writer.old.desk.place ++ publication_of book.now ∷ []) }
-    ensures noted { OnOk result (diary.new.page.log ≡ diary.old.page.log ++ begun (publication_of book.now) ∷ ended true (publication_of book.now) ∷ []) }
+    ensures place { OnOk result (known writer.new.desk.place ≡ known writer.old.desk.place ++ book.now ∷ []) }
+    ensures noted { OnOk result (diary.new.page.log ≡ diary.old.page.log ++ begun book.now ∷ ended true book.now ∷ []) }
     ensures unshown { OnErr result ((writer.new.desk.shown.value ≡ writer.old.desk.shown.value) × (known writer.new.desk.place ≡ known writer.old.desk.place)) }
-    ensures undone { OnErr result ((diary.new.page.log ≡ diary.old.page.log) ⊎ (diary.new.page.log ≡ diary.old.page.log ++ begun (publication_of book.now) ∷ ended false (publication_of book.now) ∷ [])) }
+    ensures undone { OnErr result ((diary.new.page.log ≡ diary.old.page.log) ⊎ (diary.new.page.log ≡ diary.old.page.log ++ begun book.now ∷ ended false book.now ∷ [])) }
     ensures history { diary.new.page.book ≡ diary.old.page.book }
     ensures refusal { OnlyNoMemory result }
 {
@@ -353,16 +345,13 @@ struct Prepared {
     last: Arc<Snapshot>,
 }
 
-#[tactic(auto, using(crate::proofs::Lasts::sealed_publication, crate::proofs::Following::all_closed))]
+#[tactic(auto, using(crate::proofs::Following::all_closed))]
 fn prepare(alloc: Global, desk: &Desk, number: u64) -> Result<Prepared, Refusal>
     requires { HasPrivateNames desk.now.book.objects }
     ensures tie { IfOk result (λ p. (p.sealed.tie ≡ desk.now.tie) × ((arc_value p.shown).tie ≡ desk.now.tie)) }
-    ensures objects { IfOk result (λ p. p.sealed.book.objects ≡ desk.now.book.objects) }
-    ensures base { IfOk result (λ p. p.sealed.book.base ≡ desk.now.book.base) }
-    ensures closed { IfOk result (λ p. p.sealed.book.closed ≡ desk.now.book.closed ++ desk.now.book.pending ∷ []) }
-    ensures pending { IfOk result (λ p. p.sealed.book.pending ≡ []) }
+    ensures book { IfOk result (λ p. p.sealed.book ≡ sealed desk.now.book) }
     ensures leads { IfOk result (λ p. sealed_of p.sealed.book ≡ p.sealed.book.objects) }
-    ensures publication { IfOk result (λ p. publication_in (arc_value p.shown) ≡ publication_of desk.now.book) }
+    ensures publication { IfOk result (λ p. (arc_value p.shown).book ≡ sealed desk.now.book) }
     ensures number { IfOk result (λ p. (arc_value p.shown).number ≡ number) }
     ensures last { IfOk result (λ p. arc_value p.last ≡ arc_value p.shown) }
     ensures refusal { OnlyNoMemory result }
@@ -476,10 +465,11 @@ impl<J: Naming> Editor<J> {
         let _ = &self.desk;
     }
 
-    /// The last publication.
+    /// The last publication. It stores the desk's book as it was published, with its base and all its batches, whatever
+    /// was condensed since.
     pub fn last(&self) -> &Arc<Snapshot>
         ensures last { IsLast self.now.published (arc_value result.now) }
-        ensures objects { (arc_value result.now).book.objects ≡ (last_of self.now.published).book }
+        ensures book { (arc_value result.now).book ≡ last_of self.now.published }
         ensures tie { (arc_value result.now).tie ≡ self.now.tie }
     {
         &self.last
@@ -521,13 +511,7 @@ impl<J: Naming> Editor<J> {
             last,
         } = prepare(self.alloc, &self.desk, number + 1)?;
         let place = self.diary.attempts;
-        attempt_to_show(
-            &mut self.writer,
-            &mut self.diary,
-            rt,
-            self.desk.book(),
-            shown,
-        )?;
+        attempt_to_show(&mut self.writer, &mut self.diary, rt, sealed.book(), shown)?;
         self.desk.go_on_from(sealed);
         self.last = last;
         self.attempt = place;
@@ -541,8 +525,8 @@ impl<J: Naming> Editor<J> {
     /// publication's version. Readers see nothing of it. Publications that stand share those batches, so their memory
     /// comes back as later ones take their place. `NoMemory` leaves all as it was.
     pub fn condense(&mut self) -> Result<u64, Refusal>
-        ensures version { IfOk result (λ version. version ≡ (last_of self.old.published).book.version) }
-        ensures base { OnOk result (self.new.book.base ≡ (last_of self.old.published).book) }
+        ensures version { IfOk result (λ version. version ≡ (last_of self.old.published).objects.version) }
+        ensures base { OnOk result (self.new.book.base ≡ (last_of self.old.published).objects) }
         ensures closed { OnOk result (self.new.book.closed ≡ []) }
         ensures pending { self.new.book.pending ≡ self.old.book.pending }
         ensures objects { self.new.book.objects ≡ self.old.book.objects }
@@ -597,11 +581,11 @@ struct Started<J: Naming> {
 }
 
 // Publication 0.
+#[tactic(auto, using(crate::proofs::Following::is_opening))]
 fn opening_snapshot(alloc: Global, tie: Tie) -> Result<Arc<Snapshot>, Refusal>
     ensures number { IfOk result (λ s. (arc_value s).number ≡ 0) }
     ensures tie { IfOk result (λ s. (arc_value s).tie ≡ tie) }
-    ensures book { IfOk result (λ s. publication_of (arc_value s).book ≡ opening) }
-    ensures publication { IfOk result (λ s. publication_in (arc_value s) ≡ opening) }
+    ensures book { IfOk result (λ s. (arc_value s).book ≡ opening_book) }
     ensures refusal { OnlyNoMemory result }
 {
     let snapshot = Snapshot::first(alloc, tie)?;
@@ -620,12 +604,12 @@ fn start<J: Naming>(
     requires readers { (0 < readers) × (readers ≤ 64) }
     ensures shown { IfOk result (λ t. arc_value t.last ≡ (showing t.writer.desk.shown.value).snapshot) }
     ensures number { IfOk result (λ t. (arc_value t.last).number ≡ 0) }
-    ensures publication { IfOk result (λ t. publication_in (arc_value t.last) ≡ opening) }
+    ensures book { IfOk result (λ t. (arc_value t.last).book ≡ opening_book) }
     ensures tie { IfOk result (λ t. (arc_value t.last).tie ≡ tie) }
-    ensures known { IfOk result (λ t. known t.writer.desk.place ≡ opening ∷ []) }
-    ensures seen { IfOk result (λ t. seen_by t.page.log ≡ opening ∷ []) }
+    ensures known { IfOk result (λ t. known t.writer.desk.place ≡ opening_book ∷ []) }
+    ensures seen { IfOk result (λ t. seen_by t.page.log ≡ opening_book ∷ []) }
     ensures history { IfOk result (λ t. t.diary.page.book ≡ J.history) }
-    ensures says { IfOk result (λ t. published_by t.diary.page.log ≡ opening ∷ []) }
+    ensures says { IfOk result (λ t. published_by t.diary.page.log ≡ opening_book ∷ []) }
     ensures last { IfOk result (λ t. HasLast t.diary.page.log 0 t.attempt) }
     ensures refusal { OnlyNoMemory result }
 {
@@ -660,8 +644,8 @@ fn seat_readers<J: Naming>(
     page: &Page,
     readers: usize,
 ) -> Result<Vec<Reader<J>>, Refusal>
-    requires told { told.now ≡ opening ∷ [] }
-    requires seen { seen_by page.now.log ≡ opening ∷ [] }
+    requires told { told.now ≡ opening_book ∷ [] }
+    requires seen { seen_by page.now.log ≡ opening_book ∷ [] }
     ensures count { IfOk result (λ list. vec_len list ≡ readers) }
     ensures readers { IfOk result (λ list. All (λ r. r ≡ newcomer) list.items) }
     ensures refused { IfErr result (λ e. (e ≡ NoMemory) ⊎ (e ≡ NoRuntime)) }
@@ -717,11 +701,11 @@ impl Board {
     /// `NoRuntime` where a reader's place is refused: then the board is ended again, which may wait, by the handle;
     /// else `NoMemory`.
     pub fn open<J: Naming, R: Wait>(
-        alloc: Global,
         rt: &R,
+        alloc: Global,
         board: NewBoard,
-        tie: Tie,
         readers: usize,
+        tie: Tie,
     ) -> Result<(Editor<J>, Vec<Reader<J>>), Refusal>
         requires history { board.diary.page.book ≡ J.history }
         requires tie { tie ≡ J.tie }
@@ -731,19 +715,19 @@ impl Board {
         ensures objects { IfOk result (λ b. b.0.book.objects ≡ empty) }
         ensures closed { IfOk result (λ b. b.0.book.closed ≡ []) }
         ensures pending { IfOk result (λ b. b.0.book.pending ≡ []) }
-        ensures published { IfOk result (λ b. b.0.published ≡ opening ∷ []) }
+        ensures published { IfOk result (λ b. b.0.published ≡ opening_book ∷ []) }
         ensures count { IfOk result (λ b. vec_len b.1 ≡ readers) }
         ensures newcomers { IfOk result (λ b. All (λ r. r ≡ newcomer) b.1.items) }
         ensures refused { IfErr result (λ e. (e ≡ NoMemory) ⊎ (e ≡ NoRuntime)) }
     {
-        Board::over(alloc, rt, board, Desk::new(alloc, tie)?, readers)
+        Board::over(rt, alloc, board, Desk::new(alloc, tie)?, readers)
     }
 
     /// A board as [`Board::open`] makes it, over a desk that stays the editor's, whose book has no base and no closed
     /// batch; it is refused as `open` is. Publication 0 is the empty book here too.
     pub fn over<J: Naming, R: Wait>(
-        alloc: Global,
         rt: &R,
+        alloc: Global,
         board: NewBoard,
         desk: Desk,
         readers: usize,
@@ -755,7 +739,7 @@ impl Board {
         requires closed { desk.book.closed ≡ [] }
         ensures tie { IfOk result (λ b. b.0.tie ≡ desk.tie) }
         ensures book { IfOk result (λ b. b.0.book ≡ desk.book) }
-        ensures published { IfOk result (λ b. b.0.published ≡ opening ∷ []) }
+        ensures published { IfOk result (λ b. b.0.published ≡ opening_book ∷ []) }
         ensures count { IfOk result (λ b. vec_len b.1 ≡ readers) }
         ensures newcomers { IfOk result (λ b. All (λ r. r ≡ newcomer) b.1.items) }
         ensures refused { IfErr result (λ e. (e ≡ NoMemory) ⊎ (e ≡ NoRuntime)) }

@@ -2,21 +2,21 @@
 ghost use Rattle.std.specs.Prelude.{◌≡◌, ◌+◌, ◌*◌, ◌<◌, [], ◌∷◌, ◌++◌, length, IfSome, ◌^◌};
 ghost use Rattle.logbook.specs.Pages.{may_write, nib};
 ghost use Rattle.adr_board.specs.History.{counter_of, begun, ended, IsCellAt};
-ghost use Rattle.adr_board.specs.Publications.{publication_of};
 
 use adr_book::Book;
 use logbook::{Gain, Offer, Pen, Plain, Play, Rule, Seen, Start, Word};
 use std::marker::Model;
 
-/// A publication, as contracts see it. No value of it is made.
+/// A publication, as contracts see it: the book that was published. No value of it is made.
 pub struct Publication;
 
 impl Model for Publication {
-    ghost use Rattle.adr_model.specs.Machine.{Publication as Published, opening};
+    ghost use Rattle.adr_book.specs.Ledger.{Ledger};
+    ghost use Rattle.adr_board.specs.Publications.{opening_book};
 
-    ghost Value = { Published };
+    ghost Value = { Ledger };
 
-    ghost view = { λ _. opening };
+    ghost view = { λ _. opening_book };
 }
 
 /// An entry of the history. No value of it is made.
@@ -78,9 +78,8 @@ impl Play<Entry, u64> for End {
 impl Plain<Book, Entry, u64> for Begin {
     ghost use Rattle.std.specs.Prelude.{None};
     ghost use Rattle.adr_board.specs.History.{begun};
-    ghost use Rattle.adr_board.specs.Publications.{publication_of};
 
-    ghost ask = { λ book. begun (publication_of book) };
+    ghost ask = { λ book. begun book };
 
     ghost state = { λ _. None };
 }
@@ -95,9 +94,8 @@ struct Ending<'a> {
 impl Plain<Ending<'_>, Entry, u64> for End {
     ghost use Rattle.std.specs.Prelude.{None};
     ghost use Rattle.adr_board.specs.History.{ended};
-    ghost use Rattle.adr_board.specs.Publications.{publication_of};
 
-    ghost ask = { λ e. ended e.shown (publication_of e.book.now) };
+    ghost ask = { λ e. ended e.shown e.book.now };
 
     ghost state = { λ _. None };
 }
@@ -145,7 +143,7 @@ impl Diary {
     /// Begins an attempt to publish the book. The diary is as it was until that ends, by `end`. None after 2^62 attempts.
     pub fn begin(&self, book: &Book) -> Option<Attempt>
         ensures history { IfSome result (λ a. a.page.book ≡ self.now.page.book) }
-        ensures log { IfSome result (λ a. a.page.log ≡ self.now.page.log ++ begun (publication_of book.now) ∷ []) }
+        ensures log { IfSome result (λ a. a.page.log ≡ self.now.page.log ++ begun book.now ∷ []) }
     {
         if self.attempts >= MOST_ATTEMPTS {
             return None;
@@ -167,9 +165,9 @@ impl Diary {
     /// Ends the attempt to publish the book: readers were shown it, or they weren't. It is never refused.
     pub fn end(&mut self, attempt: Attempt, book: &Book, shown: bool)
         requires history { attempt.page.book ≡ self.old.page.book }
-        requires log { attempt.page.log ≡ self.old.page.log ++ begun (publication_of book.now) ∷ [] }
+        requires log { attempt.page.log ≡ self.old.page.log ++ begun book.now ∷ [] }
         ensures history { self.new.page.book ≡ self.old.page.book }
-        ensures log { self.new.page.log ≡ self.old.page.log ++ begun (publication_of book.now) ∷ ended shown (publication_of book.now) ∷ [] }
+        ensures log { self.new.page.log ≡ self.old.page.log ++ begun book.now ∷ ended shown book.now ∷ [] }
     {
         let Attempt { mut page, mut pen } = attempt;
         let count = 2 * self.attempts + 1;

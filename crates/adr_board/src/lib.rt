@@ -7,6 +7,7 @@
 
 mod board;
 mod diary;
+mod laws;
 mod rule;
 mod run;
 mod run_steps;
@@ -14,8 +15,10 @@ mod shown;
 mod snapshot;
 
 pub use adr_desk::{Desk, Gate, NoGate, Receipt};
-pub use board::{Board, Editor, NewBoard, Published, Reader, Told};
+pub use adr_model::Published;
+pub use board::{Board, Editor, NewBoard, Reader, Told};
 pub use diary::{Attempt, Diary, Entry, Law, Page, Publication};
+pub use laws::replay_laws;
 pub use rule::Naming;
 pub use run::replay;
 pub use run_steps::{Shown, Step};

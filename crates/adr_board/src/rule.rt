@@ -36,12 +36,12 @@ pub struct OneList<J: Naming> {
 
 impl<J: Naming> Protocol<Shown, View> for OneList<J> {
     ghost use Rattle.std.specs.Prelude.{[], ◌∷◌};
-    ghost use Rattle.adr_model.specs.Machine.{opening};
+    ghost use Rattle.adr_board.specs.Publications.{opening_book};
     ghost use Rattle.adr_board.specs.Rules.{Keeps};
 
     ghost holds = { Keeps J.tie J.history };
 
-    ghost first = { opening ∷ [] };
+    ghost first = { opening_book ∷ [] };
 }
 
 /// What a look tells.

@@ -5,6 +5,7 @@ ghost use mathlib.Core.List.{IsPrefix};
 ghost use Rattle.adr_refusal.specs.declared.refusal.Refusal.TheVariants.{NoMemory};
 ghost use Rattle.adr_model.specs.Machine.{start, State};
 ghost use Rattle.adr_board.specs.Boards.{newcomer, View};
+ghost use Rattle.adr_board.specs.Publications.{publications_in};
 ghost use Rattle.adr_board.specs.Replay.{AreSteps, IsOf, IsRun, IsStep, NamesReader, OnlyWant, reach};
 
 use crate::board::{Board, Editor, NewBoard, Reader};
@@ -106,12 +107,13 @@ fn settle<J: Naming>(editor: &Editor<J>, reader: &mut Reader<J>) -> Result<(), R
 #[tactic(auto, using(crate::proofs::Settled::seen_one, crate::proofs::Settled::seen_later))]
 fn seen_by<J: Naming>(editor: &Editor<J>, reader: &mut Reader<J>) -> Result<Arc<Snapshot>, Refusal>
     ensures later { IfOk result (λ s. reach reader.old ≤ (arc_value s).number + 1) }
-    ensures shown { IfOk result (λ s. IsOf editor.now.tie editor.now.published (arc_value s)) }
+    ensures shown { IfOk result (λ s. IsOf editor.now.tie (publications_in editor.now.published) (arc_value s)) }
     ensures known { IfOk result (λ s. (arc_value s).number < reach reader.new) }
     ensures want { OnlyWant result }
 {
     editor.editor_laws();
     let seen = reader.look()?;
+    seen.snapshot_laws();
     settle(editor, reader)?;
     Ok(seen)
 }
@@ -173,12 +175,12 @@ fn take_steps<J: Naming, R: Wait>(
 
 #[tactic(auto, using(crate::proofs::Reached::newcomers_reached))]
 fn replay_as<J: Naming, R: Wait>(
-    alloc: Global,
     rt: &R,
+    alloc: Global,
     board: NewBoard,
     readers: usize,
-    tie: Tie,
     steps: Vec<Step>,
+    tie: Tie,
 ) -> Result<Vec<Shown>, Refusal>
     requires history { board.diary.page.book ≡ J.history }
     requires tie { tie ≡ J.tie }
@@ -187,7 +189,7 @@ fn replay_as<J: Naming, R: Wait>(
     ensures run { IfOk result (λ shown. (end : State) × IsRun (start tie readers) steps.items shown.items end) }
     ensures want { OnlyWant result }
 {
-    match Board::open::<J, R>(alloc, rt, board, tie, readers) {
+    match Board::open::<J, R>(rt, alloc, board, readers, tie) {
         Ok((mut editor, mut readers)) => {
             let shown = take_steps(alloc, rt, &mut editor, &mut readers, steps);
             editor.close(rt);
@@ -204,16 +206,16 @@ fn replay_as<J: Naming, R: Wait>(
 /// a look that is refused, or a board that can't be opened, with `NoRuntime`. It waits where `Editor::publish` does. Cost:
 /// that of the calls, and a look more for each look.
 pub fn replay<R: Wait>(
-    alloc: Global,
     rt: &R,
+    alloc: Global,
     readers: usize,
-    tie: Tie,
     steps: Vec<Step>,
+    tie: Tie,
 ) -> Result<Vec<Shown>, Refusal>
     requires readers { (0 < readers) × (readers ≤ 64) }
     requires named { All (NamesReader readers) steps.items }
     ensures run { IfOk result (λ shown. (end : State) × IsRun (start tie readers) steps.items shown.items end) }
     ensures want { OnlyWant result }
 {
-    replay_as::<Brand, R>(alloc, rt, NewBoard::new(), readers, tie, steps)
+    replay_as::<Brand, R>(rt, alloc, NewBoard::new(), readers, steps, tie)
 }

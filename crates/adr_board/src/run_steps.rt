@@ -1,6 +1,6 @@
 //! The steps of a run, and what they show.
-use crate::board::Published;
 use crate::snapshot::Snapshot;
+use adr_model::Published;
 use adr_object::Edit;
 use adr_value::Refusal;
 use std::sync::Arc;

@@ -9,8 +9,8 @@ use Rattle.adr_object.specs.declared.object.Edit.{Edit}
 use Rattle.adr_object.specs.declared.object.Kind.{Kind}
 use Rattle.adr_object.specs.declared.object.Kind.TheVariants.{Program as program_kind, Event as event_kind, Ven as ven_kind, Resource as resource_kind}
 use Rattle.adr_model.specs.Book.{Book, empty}
-use Rattle.adr_model.specs.Edits.{after_from, count_of, most_objects, step}
-use Rattle.adr_model.proofs.EditLemmas.{accepted_edits_count, after_from_push, after_from_versions, journals_go_on}
+use Rattle.adr_model.specs.Edits.{after_from, count_of, full_at, most_objects, step, step_to}
+use Rattle.adr_model.proofs.EditLemmas.{accepted_edits_count, after_from_push, after_from_versions, bases_only_refuse, journals_go_on}
 use Rattle.adr_model.specs.Whole.{IsWhole}
 use Rattle.adr_model.specs.Within.{IsWithin}
 use Rattle.adr_model.proofs.Whole.{after_from_whole, after_whole}
@@ -33,10 +33,14 @@ counted_within full book w event_kind = w.events
 counted_within full book w ven_kind = w.vens
 counted_within full book w resource_kind = w.resources
 
+-- over a later base a book is full no earlier
+full_later : (version base later : ℕ) → version ≤ full_at base → base ≤ later → version ≤ full_at later
+full_later version base later room le = omega (arith, room, le)
+
 -- no edits lead from the empty book to itself
 pub from_nothing : Leads empty [] empty
 unfolding after_from
-from_nothing = record { whole = after_whole []; within = books_are_within []; leads = refl; counted = refl }
+from_nothing = record { whole = after_whole []; within = books_are_within []; leads = refl; counted = refl; room = omega arith }
 
 module _ (base : Book) where
   pub led_whole : (edits : List Edit) (objects : Book) → Leads base edits objects → IsWhole objects
@@ -46,17 +50,18 @@ module _ (base : Book) where
   led_within edits objects l = subst (λ b. IsWithin limits MOST_VERSION b) l.leads (after_from_within base edits l.whole l.within)
 
   -- an accepted edit leads on
-  pub led_on : (edits : List Edit) (x : Edit) (old new : Book) → Leads base edits old → step old x ≡ Ok new → Leads base (edits ++ x ∷ []) new
+  pub led_on : (edits : List Edit) (x : Edit) (old new : Book) → Leads base edits old → step_to (full_at base.version) old x ≡ Ok new → Leads base (edits ++ x ∷ []) new
   led_on edits x old new l s =
-      let more = (accepted_edits_count MOST_VERSION old new x s).0 in
+      let (more, below) = accepted_edits_count (full_at base.version) old new x s in
       record {
         whole = l.whole;
         within = l.within;
-        leads = after_from_push base edits x old new l.leads s;
+        leads = after_from_push base edits x old new l.leads (bases_only_refuse base.version old new x s);
         counted = omega (arith, more, l.counted, length-append edits (x ∷ []));
+        room = omega (arith, more, below);
       }
 
-  pub led_by_one_more : (closed : List (List Edit)) (pending : List Edit) (x : Edit) (old new : Book) → Leads base (joined closed pending) old → step old x ≡ Ok new
+  pub led_by_one_more : (closed : List (List Edit)) (pending : List Edit) (x : Edit) (old new : Book) → Leads base (joined closed pending) old → step_to (full_at base.version) old x ≡ Ok new
       → Leads base (joined closed (pending ++ x ∷ [])) new
   led_by_one_more closed pending x old new l s =
       let apart : joined closed pending ++ x ∷ [] ≡ joined closed (pending ++ x ∷ []) = append_assoc (closed_edits closed) pending (x ∷ []) in
@@ -72,9 +77,11 @@ module _ (base : Book) where
       let above = after_from_versions (closed_edits closed) base in
       let below = after_from_versions pending at in
       let last = ap (λ (b : Book). b.version) goes_on in
+      let long = length-append (closed_edits closed) pending in
       record {
         whole = subst (λ b. IsWhole b) (sym e) (after_from_whole (closed_edits closed) base l.whole);
         within = subst (λ b. IsWithin limits MOST_VERSION b) (sym e) (after_from_within base (closed_edits closed) l.whole l.within);
         leads = goes_on;
-        counted = omega (arith, same, above, below, last, l.counted, length-append (closed_edits closed) pending);
+        counted = omega (arith, same, above, below, last, l.counted, long);
+        room = full_later objects.version base.version at.version l.room (omega (arith, same, above, below, last, l.counted, long));
       }

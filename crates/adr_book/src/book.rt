@@ -53,7 +53,7 @@ impl Model for Book {
 
     ghost view = { λ b. record { base = b.base; objects = b.objects; closed = b.journal.closed; pending = b.journal.pending } };
 
-    // The journal's edits lead from the base to the objects.
+    // The journal's edits lead from the base to the objects, and are no more than a journal has room for.
     ghost invariant = { λ b. Leads b.base (joined b.journal.closed b.journal.pending) b.objects };
 }
 
@@ -191,10 +191,11 @@ impl Book {
     }
 
     /// The laws of what every book keeps. Ids and numbers are distinct, what an object names is there, and each event
-    /// can be laid out. No limit of objects, entries or the version is passed.
+    /// can be laid out. No limit of objects, entries or the version is passed, nor that of the edits since the base.
     pub fn book_laws(&self)
         ensures whole { IsWhole self.now.objects }
         ensures within { IsWithin limits MOST_VERSION self.now.objects }
+        ensures room { self.now.objects.version ≤ full_at self.now.base.version }
     {
         let _ = &self.objects;
     }

@@ -1,2 +1,4 @@
+pub mod Governed
+pub mod Json
 pub mod Segments
 pub mod Shown

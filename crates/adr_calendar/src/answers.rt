@@ -1,15 +1,17 @@
 //! The answers to the four queries, printed from any calendar.
 ghost use Rattle.std.specs.Prelude.{◌≡◌, ◌++◌, [], OnOk, IfOk, codes, flat_map, option_map};
+ghost use Rattle.std.specs.Fmt.{decimal};
 ghost use Rattle.std.specs.Option.{option_and_then, option_map_or};
 ghost use Rattle.std.specs.List.{slice_get};
 ghost use Rattle.adr_refusal.specs.Answer.{Answers, OnlyNoMemory, result_map};
 ghost use Rattle.adr_value.specs.Payload.{name_of};
+ghost use Rattle.adr_calendar.specs.Governed.{state_at};
 ghost use Rattle.adr_calendar.specs.Segments.{line_of_segment};
 ghost use Rattle.adr_calendar.specs.Shown.{shown_view};
-ghost use Rattle.adr_model.specs.Answer.{at, at_text, shown, shown_of as shown_by, state_text, until};
+ghost use Rattle.adr_model.specs.Answer.{at, shown, shown_of as shown_by, state_text, until};
 ghost use Rattle.adr_model.specs.Queries.{beginnings, in_lines, list, list_text, roll, roll_line, segment_line, type_text, types, types_text};
 
-use crate::calendar::Calendar;
+use crate::calendar::{Calendar, State};
 use crate::lines::{Shown, cut, put_segment, put_state, put_type, put_version};
 use crate::moments::LastMoment;
 use crate::printing::put;
@@ -25,8 +27,8 @@ use std::alloc::Global;
 /// How long the line of a segment mostly is at most.
 const LINE: usize = 80;
 
-/// What the winner shows, where there is one.
-fn shown_by_winner<'a>(
+/// What the winner shows of the payload type, where there is one.
+pub fn shown_by_winner<'a>(
     book: &'a Book,
     payload_type: &PayloadType,
     winner: Option<Winner>,
@@ -53,21 +55,40 @@ fn put_state_of<C: Calendar>(
     put_state(out, shown, state.until)
 }
 
-/// The bytes of the answer to `at`.
-fn text_of_state<C: Calendar>(
-    alloc: Global,
+/// What governs the resource for the type at the moment, and until when. `UnknownResource` where the book has no such
+/// resource; `NoMemory`. Cost: that of the calendar's state.
+#[tactic(auto, using(crate::proofs::States::what_governs_is_there, crate::proofs::States::state_told_whole))]
+pub fn governor<C: Calendar>(
     calendar: &C,
     id: &Id,
     payload_type: &PayloadType,
     moment: Moment,
+) -> Result<State, Refusal>
+    ensures { Answers result (state_at (C.tie calendar.now) (C.objects calendar.now) id.now payload_type.now moment) }
+{
+    let state = calendar.state(id, payload_type, moment)?;
+    // A resource of which something governs is there, and isn't looked for again.
+    if state.governor.is_some() || calendar.book().resource(id).is_some() {
+        return Ok(state);
+    }
+    Err(Refusal::UnknownResource)
+}
+
+/// The bytes of the answer to `at`.
+fn text_of_state(
+    alloc: Global,
+    book: &Book,
+    payload_type: &PayloadType,
+    state: State,
 ) -> Result<Vec<u8>, Refusal>
-    ensures ok { IfOk result (λ v. v.items ≡ at_text (C.tie calendar.now) (C.objects calendar.now) id.now payload_type.now moment) }
+    ensures ok { IfOk result (λ v. v.items ≡ codes "version " ++ decimal book.now.objects.version ++ codes " " ++ state_text (option_and_then (shown_by book.now.objects payload_type.now) state.governor) state.until ++ codes "\n") }
     ensures memory { OnlyNoMemory result }
 {
+    let shown = shown_by_winner(book, payload_type, state.governor);
     let mut out = Vec::new(alloc);
-    put_version(&mut out, calendar.book().version())?;
+    put_version(&mut out, book.version())?;
     put(&mut out, b" ")?;
-    put_state_of(&mut out, calendar, id, payload_type, moment)?;
+    put_state(&mut out, shown, state.until)?;
     put(&mut out, b"\n")?;
     Ok(out)
 }
@@ -84,10 +105,8 @@ pub fn at<C: Calendar>(
 ) -> Result<Vec<u8>, Refusal>
     ensures { Answers (result_map (λ v. v.items) result) (at (C.tie calendar.now) (C.objects calendar.now) id.now payload_type.now moment) }
 {
-    if calendar.book().resource(id).is_none() {
-        return Err(Refusal::UnknownResource);
-    }
-    text_of_state(alloc, calendar, id, payload_type, moment)
+    let state = governor(calendar, id, payload_type, moment)?;
+    text_of_state(alloc, calendar.book(), payload_type, state)
 }
 
 /// Appends the line of the segment.

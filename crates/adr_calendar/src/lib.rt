@@ -3,13 +3,15 @@
 
 mod answers;
 mod calendar;
+mod json;
 mod laws;
 mod lines;
 mod moments;
 mod printing;
 mod shown;
 
-pub use answers::{at, list, roll, types};
+pub use answers::{at, governor, list, roll, shown_by_winner, types};
 pub use calendar::{Calendar, State};
+pub use json::put_json_array;
 pub use laws::list_laws;
-pub use lines::cut;
+pub use lines::{Shown, cut};

@@ -84,7 +84,8 @@ fn put_sign(out: &mut Vec<u8>, is_negative: bool) -> Result<(), Refusal>
     if is_negative { put(out, b"-") } else { Ok(()) }
 }
 
-fn put_decimal(out: &mut Vec<u8>, number: Decimal) -> Result<(), Refusal>
+/// Appends a number.
+pub(crate) fn put_decimal(out: &mut Vec<u8>, number: Decimal) -> Result<(), Refusal>
     ensures ok { OnOk result (out.new.items ≡ out.old.items ++ number_text number) }
     ensures memory { OnlyNoMemory result }
 {
@@ -179,7 +180,8 @@ fn put_point(out: &mut Vec<u8>, x: Decimal, y: Decimal) -> Result<(), Refusal>
     put(out, b")")
 }
 
-fn put_datum(out: &mut Vec<u8>, datum: &Datum) -> Result<(), Refusal>
+/// Appends a value.
+pub(crate) fn put_datum(out: &mut Vec<u8>, datum: &Datum) -> Result<(), Refusal>
     ensures ok { OnOk result (out.new.items ≡ out.old.items ++ datum_text datum.now) }
     ensures memory { OnlyNoMemory result }
 {

@@ -2,10 +2,11 @@
 ghost use Rattle.std.specs.Prelude.{◌≡◌, [], IsTrue};
 ghost use Rattle.adr_book.specs.Ledger.{sealed_of};
 
-use crate::calls::{Call, Tried, try_lines};
-use adr_book::{Book, judge};
-use adr_object::Edit;
+use crate::calls::{Call, Tried, try_line};
+use adr_book::{Book, Journal, SharedList, judge};
+use adr_object::{Edit, Kind};
 use adr_test_values::same::{edited_id, same_book, same_by_id};
+use adr_test_values::telling::tell_next;
 use adr_value::Refusal;
 use std::alloc::Global;
 use std::sync::Wait;
@@ -39,6 +40,11 @@ pub(crate) fn is_closed(book: &Book) -> bool
     book.journal().pending().len() == 0
 }
 
+fn judged(book: &Book, edit: &Edit) -> Result<u64, Refusal> {
+    judge(book, edit)?;
+    Ok(book.version())
+}
+
 fn apply(book: &mut Book, edit: &Edit) -> Result<u64, Refusal> {
     judge(book, edit)?;
     book.commit(edit.copy()?)
@@ -69,6 +75,7 @@ fn condense(book: &mut Book) -> Result<u64, Refusal> {
 fn make(book: &mut Book, call: &Call) -> Result<u64, Refusal> {
     match call {
         Call::Apply(_, edit) => apply(book, edit),
+        Call::Judge(edit) => judged(book, edit),
         Call::Seal => seal(book),
         Call::Copy => go_on_with_a_copy(book),
         Call::Condense => condense(book),
@@ -104,7 +111,7 @@ impl Tried for Books {
 
     fn is_left(&self, call: &Call, _is_made: bool) -> bool {
         let is_same_beside = match call {
-            Call::Apply(_, edit) => {
+            Call::Apply(_, edit) | Call::Judge(edit) => {
                 same_by_id(self.book.objects(), self.twin.objects(), edited_id(edit))
             }
             _ => true,
@@ -122,13 +129,76 @@ impl Books {
     }
 }
 
+fn verb_of(edit: &Edit) -> &str {
+    match edit {
+        Edit::Create(_) => "create",
+        Edit::Change(_) => "change",
+        Edit::Remove(_, _) => "delete",
+    }
+}
+
+/// The name of the kind of what the edit creates, changes or removes.
+fn kind_of(edit: &Edit) -> &str {
+    let kind = match edit {
+        Edit::Create(object) | Edit::Change(object) => object.kind(),
+        Edit::Remove(kind, _) => *kind,
+    };
+    match kind {
+        Kind::Program => "program",
+        Kind::Event => "event",
+        Kind::Ven => "ven",
+        Kind::Resource => "resource",
+    }
+}
+
+fn tell_edit<R: Print>(rt: &R, edit: &Edit) -> io::Result<()> {
+    let id = edited_id(edit).text();
+    println!(rt; "    {} {} {id}", verb_of(edit), kind_of(edit))
+}
+
+fn tell_edits<R: Print>(rt: &R, edits: &SharedList<Edit>) -> io::Result<()> {
+    for place in 0..edits.len() {
+        if let Some(edit) = edits.at(place) {
+            tell_edit(rt, edit)?;
+        }
+    }
+    Ok(())
+}
+
+/// Tells the edits of each batch of the journal, the open one last.
+fn tell_journal<R: Print>(rt: &R, journal: &Journal) -> io::Result<()> {
+    for place in 0..journal.closed().len() {
+        tell_next(rt, "  closed batch")?;
+        if let Some(batch) = journal.closed().at(place) {
+            tell_edits(rt, batch.edits())?;
+        }
+    }
+    tell_next(rt, "  open batch")?;
+    tell_edits(rt, journal.pending())
+}
+
+/// Makes the calls of the lines, of which `journal` tells the journal.
+fn try_each<R: AllocGlobal + Print + Wait + Threads + Sync>(
+    rt: &R,
+    books: &mut Books,
+    lines: &str,
+) -> io::Result<()> {
+    for (place, line) in lines.lines().enumerate() {
+        match line {
+            "journal" => tell_journal(rt, books.book.journal())?,
+            _ => try_line(rt, books, place, line)?,
+        }
+    }
+    Ok(())
+}
+
 /// Makes the calls of the lines, of a new book.
 pub(crate) fn try_book<R: AllocGlobal + Print + Wait + Threads + Sync>(
     rt: &R,
     lines: &str,
 ) -> io::Result<()> {
     let mut books = Books::new(rt.alloc());
-    let tried = try_lines(rt, &mut books, lines);
+    let tried = try_each(rt, &mut books, lines);
     drop(books);
     tried
 }

@@ -13,6 +13,8 @@ use std::thread::Threads;
 pub(crate) enum Call {
     /// Makes the edit by so many workers, or by `apply` where there are none.
     Apply(usize, Edit),
+    /// Judges the edit, and makes nothing of it.
+    Judge(Edit),
     /// Closes the open batch.
     Seal,
     /// Goes on with a copy.
@@ -56,7 +58,7 @@ fn number(word: &str) -> usize {
 }
 
 /// The call of the line: `seal`, `copy`, `load`, `condense`, `publish`, `look READER`, `tell READER`, an edit (`create program
-/// p1`), or `by COUNT` and an edit for so many workers.
+/// p1`), `judge` and an edit, or `by COUNT` and an edit for so many workers.
 fn call_of(alloc: Global, line: &str) -> Result<Call, Refusal> {
     let (first, rest) = word(line);
     match first {
@@ -67,6 +69,7 @@ fn call_of(alloc: Global, line: &str) -> Result<Call, Refusal> {
         "publish" => Ok(Call::Publish),
         "look" => Ok(Call::Look(number(rest))),
         "tell" => Ok(Call::Tell(number(rest))),
+        "judge" => Ok(Call::Judge(edit(alloc, rest)?)),
         "by" => {
             let (workers, line) = word(rest);
             Ok(Call::Apply(number(workers), edit(alloc, line)?))

@@ -6,7 +6,7 @@ use adr_desk::{Desk, NoGate, Receipt};
 use adr_model::Tie;
 use adr_object::Edit;
 use adr_test_values::same::{edited_id, same_by_id};
-use adr_test_values::telling::told;
+use adr_test_values::telling::{tell_next, tell_ordinary, tell_want, told};
 use adr_value::Refusal;
 use std::alloc::Global;
 use std::sync::Wait;
@@ -87,7 +87,7 @@ fn load<R: Threads + Sync>(
     edits: &[Edit],
 ) -> Result<u64, Refusal> {
     let edits = copies(alloc, edits)?;
-    let (loaded, answers) = Desk::load(rt, alloc, edits, Tie::Newest)?;
+    let (loaded, answers) = Desk::load(rt, alloc, edits, desk.tie())?;
     drop(answers);
     Ok(go_on_with(desk, loaded))
 }
@@ -165,21 +165,37 @@ impl Tried for Desks {
 }
 
 impl Desks {
-    fn new(alloc: Global) -> Result<Desks, Refusal> {
+    fn of(alloc: Global, desk: Desk) -> Result<Desks, Refusal> {
+        let twin = Desk::new(alloc, desk.tie())?;
         Ok(Desks {
-            desk: Desk::new(alloc, Tie::Newest)?,
-            twin: Desk::new(alloc, Tie::Newest)?,
+            desk,
+            twin,
             made: Vec::new(alloc),
         })
     }
 }
 
-/// Makes the calls of the lines, of a new desk.
+/// A new desk, made again where there was no memory for the first.
+fn try_new<R: AllocGlobal + Print>(rt: &R, tie: Tie) -> io::Result<Desk> {
+    tell_next(rt, "new: version 0")?;
+    match Desk::new(rt.alloc(), tie) {
+        Err(Refusal::NoMemory) => {
+            tell_want(rt)?;
+            told(Desk::new(rt.alloc(), tie))
+        }
+        desk => told(desk),
+    }
+}
+
+/// Makes the calls of the lines, of a new desk under that rule for ties.
 pub(crate) fn try_desk<R: AllocGlobal + Print + Wait + Threads + Sync>(
     rt: &R,
+    tie: Tie,
     lines: &str,
 ) -> io::Result<()> {
-    let mut desks = told(Desks::new(rt.alloc()))?;
+    let desk = try_new(rt, tie)?;
+    tell_ordinary(rt, Ok(desk.book().version()))?;
+    let mut desks = told(Desks::of(rt.alloc(), desk))?;
     let tried = try_lines(rt, &mut desks, lines);
     drop(desks);
     tried

@@ -11,7 +11,7 @@ use std::io;
 use std::thread::Threads;
 
 /// How many resources a desk of the lines has at most.
-const MOST_RESOURCES: usize = 16;
+pub(crate) const MOST_RESOURCES: usize = 16;
 
 /// What a receipt tells: a line for each touch, and how many ranks were compared.
 #[derive(Drop, PartialEq)]
@@ -21,7 +21,7 @@ struct Told {
 }
 
 /// The hours from 1970 on.
-fn hours(moment: Moment) -> i128 {
+pub(crate) fn hours(moment: Moment) -> i128 {
     moment.nanoseconds() / 3_600_000_000_000
 }
 

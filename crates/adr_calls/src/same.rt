@@ -2,7 +2,7 @@
 use adr_board::Snapshot;
 use adr_book::Book;
 use adr_desk::Desk;
-use adr_object::{Id, Kind, Resource};
+use adr_object::{Id, Interval, Kind, Payload, Resource};
 use adr_test_values::same::{same_book, same_store, same_timeline};
 use adr_timeline::Timeline;
 use adr_value::PayloadType;
@@ -53,14 +53,49 @@ fn same_of_code<A: Shows, B: Shows>(a: &A, b: &B, id: &Id, code: u8) -> bool {
     is_same
 }
 
-/// Whether the timelines of the resource show the same for each payload type.
-pub(crate) fn same_of_id<A: Shows, B: Shows>(a: &A, b: &B, id: &Id) -> bool {
+fn same_of_codes<A: Shows, B: Shows>(a: &A, b: &B, id: &Id) -> bool {
     for code in 0..CODES {
         if !same_of_code(a, b, id, code) {
             return false;
         }
     }
     true
+}
+
+fn same_of_payloads<A: Shows, B: Shows>(a: &A, b: &B, id: &Id, payloads: &[Payload]) -> bool {
+    for payload in payloads {
+        if !same_of_type(a, b, id, &payload.kind) {
+            return false;
+        }
+    }
+    true
+}
+
+fn same_of_intervals<A: Shows, B: Shows>(a: &A, b: &B, id: &Id, intervals: &[Interval]) -> bool {
+    for interval in intervals {
+        if !same_of_payloads(a, b, id, interval.payloads.as_slice()) {
+            return false;
+        }
+    }
+    true
+}
+
+/// Whether they show the same for each payload type of the first one's events, private ones among them.
+fn same_of_events<A: Shows, B: Shows>(a: &A, b: &B, id: &Id) -> bool {
+    for place in 0..a.book_of().count(Kind::Event) {
+        let Some(event) = a.book_of().event_at(place) else {
+            return false;
+        };
+        if !same_of_intervals(a, b, id, event.intervals.as_slice()) {
+            return false;
+        }
+    }
+    true
+}
+
+/// Whether the timelines of the resource show the same for each payload type that has a code or that an event has.
+pub(crate) fn same_of_id<A: Shows, B: Shows>(a: &A, b: &B, id: &Id) -> bool {
+    same_of_codes(a, b, id) && same_of_events(a, b, id)
 }
 
 fn same_of_resource<A: Shows, B: Shows>(a: &A, b: &B, resource: Option<&Resource>) -> bool {

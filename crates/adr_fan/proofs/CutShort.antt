@@ -5,8 +5,8 @@ use Rattle.adr_model.specs.Machine.{State, last_number}
 use Rattle.adr_script.specs.Script.{Told, IsToldInPart, no_memory}
 use Rattle.adr_script.specs.Text.{AnswersBy, text_but, state_but}
 use Rattle.adr_script.proofs.TextLemmas.{told_text}
-use Rattle.adr_server.specs.Fan.{Sent, Fan, fan_start, fan_reply, fan_next, IsReaderPart, AreReaderParts, reader_line, IsFannedOf}
-use Rattle.adr_server.proofs.Timely.{timely_after, IsSentBy, IsTimely}
+use Rattle.adr_resolver.specs.Fan.{Sent, Fan, fan_start, fan_reply, fan_next, IsReaderPart, AreReaderParts, reader_line, IsFannedOf}
+use Rattle.adr_resolver.proofs.Timely.{timely_after, IsSentBy, IsTimely}
 use Rattle.adr_fan.specs.Levels.{IsFannedInPart}
 
 -- ---- readers that all lack memory

@@ -2,6 +2,7 @@ pub mod Crossing
 pub mod CutShort
 pub mod Fronts
 pub mod Lasts
+pub mod Opened
 pub mod Parts
 pub mod Readers
 pub mod Runs

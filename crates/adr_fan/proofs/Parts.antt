@@ -7,15 +7,18 @@ use Rattle.std.proofs.Math.ListN.{get_or-append}
 use mathlib.Core.List.{IsPrefix}
 use Rattle.adr_model.specs.declared.entry.Tie.{Tie}
 use Rattle.adr_model.specs.Machine.{Publication, State, last_number, opening}
+use Rattle.adr_book.specs.Ledger.{Ledger}
+use Rattle.adr_board.specs.Publications.{opening_book, publication_in, publications_in}
+use Rattle.adr_board.proofs.Linked.{publication_at}
 use Rattle.adr_model.specs.Queries.{Query as Asked, answer}
 use Rattle.adr_script.specs.Script.{no_memory}
-use Rattle.adr_server.specs.Fan.{Fan, Sent, answer_from, IsReaderPart, AreReaderParts}
-use Rattle.adr_server.specs.Text.{answer_line}
+use Rattle.adr_resolver.specs.Fan.{Fan, Sent, answer_from, IsReaderPart, AreReaderParts}
+use Rattle.adr_resolver.specs.Text.{answer_line}
 use Rattle.adr_fan.specs.declared.reading.Reply.{Reply}
 use Rattle.adr_fan.specs.Parts.{IsAnswer, IsTrueReply, AreTrue, AreInOrder, text_or, texts, AreParts, all_texts}
 
 abbrev Publications : Type 0
-Publications = List Publication
+Publications = List Ledger
 
 -- ---- one more item
 
@@ -28,8 +31,8 @@ all_pushed P (y ∷ xs) x all one = (all.0, all_pushed P xs x all.1 one)
 answer_longer : (tie : Tie) (p q : Publications) (n : ℕ) (query : Asked) (text : List ℕ) → IsPrefix p q → IsAnswer tie p n query text → IsAnswer tie q n query text
 answer_longer tie p q n query text (more, is) (within, same) =
     let there : n < length q = omega (arith, within, length-append p more, ap length is) in
-    let at : get_or q n opening ≡ get_or p n opening = ap (λ (l : Publications). get_or l n opening) (sym is) ∙ get_or-append p more opening n within in
-    (there, same ∙ ap (λ (one : Publication). answer_line (answer tie one.book query)) (sym at))
+    let at : get_or q n opening_book ≡ get_or p n opening_book = ap (λ (l : Publications). get_or l n opening_book) (sym is) ∙ get_or-append p more opening_book n within in
+    (there, same ∙ ap (λ (one : Ledger). answer_line (answer tie one.objects query)) (sym at))
 
 longer_one : {Z : Type 0} (tie : Tie) (p q : Publications) (n : ℕ) (query : Asked) (text : Option (Vec ℕ Z)) → IsPrefix p q
     → IfSome text (λ t. IsAnswer tie p n query t.items) → IfSome text (λ t. IsAnswer tie q n query t.items)
@@ -42,17 +45,23 @@ true_longer tie p q (r ∷ replies) longer all = (longer_one tie p q r.shown r.s
 
 -- ---- replies that are true and in order
 
-replied : {Z : Type 0} (s : State) (n : ℕ) (sent q : Sent) (text : Option (Vec ℕ Z)) → sent ≡ q → IfSome text (λ t. IsAnswer s.tie s.published n sent.query t.items)
-    → (text_or text ≡ answer_from s n q.query) ⊎ (text_or text ≡ no_memory)
-replied s n sent q None same h = inr refl
-replied s n sent q (Some t) same h = inl (h.1 ∙ ap (λ (x : Sent). answer_from s n x.query) same)
+-- the answer from a book is that from the publication that it is to the machine
+answered : (s : State) (p : Publications) (n : ℕ) (query : Asked) (text : List ℕ) → s.published ≡ publications_in p → IsAnswer s.tie p n query text → text ≡ answer_from s n query
+answered s p n query text is (within, same) =
+    let at : get_or s.published n opening ≡ publication_in (get_or p n opening_book) = ap (λ (l : List Publication). get_or l n opening) is ∙ publication_at p n in
+    same ∙ ap (λ (one : Publication). answer_line (answer s.tie one.book query)) (sym at)
 
-pub part_is : (s : State) (sent : List Sent) (replies : List Reply) (seen : ℕ) → AreTrue s.tie s.published replies → AreInOrder (last_number s) seen sent replies → IsReaderPart s seen sent (texts replies)
-part_is s [] [] seen all order = refl
-part_is s [] (r ∷ replies) seen all order = absurd order
-part_is s (q ∷ sent) [] seen all order = absurd order
-part_is s (q ∷ sent) (r ∷ replies) seen all (same, after_seen, after_sent, before_last, rest) =
-    (r.shown, text_or r.text, texts replies, after_seen, after_sent, before_last, replied s r.shown r.sent q r.text same all.0, part_is s sent replies r.shown all.1 rest, refl)
+replied : {Z : Type 0} (s : State) (p : Publications) (n : ℕ) (sent q : Sent) (text : Option (Vec ℕ Z)) → s.published ≡ publications_in p → sent ≡ q
+    → IfSome text (λ t. IsAnswer s.tie p n sent.query t.items) → (text_or text ≡ answer_from s n q.query) ⊎ (text_or text ≡ no_memory)
+replied s p n sent q None is same h = inr refl
+replied s p n sent q (Some t) is same h = inl (answered s p n sent.query t.items is h ∙ ap (λ (x : Sent). answer_from s n x.query) same)
+
+pub part_is : (s : State) (p : Publications) (sent : List Sent) (replies : List Reply) (seen : ℕ) → s.published ≡ publications_in p → AreTrue s.tie p replies → AreInOrder (last_number s) seen sent replies → IsReaderPart s seen sent (texts replies)
+part_is s p [] [] seen is all order = refl
+part_is s p [] (r ∷ replies) seen is all order = absurd order
+part_is s p (q ∷ sent) [] seen is all order = absurd order
+part_is s p (q ∷ sent) (r ∷ replies) seen is all (same, after_seen, after_sent, before_last, rest) =
+    (r.shown, text_or r.text, texts replies, after_seen, after_sent, before_last, replied s p r.shown r.sent q r.text is same all.0, part_is s p sent replies r.shown is all.1 rest, refl)
 
 -- ---- the parts of all readers
 
@@ -67,10 +76,10 @@ true_kept tie p replies r false all one = all
 
 -- what a thread handed back, checked, is a part
 pub part_of : (d : Fan) (tie : Tie) (sent : List Sent) (seen now publications : Publications) (replies : List Reply) (last : ℕ) → AreTrue tie seen replies → IsPrefix seen now
-    → now ≡ publications → d.machine.published ≡ publications → d.machine.tie ≡ tie → d.sent ≡ sent → last ≡ last_number d.machine → AreInOrder last 0 sent replies
+    → now ≡ publications → d.machine.published ≡ publications_in publications → d.machine.tie ≡ tie → d.sent ≡ sent → last ≡ last_number d.machine → AreInOrder last 0 sent replies
     → IsReaderPart d.machine 0 d.sent (texts replies)
 part_of d tie sent seen now publications replies last all longer settled published rule sends ends order =
-    let known : AreTrue tie d.machine.published replies = subst (λ (p : Publications). AreTrue tie p replies) (settled ∙ sym published) (true_longer tie seen now replies longer all) in
-    let ruled : AreTrue d.machine.tie d.machine.published replies = subst (λ (t : Tie). AreTrue t d.machine.published replies) (sym rule) known in
+    let known : AreTrue tie publications replies = subst (λ (p : Publications). AreTrue tie p replies) settled (true_longer tie seen now replies longer all) in
+    let ruled : AreTrue d.machine.tie publications replies = subst (λ (t : Tie). AreTrue t publications replies) (sym rule) known in
     let named : AreInOrder (last_number d.machine) 0 d.sent replies = subst (λ (n : ℕ). AreInOrder n 0 d.sent replies) ends (subst (λ (q : List Sent). AreInOrder last 0 q replies) (sym sends) order) in
-    part_is d.machine d.sent replies 0 ruled named
+    part_is d.machine publications d.sent replies 0 published ruled named

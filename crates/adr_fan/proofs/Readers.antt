@@ -6,11 +6,11 @@ use Rattle.adr_model.specs.Book.{Book}
 use Rattle.adr_model.specs.Edits.{after}
 use Rattle.adr_model.specs.Machine.{Publication, State, book_of, last_book, last_number, opening}
 use Rattle.adr_model.specs.Queries.{Query, answer, at_query, list_query, roll_query, types_query}
-use Rattle.adr_server.specs.declared.command.Command.TheVariants.{Edit, Publish, Condense, At, List as Listed, Roll, Types}
-use Rattle.adr_server.specs.Fan.{FanLeavesTheState, answer_from}
-use Rattle.adr_server.specs.Laws.{AcceptedEditsLeaveTheState, PublishedStatesTellTheLeastMatching, PublishedTimelinesGiveTheLeastMatching, TellsStates, TellsTimelines}
-use Rattle.adr_server.specs.Reached.{IsLeftBy, accepted_edits}
-use Rattle.adr_server.specs.Text.{answer_line, query_reply}
+use Rattle.adr_resolver.specs.declared.command.Command.TheVariants.{Edit, Publish, Condense, At, List as Listed, Roll, Types}
+use Rattle.adr_resolver.specs.Fan.{FanLeavesTheState, answer_from}
+use Rattle.adr_resolver.specs.Laws.{AcceptedEditsLeaveTheState, PublishedStatesTellTheLeastMatching, PublishedTimelinesGiveTheLeastMatching, TellsStates, TellsTimelines}
+use Rattle.adr_resolver.specs.Reached.{IsLeftBy, accepted_edits}
+use Rattle.adr_resolver.specs.Text.{answer_line, query_reply}
 use Rattle.adr_fan.specs.Laws.{ReadersReplyAsScripts, ReadersTellTheLeastMatching, as_shown, editor_after}
 
 -- the publication of the number is the last of those up to it

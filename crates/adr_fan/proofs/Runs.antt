@@ -1,5 +1,5 @@
 -- From what the loop told and the readers handed back to what was written.
-use Rattle.std.proofs.Common.{◌≡◌, ℕ, ◌+◌, List, [], ◌++◌, length, Option, refl, ap, ◌∙◌, sym, subst, append-nil, inl, inr}
+use Rattle.std.proofs.Common.{◌≡◌, ℕ, ◌+◌, ◌≤◌, arith, List, [], ◌++◌, length, Option, refl, ap, ◌∙◌, sym, subst, append-nil, inl, inr}
 use Rattle.std.proofs.lemmas.Result.{on_ok_weaker}
 use Rattle.std.specs.declared.vec.Vec.{Vec}
 use Rattle.std.specs.Prelude.{◌^◌, Result, Ok, Err, true, false, IfOk, OnOk, IsErrOf}
@@ -20,8 +20,8 @@ use Rattle.adr_fan.specs.declared.levels.Ending.TheVariants.{All, ReadFailed, No
 use Rattle.adr_fan.specs.declared.levels.Stop.{Stop}
 use Rattle.adr_fan.specs.declared.levels.Stop.TheVariants.{WriteFailed, NoRuntime}
 use Rattle.adr_fan.specs.declared.reading.Reply.{Reply}
-use Rattle.adr_server.specs.Fan.{Fan, fan_start, AreReaderParts, IsFannedOf}
-use Rattle.adr_fan.specs.Levels.{lines_told, GoesOn, HasTold, HasToldInPart, IsServed, WritesPart, IsFannedInPart, IsCutShort, ended_as, fault_of, HasWritten, IsFanRun}
+use Rattle.adr_resolver.specs.Fan.{Fan, fan_start, AreReaderParts, IsFannedOf}
+use Rattle.adr_fan.specs.Levels.{lines_told, GoesOn, HasTold, HasToldInPart, IsServed, WritesPart, IsFannedInPart, IsCutShort, ended_as, fault_of, HasWritten, IsFanOutcome}
 use Rattle.adr_fan.specs.Parts.{AreParts, all_texts}
 use Rattle.adr_fan.proofs.Parts.{parts_are}
 use Rattle.adr_fan.proofs.CutShort.{Answers, fanned, fanned_in_part, told_in_part}
@@ -126,57 +126,72 @@ all_parts t (Ok c) (Ok d) goes all = goes.0.2 all
 
 -- ---- how a run ends
 
-pub not_opened : (tie : Tie) (readers : ℕ) (a d : Known) (reads : ReadLog) (writes : WriteLog) → has_write_failed writes ≡ false → IsFanRun tie readers a a d d reads writes (Err Runtime)
-not_opened tie readers a d reads writes fresh = record {
-  ok = tt;
-  end = tt;
-  reading = λ k. absurd (cc k);
-  reads_end = λ k. absurd (cc k);
-  writing = λ k. absurd (cc k);
-  runtime = λ k. stopped tie readers (fan_start tie) (fan_start tie) a a d d refl (told_nothing (fan_start tie) a d);
-  ended = tt;
+pub not_opened : (tie : Tie) (readers : ℕ) (a d : Known) (reads : ReadLog) (writes : WriteLog) → reads_made reads ≡ 0 → has_write_failed writes ≡ false → IsFanOutcome tie readers a a d d reads writes (Err Runtime)
+not_opened tie readers a d reads writes none fresh = record {
+  run = record {
+    ok = tt;
+    end = tt;
+    reading = λ k. absurd (cc k);
+    reads_end = λ k. absurd (cc k);
+    writing = λ k. absurd (cc k);
+    runtime = λ k. stopped tie readers (fan_start tie) (fan_start tie) a a d d refl (told_nothing (fan_start tie) a d);
+  };
+  cause = record {
+    bound = omega (arith, none);
+    ended = tt;
+    read_failed = λ k. absurd (cc k);
+    no_more_reads = λ k. absurd (cc k);
+    write_failed = λ k. absurd (cc k);
+    write_ends = λ h. absurd (cc (h, fresh));
+  };
   read_ends = tt;
-  write_ends = λ h. absurd (cc (h, fresh));
-  read_failed = λ k. absurd (cc k);
-  no_more_reads = λ k. absurd (cc k);
-  write_failed = λ k. absurd (cc k);
 }
 
 stopped_as : (tie : Tie) (readers : ℕ) {s t : Fan} {a b d e : Known} {reads : ReadLog} {writes : WriteLog} (stop : Stop)
-    → s ≡ fan_start tie → IsServed s a b d e reads writes t (Err stop) → IsFanRun tie readers a b d e reads writes (Err (fault_of stop))
-stopped_as tie readers {s = s} {t = t} {a = a} {b = b} {d = d} {e = e} WriteFailed start served = record {
-  ok = tt;
-  end = tt;
-  reading = λ k. absurd (cc k);
-  reads_end = λ k. absurd (cc k);
-  writing = λ k. stopped tie readers s t a b d e start served.err;
-  runtime = λ k. absurd (cc k);
-  ended = tt;
+    → s ≡ fan_start tie → IsServed s a b d e reads writes t (Err stop) → reads_made reads ≤ 2 ^ 32 → IsFanOutcome tie readers a b d e reads writes (Err (fault_of stop))
+stopped_as tie readers {s = s} {t = t} {a = a} {b = b} {d = d} {e = e} WriteFailed start served bound = record {
+  run = record {
+    ok = tt;
+    end = tt;
+    reading = λ k. absurd (cc k);
+    reads_end = λ k. absurd (cc k);
+    writing = λ k. stopped tie readers s t a b d e start served.err;
+    runtime = λ k. absurd (cc k);
+  };
+  cause = record {
+    bound = bound;
+    ended = tt;
+    read_failed = λ k. absurd (cc k);
+    no_more_reads = λ k. absurd (cc k);
+    write_failed = λ k. served.write_failed refl;
+    write_ends = λ h. refl;
+  };
   read_ends = tt;
-  write_ends = λ h. refl;
-  read_failed = λ k. absurd (cc k);
-  no_more_reads = λ k. absurd (cc k);
-  write_failed = λ k. served.write_failed refl;
 }
-stopped_as tie readers {s = s} {t = t} {a = a} {b = b} {d = d} {e = e} NoRuntime start served = record {
-  ok = tt;
-  end = tt;
-  reading = λ k. absurd (cc k);
-  reads_end = λ k. absurd (cc k);
-  writing = λ k. absurd (cc k);
-  runtime = λ k. stopped tie readers s t a b d e start served.err;
-  ended = tt;
+stopped_as tie readers {s = s} {t = t} {a = a} {b = b} {d = d} {e = e} NoRuntime start served bound = record {
+  run = record {
+    ok = tt;
+    end = tt;
+    reading = λ k. absurd (cc k);
+    reads_end = λ k. absurd (cc k);
+    writing = λ k. absurd (cc k);
+    runtime = λ k. stopped tie readers s t a b d e start served.err;
+  };
+  cause = record {
+    bound = bound;
+    ended = tt;
+    read_failed = λ k. absurd (cc k);
+    no_more_reads = λ k. absurd (cc k);
+    write_failed = λ k. absurd (cc k);
+    write_ends = λ h. absurd (cc (served.write_ends h));
+  };
   read_ends = tt;
-  write_ends = λ h. absurd (cc (served.write_ends h));
-  read_failed = λ k. absurd (cc k);
-  no_more_reads = λ k. absurd (cc k);
-  write_failed = λ k. absurd (cc k);
 }
 
 pub stopped_run : (tie : Tie) (readers : ℕ) {s t : Fan} {a b d e : Known} {reads : ReadLog} {writes : WriteLog} (stop : Stop) (fault : Fault)
-    → s ≡ fan_start tie → fault ≡ fault_of stop → IsServed s a b d e reads writes t (Err stop) → IsFanRun tie readers a b d e reads writes (Err fault)
-stopped_run tie readers {a = a} {b = b} {d = d} {e = e} {reads = reads} {writes = writes} stop fault start is served =
-    subst (λ f. IsFanRun tie readers a b d e reads writes (Err f)) (sym is) (stopped_as tie readers stop start served)
+    → s ≡ fan_start tie → fault ≡ fault_of stop → IsServed s a b d e reads writes t (Err stop) → reads_made reads ≤ 2 ^ 32 → IsFanOutcome tie readers a b d e reads writes (Err fault)
+stopped_run tie readers {a = a} {b = b} {d = d} {e = e} {reads = reads} {writes = writes} stop fault start is served bound =
+    subst (λ f. IsFanOutcome tie readers a b d e reads writes (Err f)) (sym is) (stopped_as tie readers stop start served bound)
 
 -- what a run owes of the text, and how its input ended
 abbrev Owes : Tie → ℕ → Known → Known → Known → Known → Ending → Result (Unit {0}) Fault → Type 0
@@ -200,24 +215,29 @@ owed_cut tie readers a b c e ending h = (tt, (λ k. absurd (cc k)), (λ k. absur
 
 pub ended : (tie : Tie) (readers : ℕ) {s t : Fan} {a b d e f : Known} {reads : ReadLog} {before after : WriteLog} (c : Collected) (result : Result (Unit {0}) Fault)
     → s ≡ fan_start tie → IsServed s a b d e reads before t (Ok c) → AreParts t c.parts.items → length c.parts.items ≡ readers → HasWritten c.ending result e f (all_texts 0 c.parts.items)
-    → (has_write_failed after ≡ true → result ≡ Err Writing) → (IsErrOf result Writing → has_write_failed after ≡ true)
-    → IsFanRun tie readers a b d f reads after result
-ended tie readers {s = s} {t = t} {a = a} {b = b} {d = d} {e = e} {f = f} c result start served all count written write_ends write_failed =
+    → (has_write_failed after ≡ true → result ≡ Err Writing) → (IsErrOf result Writing → has_write_failed after ≡ true) → reads_made reads ≤ 2 ^ 32
+    → IsFanOutcome tie readers a b d f reads after result
+ended tie readers {s = s} {t = t} {a = a} {b = b} {d = d} {e = e} {f = f} c result start served all count written write_ends write_failed bound =
     let owes : Owes tie readers a b d f c.ending result = elim written [
       | inl w ↦ subst (Owes tie readers a b d f c.ending) (sym w.0) (owed_cut tie readers a b d f c.ending (part_written tie readers s t start c.parts.items all count c.ending a b d e f served.told w.1))
       | inr w ↦ subst (Owes tie readers a b d f c.ending) (sym w.0) (owed tie readers a b d f c.ending (all_written tie readers s t start c.parts.items all count c.ending a b d e f served.told w.1))
     ] in
     record {
-      ok = owes.0;
-      end = on_ok_weaker result served.end owes.5;
-      reading = owes.1;
-      reads_end = owes.2;
-      writing = owes.3;
-      runtime = λ k. absurd (owes.4 k);
-      ended = on_ok_weaker result served.ended owes.5;
+      run = record {
+        ok = owes.0;
+        end = on_ok_weaker result served.end owes.5;
+        reading = owes.1;
+        reads_end = owes.2;
+        writing = owes.3;
+        runtime = λ k. absurd (owes.4 k);
+      };
+      cause = record {
+        bound = bound;
+        ended = on_ok_weaker result served.ended owes.5;
+        read_failed = λ k. served.read_failed (owes.6 k);
+        no_more_reads = λ k. served.no_more_reads (owes.7 k);
+        write_failed = write_failed;
+        write_ends = write_ends;
+      };
       read_ends = on_ok_weaker result served.read_ends owes.5;
-      write_ends = write_ends;
-      read_failed = λ k. served.read_failed (owes.6 k);
-      no_more_reads = λ k. served.no_more_reads (owes.7 k);
-      write_failed = write_failed;
     }

@@ -5,11 +5,11 @@ use Rattle.adr_model.specs.Edits.{after}
 use Rattle.adr_model.specs.Machine.{State, book_of, last_number}
 use Rattle.adr_model.specs.Queries.{Query}
 use Rattle.adr_script.specs.Text.{state_but}
-use Rattle.adr_server.specs.declared.command.Command.{Command}
-use Rattle.adr_server.specs.Fan.{answer_from, fan_next, fan_start}
-use Rattle.adr_server.specs.Laws.{TellsStates, TellsTimelines}
-use Rattle.adr_server.specs.Reached.{accepted_edits}
-use Rattle.adr_server.specs.Text.{command_reply, query_of}
+use Rattle.adr_resolver.specs.declared.command.Command.{Command}
+use Rattle.adr_resolver.specs.Fan.{answer_from, fan_next, fan_start}
+use Rattle.adr_resolver.specs.Laws.{TellsStates, TellsTimelines}
+use Rattle.adr_resolver.specs.Reached.{accepted_edits}
+use Rattle.adr_resolver.specs.Text.{command_reply, query_of}
 
 -- the editor's state after these lines, where those that a mark stands for were refused for want of memory
 abbrev pub editor_after : Tie → List Bool → List (List ℕ) → State

@@ -16,7 +16,8 @@ use Rattle.adr_fan.specs.declared.levels.Ending.TheVariants.{All, ReadFailed, No
 use Rattle.adr_fan.specs.declared.levels.Stop.{Stop}
 use Rattle.adr_fan.specs.declared.levels.Stop.TheVariants.{WriteFailed, NoRuntime}
 use Rattle.adr_fan.specs.Parts.{AreParts}
-use Rattle.adr_server.specs.Fan.{Fan, fan_reply, fan_next, IsFanned, IsFannedOf}
+use Rattle.adr_resolver.specs.Fan.{Fan, fan_reply, fan_next, IsFanned, IsFannedOf}
+use Rattle.adr_resolver.specs.Outcome.{IsCaused}
 
 -- the lines that are answered where the input ended so
 abbrev pub lines_told : Ending → List ℕ → List (List ℕ)
@@ -81,17 +82,19 @@ fault_of NoRuntime = Runtime
 abbrev pub HasWritten : Ending → Result (Unit {0}) Fault → Option (List ℕ) → Option (List ℕ) → List ℕ → Type 0
 HasWritten ending result old new text = ((result ≡ Err Writing) × WritesPart old new text) ⊎ ((result ≡ ended_as ending) × Appends old new text)
 
--- what a run with so many readers leaves: the text, by how it ended, and what its reads and writes met
-pub record IsFanRun (tie : Tie) (readers : ℕ) (left_old left_new held_old held_new : Option (List ℕ)) (reads : ReadLog) (writes : WriteLog) (result : Result (Unit {0}) Fault) : Type 0 where
+-- What was written is a text of many readers of what was read, by how the run ended. At the end of the input all lines are
+-- answered. Where no more is read, those that were complete are, and the begun one isn't. Where no more is written, or a
+-- thread or its replies are missing, the text stops somewhere.
+pub record IsFanRun (tie : Tie) (readers : ℕ) (left_old left_new held_old held_new : Option (List ℕ)) (result : Result (Unit {0}) Fault) : Type 0 where
   pub ok : OnOk result (Moves left_old left_new held_old held_new (λ bytes out. IsFanned tie bytes readers out))
   pub end : OnOk result (IsAtEnd left_new)
   pub reading : IsErrOf result Reading → Moves left_old left_new held_old held_new (λ bytes out. IsFannedOf tie (complete_lines bytes) readers out)
   pub reads_end : IsErrOf result Reads → Moves left_old left_new held_old held_new (λ bytes out. IsFannedOf tie (complete_lines bytes) readers out)
   pub writing : IsErrOf result Writing → Moves left_old left_new held_old held_new (λ bytes out. IsCutShort tie bytes readers out)
   pub runtime : IsErrOf result Runtime → Moves left_old left_new held_old held_new (λ bytes out. IsCutShort tie bytes readers out)
-  pub ended : OnOk result (has_ended reads ≡ true)
+
+-- and what its reads and writes met
+pub record IsFanOutcome (tie : Tie) (readers : ℕ) (left_old left_new held_old held_new : Option (List ℕ)) (reads : ReadLog) (writes : WriteLog) (result : Result (Unit {0}) Fault) : Type 0 where
+  pub run : IsFanRun tie readers left_old left_new held_old held_new result
+  pub cause : IsCaused reads writes result
   pub read_ends : OnOk result (has_read_failed reads ≡ false)
-  pub write_ends : has_write_failed writes ≡ true → result ≡ Err Writing
-  pub read_failed : IsErrOf result Reading → has_read_failed reads ≡ true
-  pub no_more_reads : IsErrOf result Reads → reads_made reads ≡ 2 ^ 32
-  pub write_failed : IsErrOf result Writing → has_write_failed writes ≡ true

@@ -3,23 +3,24 @@ use Rattle.std.specs.Prelude.{◌≡◌, ◌≤◌, ◌<◌, ℕ, ◌+◌, List,
 use Rattle.std.specs.List.{AllByRecursion}
 use Rattle.std.specs.declared.vec.Vec.{Vec}
 use Rattle.adr_model.specs.declared.entry.Tie.{Tie}
-use Rattle.adr_model.specs.Machine.{Publication, opening}
 use Rattle.adr_model.specs.Queries.{Query, answer}
+use Rattle.adr_book.specs.Ledger.{Ledger}
+use Rattle.adr_board.specs.Publications.{opening_book}
 use Rattle.adr_script.specs.Script.{no_memory}
-use Rattle.adr_server.specs.Fan.{Fan, Sent, IsReaderPart, reader_line}
-use Rattle.adr_server.specs.Text.{answer_line}
+use Rattle.adr_resolver.specs.Fan.{Fan, Sent, IsReaderPart, reader_line}
+use Rattle.adr_resolver.specs.Text.{answer_line}
 use Rattle.adr_fan.specs.declared.reading.Reply.{Reply}
 
 -- the text is the answer to a query, of the publication of this number
-abbrev pub IsAnswer : Tie → List Publication → ℕ → Query → List ℕ → Type 0
+abbrev pub IsAnswer : Tie → List Ledger → ℕ → Query → List ℕ → Type 0
 IsAnswer tie publications number query text =
-    (number < length publications) × (text ≡ answer_line (answer tie (get_or publications number opening).book query))
+    (number < length publications) × (text ≡ answer_line (answer tie (get_or publications number opening_book).objects query))
 
 -- a reply that has a text is the answer of the publication whose number it names
-abbrev pub IsTrueReply : Tie → List Publication → Reply → Type 0
+abbrev pub IsTrueReply : Tie → List Ledger → Reply → Type 0
 IsTrueReply tie publications r = IfSome r.text (λ text. IsAnswer tie publications r.shown r.sent.query text.items)
 
-abbrev pub AreTrue : Tie → List Publication → List Reply → Type 0
+abbrev pub AreTrue : Tie → List Ledger → List Reply → Type 0
 AreTrue tie publications replies = AllByRecursion (IsTrueReply tie publications) replies
 
 -- the replies name these queries, in order, each with its number; none is from a publication that is older than that

@@ -2,13 +2,13 @@
 ghost use Rattle.std.specs.Prelude.{◌≡◌, IfSome, Ok, Err};
 ghost use Rattle.adr_refusal.specs.Answer.{Answers, result_map};
 ghost use Rattle.adr_model.specs.Queries.{answer as answer_of};
-ghost use Rattle.adr_server.specs.Text.{answer_line, refusal_line};
+ghost use Rattle.adr_resolver.specs.Text.{answer_line, refusal_line};
 ghost use Rattle.adr_fan.specs.Queries.{query_in};
 
 use crate::queries::Query;
 use adr_board::Snapshot;
 use adr_calendar::{at, list, roll, types};
-use adr_server::put_refusal;
+use adr_resolver::put_refusal;
 use adr_value::Refusal;
 use std::alloc::Global;
 

@@ -1,7 +1,7 @@
 //! The laws of the readers' replies.
 ghost use Rattle.adr_fan.specs.Laws.{ReadersReplyAsScripts, ReadersTellTheLeastMatching};
 
-use adr_server::{fan_laws, least_matching_interval_governs};
+use adr_resolver::{fan_laws, least_matching_interval_governs};
 
 /// What the replies of readers promise, in the text that `fan` writes. A reader's reply to a query, from a publication, is
 /// what a script without readers is told where that publication is the last. So after any lines, of which any may be refused

@@ -13,5 +13,5 @@ mod script;
 mod writing;
 
 pub use adr_board::{Gate, NoGate};
-pub use fanning::{fan, fan_logged};
+pub use fanning::fan;
 pub use laws::reader_laws;

@@ -25,7 +25,7 @@ pub(crate) struct Sent {
 }
 
 impl Model for Sent {
-    ghost use Rattle.adr_server.specs.Fan.{Sent as Asked};
+    ghost use Rattle.adr_resolver.specs.Fan.{Sent as Asked};
     ghost use Rattle.adr_fan.specs.Queries.{query_in};
 
     ghost Value = { Asked };

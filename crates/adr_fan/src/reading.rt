@@ -1,7 +1,7 @@
 //! A reader's thread.
 ghost use Rattle.std.specs.Prelude.{◌≡◌, IfSome};
 ghost use mathlib.Core.List.{IsPrefix};
-ghost use Rattle.adr_server.specs.Text.{answer_line};
+ghost use Rattle.adr_resolver.specs.Text.{answer_line};
 ghost use Rattle.adr_model.specs.Queries.{answer as answer_of};
 ghost use Rattle.adr_fan.specs.Parts.{IsTrueReply, AreTrue};
 

@@ -1,8 +1,8 @@
 //! The editor's side: what answers the lines.
 ghost use Rattle.std.specs.Prelude.{◌≡◌, ◌≤◌, ◌++◌, ◌∷◌, [], OnOk, OnErr, IfSome, vec_capacity};
-ghost use Rattle.adr_server.specs.declared.command.Command.TheVariants.{Edit as EditCommand, Publish as PublishCommand, Condense as CondenseCommand};
+ghost use Rattle.adr_resolver.specs.declared.command.Command.TheVariants.{Edit as EditCommand, Publish as PublishCommand, Condense as CondenseCommand};
 ghost use Rattle.adr_model.specs.Machine.{last_number};
-ghost use Rattle.adr_server.specs.Fan.{editor_reply, editor_next, sent_reply, with_query};
+ghost use Rattle.adr_resolver.specs.Fan.{editor_reply, editor_next, sent_reply, with_query};
 ghost use Rattle.adr_fan.specs.Parts.{AreTrue, IsPart};
 ghost use Rattle.adr_fan.specs.Queries.{query_in};
 
@@ -12,8 +12,8 @@ use crate::queries::{Query, Sent};
 use crate::reading::{Part, Reply};
 use adr_board::{Editor, Naming};
 use adr_object::Edit;
+use adr_resolver::{Command, parse_line, put_condensed, put_ok, put_published, put_refusal};
 use adr_script::{Machine, Unanswered};
-use adr_server::{Command, parse_line, put_condensed, put_ok, put_published, put_refusal};
 use adr_value::Refusal;
 use std::alloc::{AllocError, Global};
 use std::marker::Model;
@@ -31,11 +31,12 @@ pub(crate) struct FanDesk<J: Naming> {
 
 impl<J: Naming> Model for FanDesk<J> {
     ghost use Rattle.std.specs.Prelude.{[]};
-    ghost use Rattle.adr_server.specs.Fan.{Fan};
+    ghost use Rattle.adr_board.specs.Publications.{publications_in};
+    ghost use Rattle.adr_resolver.specs.Fan.{Fan};
 
     ghost Value = { Fan };
 
-    ghost view = { λ d. record { machine = record { tie = d.editor.tie; base = d.editor.book.base.version; current = d.editor.book.objects; published = d.editor.published; pending = d.editor.book.pending; seen = [] }; sent = d.sent.items } };
+    ghost view = { λ d. record { machine = record { tie = d.editor.tie; base = d.editor.book.base.version; current = d.editor.book.objects; published = publications_in d.editor.published; pending = d.editor.book.pending; seen = [] }; sent = d.sent.items } };
 }
 
 impl<J: Naming> FanDesk<J> {
@@ -61,6 +62,7 @@ impl<J: Naming> FanDesk<J> {
     }
 
     /// Publishes the objects as they are.
+    #[tactic(auto, using(adr_board::proofs::Linked::publications_push, adr_board::proofs::Linked::publications_long))]
     fn publish<R: Wait>(&mut self, rt: &R, reply: &mut Vec<u8>) -> Result<(), Unanswered>
         requires empty { reply.old.items ≡ [] }
         requires room { 64 ≤ vec_capacity reply.old }
@@ -85,7 +87,7 @@ impl<J: Naming> FanDesk<J> {
     }
 
     /// Makes the last publication the base.
-    #[tactic(auto, using(crate::proofs::Lasts::last_of_is, crate::proofs::Lasts::version_at_end))]
+    #[tactic(auto, using(crate::proofs::Lasts::last_objects, crate::proofs::Lasts::version_at_end))]
     fn condense(&mut self, reply: &mut Vec<u8>) -> Result<(), Unanswered>
         requires empty { reply.old.items ≡ [] }
         requires room { 64 ≤ vec_capacity reply.old }
@@ -160,6 +162,7 @@ impl<J: Naming> FanDesk<J> {
     }
 
     /// The number of the last publication.
+    #[tactic(auto, using(crate::proofs::Lasts::number_at_end))]
     fn last_number(&self) -> u64
         ensures { result ≡ last_number self.now.machine }
     {
@@ -216,7 +219,7 @@ pub(crate) fn close_all<R: Wait>(rt: &R, boxes: &[Arc<Mailbox>]) {
 
 impl<J: Naming> Machine for FanDesk<J> {
     ghost use Rattle.adr_script.specs.Text.{AnswersBy};
-    ghost use Rattle.adr_server.specs.Fan.{fan_reply, fan_next};
+    ghost use Rattle.adr_resolver.specs.Fan.{fan_reply, fan_next};
 
     ghost answers = { AnswersBy fan_reply fan_next };
 

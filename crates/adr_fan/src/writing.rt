@@ -3,7 +3,7 @@ ghost use Rattle.std.specs.Prelude.{◌≡◌, ◌++◌, true, OnOk, OnErr, code
 ghost use Rattle.std.specs.Fmt.{decimal};
 ghost use Rattle.std.specs.Io.KnownBytes.{Appends};
 ghost use Rattle.adr_script.specs.Logs.{has_write_failed};
-ghost use Rattle.adr_server.specs.Fan.{reader_line};
+ghost use Rattle.adr_resolver.specs.Fan.{reader_line};
 ghost use Rattle.adr_fan.specs.Levels.{WritesPart};
 ghost use Rattle.adr_fan.specs.Parts.{text_or, texts, all_texts};
 

@@ -7,6 +7,7 @@ use Rattle.std.proofs.lemmas.List.Sums.{fold_push, fold-append}
 use Rattle.std.proofs.lemmas.Slice.Eq.{bytes_eq-Decides}
 use Rattle.std.specs.List.{list_any}
 use Rattle.std.specs.Str.{bytes_eq}
+use Rattle.adr_value.specs.Limits.{Limits, limits}
 use Rattle.adr_value.specs.Payload.{name_of}
 use Rattle.adr_value.specs.Same.{same_type}
 use Rattle.adr_value.specs.declared.payload.PayloadType.{PayloadType}
@@ -18,7 +19,7 @@ use Rattle.adr_refusal.specs.declared.refusal.Refusal.{Refusal}
 use Rattle.adr_refusal.proofs.Judged.{none_is_none}
 use Rattle.adr_object.specs.declared.object.Edit.{Edit}
 use Rattle.adr_model.specs.Book.{Book, empty}
-use Rattle.adr_model.specs.Edits.{after, after_from, fault_if, faults, faults_to, full_at, has_id, is_named, layout_faults, made, step, step_by, step_to}
+use Rattle.adr_model.specs.Edits.{after, after_from, fault_if, faults, faults_by, faults_to, full_at, has_id, is_named, layout_faults, made, step, step_by, step_to}
 use Rattle.adr_value.specs.declared.limits.TheConstants.{MOST_VERSION}
 use Rattle.adr_refusal.specs.declared.refusal.Refusal.TheVariants.{Full, InUse, NotThere}
 use Rattle.adr_object.specs.declared.object.Edit.TheVariants.{Create, Change, Remove}
@@ -32,9 +33,12 @@ judged_value {T = T} fs v w h = by (least_fault fs) refl h
     by (Some f) e k = absurd (cc)
 
 -- an accepted edit has no fault, and the next book is the one with the edit made
-pub accepted_to : (full : ℕ) (old new : Book) (edit : Edit) → step_to full old edit ≡ Ok new → (faults_to full old edit ≡ []) × (made old edit ≡ new)
+pub accepted_by : (most : Limits) (full : ℕ) (old new : Book) (edit : Edit) → step_by most full old edit ≡ Ok new → (faults_by most full old edit ≡ []) × (made old edit ≡ new)
 unfolding step_by
-accepted_to full old new edit h = judged_value (faults_to full old edit) (made old edit) new h
+accepted_by most full old new edit h = judged_value (faults_by most full old edit) (made old edit) new h
+
+pub accepted_to : (full : ℕ) (old new : Book) (edit : Edit) → step_to full old edit ≡ Ok new → (faults_to full old edit ≡ []) × (made old edit ≡ new)
+accepted_to full old new edit h = accepted_by limits full old new edit h
 
 pub accepted : (old new : Book) (edit : Edit) → step old edit ≡ Ok new → (faults old edit ≡ []) × (made old edit ≡ new)
 accepted old new edit h = accepted_to MOST_VERSION old new edit h

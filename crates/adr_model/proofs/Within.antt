@@ -20,7 +20,7 @@ use Rattle.adr_object.specs.declared.object.Edit.{Edit}
 use Rattle.adr_object.specs.declared.object.Edit.TheVariants.{Create, Change, Remove}
 use Rattle.adr_model.specs.declared.written.Written.{Written}
 use Rattle.adr_model.specs.Book.{Book, empty}
-use Rattle.adr_model.proofs.EditLemmas.{judged_value}
+use Rattle.adr_model.proofs.EditLemmas.{accepted_by}
 use Rattle.adr_model.specs.Edits.{after_from, count_of, entries_beside, entry_count, fault_if, faults_by, has_id, has_too_many_entries_by, is_full_for_by, is_named, layout_faults, made, most_objects_by, reference_faults, step_by}
 use Rattle.adr_model.specs.Whole.{event_ids}
 use Rattle.adr_model.specs.Within.{BooksAreWithin, EditsKeepLimits, IsWithin, after_by, entries_in_all}
@@ -210,11 +210,6 @@ module _ (l : Limits) (full : ℕ) (book : Book) where
   made_ids d (Remove event_kind id) f = distinct_filter bytes_eq event_id (λ w. not (bytes_eq id w.event.id)) book.events d
 
 -- ---- every book of accepted edits
-
--- an accepted edit has no fault, and the next book is the one with the edit made
-accepted_by : (l : Limits) (full : ℕ) (old new : Book) (edit : Edit) → step_by l full old edit ≡ Ok new → (faults_by l full old edit ≡ []) × (made old edit ≡ new)
-unfolding step_by
-accepted_by l full old new edit h = judged_value (faults_by l full old edit) (made old edit) new h
 
 pub edits_keep_limits : EditsKeepLimits
 edits_keep_limits l full base [] d w = w

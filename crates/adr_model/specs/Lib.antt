@@ -3,6 +3,7 @@ pub mod Book
 pub mod Edits
 pub mod Entries
 pub mod Governor
+pub mod Kept
 pub mod Laws
 pub mod Layout
 pub mod Lists

@@ -2,13 +2,14 @@
 use Rattle.std.specs.Prelude.{◌≡◌, ◌≤◌, ℕ, true, eqb, List, map, IsOk, Ok}
 use Rattle.std.specs.List.{IsDistinct}
 use Rattle.std.specs.Str.{bytes_eq}
+use Rattle.adr_value.specs.Limits.{Limits}
 use Rattle.adr_object.specs.declared.party.Resource.{Resource}
 use Rattle.adr_object.specs.declared.object.Kind.TheVariants.{Program as program_kind, Ven as ven_kind}
 use Rattle.adr_object.specs.declared.object.Edit.{Edit}
 use Rattle.adr_model.specs.declared.written.Written.{Written}
 use Rattle.adr_model.specs.Layout.{layout}
 use Rattle.adr_model.specs.Book.{Book}
-use Rattle.adr_model.specs.Edits.{step, after, has_id}
+use Rattle.adr_model.specs.Edits.{step_by, after, after_from, has_id}
 use Rattle.adr_model.specs.Lists.{In}
 
 abbrev pub event_ids : Book → List (List ℕ)
@@ -30,10 +31,14 @@ pub record IsWhole (book : Book) : Type 0 where
   pub vens : (r : Resource) → In r book.resources → has_id book ven_kind r.ven_id ≡ true
   pub layouts : (w : Written) → In w book.events → IsOk (layout w.event)
 
--- an accepted edit keeps a book whole
+-- an accepted edit keeps a book whole, under any limits and wherever the book is full
 abbrev pub StepsKeepWhole : Type 0
-StepsKeepWhole = (old new : Book) (edit : Edit) → IsWhole old → step old edit ≡ Ok new → IsWhole new
+StepsKeepWhole = (l : Limits) (full : ℕ) (old new : Book) (edit : Edit) → IsWhole old → step_by l full old edit ≡ Ok new → IsWhole new
 
--- so every book of accepted edits is
+-- so what edits make of a whole book is whole
+abbrev pub BooksStayWhole : Type 0
+BooksStayWhole = (base : Book) (edits : List Edit) → IsWhole base → IsWhole (after_from base edits)
+
+-- and every book of accepted edits is
 abbrev pub BooksAreWhole : Type 0
 BooksAreWhole = (edits : List Edit) → IsWhole (after edits)

@@ -1,6 +1,6 @@
 //! What follows from the definitions. Each function's clause is a law, and its body does nothing.
 ghost use Rattle.adr_model.specs.Laws.{AcceptedEditsCount, BasesOnlyRefuse, JournalsGoOn, LooksShowNoEarlier, PublicationsAreTheirEdits, PublicationsFollow, PublicationsStay, ReadersStayBehind, RefusedEditsChangeNothing, RepeatsAreOneEntry, RollTellsEach, RollTellsWhatAtTells, SeenNeverFalls, SegmentsAreApart, SegmentsAreInOrder, SegmentsBeginAtChanges, SegmentsCoverAll, SegmentsShowOne, TypesGovernSometime, UntilIsTheNextChange, VersionsAreEdits, VersionsCountEdits};
-ghost use Rattle.adr_model.specs.Whole.{BooksAreWhole, StepsKeepWhole};
+ghost use Rattle.adr_model.specs.Whole.{BooksAreWhole, BooksStayWhole, StepsKeepWhole};
 ghost use Rattle.adr_model.specs.Within.{BooksAreWithin, EditsKeepLimits, EntriesAreCounted, TypesAreCounted};
 
 /// The laws of edits: one that is refused changes nothing, one that is accepted makes the version one more, and
@@ -53,10 +53,12 @@ pub fn machine_laws()
     ensures versions { VersionsCountEdits }
 {}
 
-/// Every book that accepted edits leave is whole: ids are distinct, each event has a number of its own that is
-/// at most the version, each program and ven that is named is there, and every event can be laid out.
+/// Every book that accepted edits leave, of the empty book or of any whole one, is whole: ids are distinct, each
+/// event has a number of its own that is at most the version, each program and ven that is named is there, and every
+/// event can be laid out. So every journal's book is whole, whatever base it goes on from.
 pub fn books_are_whole()
     ensures step { StepsKeepWhole }
+    ensures base { BooksStayWhole }
     ensures after { BooksAreWhole }
 {}
 

@@ -54,8 +54,11 @@ run_grammar places = command_grammar (codes "run") (codes "workers") (tie_names 
 abbrev pub fan_grammar : Places → App
 fan_grammar places = command_grammar (codes "fan") (codes "readers") (tie_names places)
 
+-- `adr` without its commands, which tells its version too
 abbrev pub bare_grammar : App
-bare_grammar = record (new_app (codes "adr")) { top = record (new_app (codes "adr")).top { no_binary_name = true; subcommand_required = true } }
+bare_grammar = record (new_app (codes "adr")) {
+  top = record (new_app (codes "adr")).top { no_binary_name = true; subcommand_required = true; has_version = true };
+}
 
 -- `adr` has to be told what to do: `run` or `fan`
 abbrev pub adr_grammar : Places → App

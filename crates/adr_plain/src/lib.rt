@@ -9,4 +9,4 @@ mod segments;
 mod state;
 mod types;
 
-pub use plain::{Plain, Published};
+pub use plain::Plain;

@@ -2,7 +2,7 @@
 ghost use Rattle.std.specs.Prelude.{◌≡◌, ◌+◌, ◌++◌, ◌⊎◌, ◌<◌, ◌≤◌, OnOk, OnErr, IfOk, IfErr, Ok, Err};
 ghost use Rattle.adr_refusal.specs.Answer.{Answers, OnlyNoMemory, result_map};
 ghost use Rattle.adr_refusal.specs.declared.refusal.Refusal.TheVariants.{NoMemory, Full};
-ghost use Rattle.adr_plain.specs.Kept.{kept_start};
+ghost use Rattle.adr_model.specs.Kept.{kept_start};
 ghost use Rattle.adr_model.specs.Edits.{full_at, step_to};
 ghost use Rattle.adr_model.specs.Answer.{at};
 ghost use Rattle.adr_model.specs.Queries.{list, roll, types};
@@ -12,20 +12,13 @@ use crate::state::state_of;
 use crate::types::types_of;
 use adr_book::{Book, judge};
 use adr_calendar::{Calendar, State};
-use adr_model::{Segment, Tie};
+use adr_model::{Published, Segment, Tie};
 use adr_object::{Edit, Id};
 use adr_time::Moment;
 use adr_value::limits::{MOST_PUBLICATIONS, MOST_VERSION};
 use adr_value::{PayloadType, Refusal};
 use std::alloc::Global;
 use std::marker::Model;
-
-/// The number of a publication, and the version that it shows.
-#[derive(Clone, Copy, Debug, PartialEq, Eq)]
-pub struct Published {
-    pub number: u64,
-    pub version: u64,
-}
 
 /// The book, and a copy of it that was made when it was published last.
 pub struct Plain {
@@ -53,7 +46,7 @@ impl Drop for Plain {
 impl Model for Plain {
     ghost use Rattle.std.specs.Prelude.{◌≡◌};
     ghost use Rattle.adr_book.specs.Ledger.{sealed_of};
-    ghost use Rattle.adr_plain.specs.Kept.{Kept};
+    ghost use Rattle.adr_model.specs.Kept.{Kept};
 
     ghost Value = { Kept };
 

@@ -62,13 +62,13 @@ governor_is_least tie book id kind t =
 
 -- ---- of distinct marks there is one least entry
 
-one_mark : (a b : Rank) → goes_before a b ≡ false → goes_before b a ≡ false → ((a.written == b.written) && (a.place == b.place)) ≡ true
+pub one_mark : (a b : Rank) → goes_before a b ≡ false → goes_before b a ≡ false → ((a.written == b.written) && (a.place == b.place)) ≡ true
 one_mark a b h k = grind (arith, ints, nat_tests)
 
 flip_mark : (a b : Entry) → same_mark a b ≡ true → same_mark b a ≡ true
 flip_mark a b h = grind (arith, nat_tests)
 
-one_entry : (es : List Entry) → IsDistinct same_mark es → (e f : Entry) → In e es → In f es → same_mark e f ≡ true → e ≡ f
+pub one_entry : (es : List Entry) → IsDistinct same_mark es → (e f : Entry) → In e es → In f es → same_mark e f ≡ true → e ≡ f
 unfolding IsDistinct
 one_entry [] d e f m n h = absurd m
 one_entry (x ∷ xs) d e f (inl a) (inl b) h = sym a ∙ b

@@ -8,5 +8,6 @@ pub mod Marks
 pub mod Lookups
 pub mod Table
 pub mod Least
+pub mod Alone
 pub mod Shown
 pub mod Types

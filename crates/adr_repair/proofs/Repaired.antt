@@ -7,7 +7,6 @@ use Rattle.adr_value.specs.declared.payload.PayloadType.{PayloadType}
 use Rattle.adr_time.specs.Spans.{covers}
 use Rattle.adr_model.specs.declared.touch.Touch.{Touch}
 use Rattle.adr_model.specs.declared.entry.Tie.{Tie}
-use Rattle.adr_model.specs.Edits.{after}
 use Rattle.adr_model.specs.Governor.{governs}
 use Rattle.adr_model.specs.Touches.{touches}
 use Rattle.adr_repair.specs.Laws.{RepairsAll, AtEachEdit}
@@ -27,9 +26,9 @@ windows_cover id kind t (x ∷ xs) = by (bytes_eq id x.resource) (same_type x.ki
     by true true rest = ap (λ (r : Bool). covers x.window t || r) rest
 
 pub repairs_all : (tie : Tie) → AtEachEdit (RepairsAll tie)
-repairs_all tie edits edit new e id kind t =
-    by (any_covers (windows_of id kind (touches (after edits) new)) t) (sym (windows_cover id kind t (touches (after edits) new)))
+repairs_all tie l full old new edit w e id kind t =
+    by (any_covers (windows_of id kind (touches old new)) t) (sym (windows_cover id kind t (touches old new)))
   where
-    by : (b : Bool) → is_touched (after edits) new id kind t ≡ b → (if b then governs tie new id kind t else governs tie (after edits) id kind t) ≡ governs tie new id kind t
+    by : (b : Bool) → is_touched old new id kind t ≡ b → (if b then governs tie new id kind t else governs tie old id kind t) ≡ governs tie new id kind t
     by true h = refl
-    by false h = governor_stays tie edits edit new e id kind t h
+    by false h = governor_stays tie l full old new edit w e id kind t h

@@ -21,7 +21,6 @@ use Rattle.adr_model.specs.Layout.{layout}
 use Rattle.adr_model.specs.Rank.{carries, ranked}
 use Rattle.adr_model.specs.Answer.{Shown, event_written, first_payload, shown_in, shown_of}
 use Rattle.adr_model.specs.Book.{Book, resource_by}
-use Rattle.adr_model.specs.Edits.{after}
 use Rattle.adr_model.specs.Governor.{applies_to, candidates, entries_for, entries_of, entry_at, governs, winner_of}
 use Rattle.adr_repair.specs.Answers.{GovernorsAreShown}
 use Rattle.adr_model.specs.Lists.{In}
@@ -32,7 +31,6 @@ use Rattle.adr_repair.proofs.Inside.{number_of_entry}
 use Rattle.adr_repair.proofs.Least.{governor_is_least}
 use Rattle.adr_model.proofs.Lists.{In-from_filter, In-from_flat_map, In-from_map}
 use Rattle.adr_repair.proofs.Marks.{entries_from}
-use Rattle.adr_model.proofs.Steps.{after_sound}
 
 -- where one passes, one is found
 pub found-any : {X : Type 0} (p : X → Bool) (xs : List X) → is_some (find p xs) ≡ list_any p xs
@@ -114,12 +112,12 @@ winner_shown tie book s id kind x m =
 
 pub governors_are_shown : GovernorsAreShown
 unfolding candidates
-governors_are_shown tie edits id kind t = by (governs tie (after edits) id kind t) (governor_is_least tie (after edits) id kind t)
+governors_are_shown tie book s id kind t = by (governs tie book id kind t) (governor_is_least tie book id kind t)
   where
-    by : (o : Option Winner) → IsGovernor tie (after edits) id kind t o → is_some (option_and_then (shown_of (after edits) kind) o) ≡ is_some o
+    by : (o : Option Winner) → IsGovernor tie book id kind t o → is_some (option_and_then (shown_of book kind) o) ≡ is_some o
     by None none = refl
     by (Some w) (e, least, is) =
-        let (x, there, same) = In-from_map (ranked tie) (candidates (after edits) id kind t) e least.0 in
-        let listed = In-from_filter (λ (y : Entry). covers y.span t) (entries_for (after edits) id kind) x there in
+        let (x, there, same) = In-from_map (ranked tie) (candidates book id kind t) e least.0 in
+        let listed = In-from_filter (λ (y : Entry). covers y.span t) (entries_for book id kind) x there in
         let winner : winner_of (ranked tie x) ≡ w = ap winner_of same ∙ sym is in
-        subst (λ v. is_some (shown_of (after edits) kind v) ≡ true) winner (winner_shown tie (after edits) (after_sound edits) id kind x listed.0)
+        subst (λ v. is_some (shown_of book kind v) ≡ true) winner (winner_shown tie book s.sound id kind x listed.0)

@@ -2,6 +2,7 @@
 use Rattle.std.specs.Prelude.{◌≡◌, ℕ, Bool, false, List, [], ◌++◌, map, flat_map, Option, Some, None, Ok, if◌then◌else◌}
 use Rattle.std.specs.Str.{bytes_eq}
 use Rattle.std.specs.Option.{option_map_or}
+use Rattle.adr_value.specs.Limits.{Limits}
 use Rattle.adr_object.specs.declared.object.Object.TheVariants.{Program as program, Event as event, Ven as ven, Resource as resource}
 use Rattle.adr_object.specs.declared.object.Kind.TheVariants.{Program as program_kind, Event as event_kind, Ven as ven_kind, Resource as resource_kind}
 use Rattle.adr_object.specs.declared.object.Edit.{Edit}
@@ -9,9 +10,9 @@ use Rattle.adr_object.specs.declared.object.Edit.TheVariants.{Create, Change, Re
 use Rattle.adr_model.specs.declared.touch.Touch.{Touch}
 use Rattle.adr_model.specs.declared.written.Written.{Written}
 use Rattle.adr_model.specs.Book.{Book, resource_by, event_by}
-use Rattle.adr_model.specs.Edits.{step, after}
+use Rattle.adr_model.specs.Edits.{step_by}
 use Rattle.adr_model.specs.Touches.{applying, touches, touches_of, ids_of_both}
-use Rattle.adr_model.specs.Whole.{event_ids}
+use Rattle.adr_model.specs.Whole.{IsWhole, event_ids}
 
 -- the spans of the event that applies
 abbrev pub spans : List ℕ → Option Written → List Touch
@@ -61,8 +62,7 @@ table old new edit =
     (λ r. flat_map (λ e. touched_at old new edit r e) (ids_of_both (event_ids old) (event_ids new)))
     (ids_of_both (map (λ r. r.id) old.resources) (map (λ r. r.id) new.resources))
 
--- the touches of an accepted edit are those of the table
+-- the touches of an accepted edit of a whole book are those of the table, under any limits and wherever the book is full
 abbrev pub TouchesAreTheTable : Type 0
 TouchesAreTheTable =
-    (edits : List Edit) (edit : Edit) (new : Book) → step (after edits) edit ≡ Ok new
-    → touches (after edits) new ≡ table (after edits) new edit
+    (l : Limits) (full : ℕ) (old new : Book) (edit : Edit) → IsWhole old → step_by l full old edit ≡ Ok new → touches old new ≡ table old new edit

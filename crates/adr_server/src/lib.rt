@@ -1,23 +1,10 @@
 #![tactic(auto)]
-//! The script: lines to commands, commands to replies, and a whole run over any reader and writer.
+//! A server of scripts by one name: its lines, its runs, its command line, and the laws of what it writes. It has no call
+//! of its own; who wants no command line takes `adr_resolver`, and `adr_fan` for many readers.
 
-mod command;
-mod edited;
-mod fields;
-mod hands;
-mod laws;
-mod line;
-mod machine;
-mod program;
-mod replies;
-mod resolver;
-
-pub use adr_model::Tie;
-pub use adr_options::{Job, job};
-pub use adr_script::{Fault, Logs, ReadLog, WriteLog, status};
-pub use command::Command;
-pub use laws::{fan_laws, least_matching_interval_governs, limit_laws};
-pub use line::parse_line;
-pub use program::{run, run_logged};
-pub use replies::{put_condensed, put_ok, put_published, put_refusal};
-pub use resolver::Resolver;
+pub use adr_fan::{Gate, NoGate, fan, reader_laws};
+pub use adr_options::{Job, job, lines_by_the_grammar};
+pub use adr_resolver::{
+    Command, Fault, Logs, ReadLog, Tie, WriteLog, fan_laws, least_matching_interval_governs,
+    limit_laws, parse_line, run, status,
+};

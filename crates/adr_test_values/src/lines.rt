@@ -4,7 +4,8 @@
 //!     create event ID PROGRAM START LENGTH PRIORITY PRICE VEN
 //!
 //! and the same with `change`, and `delete KIND ID`. A ven's name is its id, an event has one interval with one price; its
-//! priority and the ven that it is for may be `-`.
+//! priority and the ven that it is for may be `-`. Behind the id of any kind its body may stand instead, which begins with a
+//! brace.
 use crate::bodies;
 use adr_object::Edit;
 use adr_value::Refusal;
@@ -42,6 +43,9 @@ fn event_body(alloc: Global, line: &str) -> Result<String, AllocError> {
 
 /// The body of an object of a kind, from what follows its id.
 fn body(alloc: Global, kind: &str, id: &str, line: &str) -> Result<String, AllocError> {
+    if line.starts_with('{') {
+        return String::from_str(alloc, line);
+    }
     match kind {
         "program" => format!(in alloc; r#"{{"programName":"P"}}"#),
         "ven" => format!(in alloc; r#"{{"venName":"{id}"}}"#),

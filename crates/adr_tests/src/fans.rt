@@ -2,7 +2,7 @@
 use crate::scripts::{LATE_QUERY, MEETING, MEETING_TOLD, PRICE, PRICE_THREE_TIMES};
 use crate::streams::{Pieces, Sink};
 use adr_fan::{Gate, NoGate, fan};
-use adr_server::Tie;
+use adr_resolver::{Logs, Tie};
 use std::io::{Read, Write};
 use std::sync::Arc;
 use std::sync::atomic::{AtomicBool, Ordering};
@@ -15,7 +15,16 @@ fn three_readers_answer_each_query(rt: HostRuntime) -> Result<(), Fail> {
     let gate = Arc::new(rt.alloc(), NoGate)?;
     let mut reader = Pieces::new(PRICE, 65_536);
     let mut writer = Sink::new(rt.alloc(), 65_536, 65_536);
-    let ended = fan(&rt, &mut reader, &mut writer, 3, Tie::Newest, &gate);
+    let mut logs = Logs::new();
+    let ended = fan(
+        &rt,
+        &mut reader,
+        &mut writer,
+        &mut logs,
+        3,
+        &gate,
+        Tie::Newest,
+    );
     assert!(rt; ended == Ok(()) && writer.taken.as_slice() == PRICE_THREE_TIMES);
     Ok(())
 }
@@ -124,7 +133,16 @@ fn the_editor_goes_on_while_readers_answer(rt: HostRuntime) -> Result<(), Fail> 
         sink: Sink::new(rt.alloc(), 65_536, 65_536),
         meeting: &gate,
     };
-    let ended = fan(&rt, &mut reader, &mut writer, 2, Tie::Newest, &gate);
+    let mut logs = Logs::new();
+    let ended = fan(
+        &rt,
+        &mut reader,
+        &mut writer,
+        &mut logs,
+        2,
+        &gate,
+        Tie::Newest,
+    );
     assert!(rt; ended == Ok(()) && !gate.missed.load(Ordering::SeqCst));
     assert!(rt; writer.sink.taken.as_slice() == MEETING_TOLD);
     Ok(())

@@ -14,24 +14,46 @@ fn put(index: &mut Index, entry: Entry) -> Result<(), Refusal> {
     index.insert(entry)
 }
 
-/// Three entries, whose written numbers are 4 to 6. The last of them comes first, so that the index has something to put in
-/// order.
+/// The entry with that written number: of three, whose numbers are 4 to 6, or of many, from 10 on, each of which covers one
+/// instant of its own.
+fn written(number: u64) -> Entry {
+    match number {
+        4 => entry(5, 4, span(0, 10)),
+        5 => entry(1, 5, span(5, 15)),
+        6 => entry(9, 6, endless(10)),
+        _ => {
+            let start = i128::from(number) - 10;
+            entry(0, number, span(start, start + 1))
+        }
+    }
+}
+
+/// The three entries. The last of them comes first, so that the index has something to put in order.
 fn three(alloc: Global) -> Result<Index, Refusal> {
     let mut index = Index::new(alloc);
-    put(&mut index, entry(9, 6, endless(10)))?;
-    put(&mut index, entry(5, 4, span(0, 10)))?;
-    put(&mut index, entry(1, 5, span(5, 15)))?;
+    for number in [6, 4, 5] {
+        put(&mut index, written(number))?;
+    }
     Ok(index)
 }
 
-/// Whether the entries with these written numbers were found, in this order, and no others.
+/// Whether the two are alike in their rank, their place in the event and their span.
+fn is_same(entry: &Entry, other: &Entry) -> bool {
+    entry.rank.priority == other.rank.priority
+        && entry.rank.late == other.rank.late
+        && entry.rank.written == other.rank.written
+        && entry.rank.place == other.rank.place
+        && entry.span == other.span
+}
+
+/// Whether the entries with these written numbers were found whole, in this order, and no others.
 fn are(found: &[Entry], wanted: &[u64]) -> bool {
     let mut rest = wanted;
     for entry in found {
-        let Some((written, later)) = rest.split_first() else {
+        let Some((number, later)) = rest.split_first() else {
             return false;
         };
-        if entry.rank.written != *written {
+        if !is_same(entry, &written(*number)) {
             return false;
         }
         rest = later;
@@ -100,9 +122,9 @@ fn entries_are_found_and_removed_once(rt: HostRuntime) -> Result<(), Fail> {
 fn keeps_room(index: &mut Index) -> Result<bool, Refusal> {
     index.reserve(2)?;
     let spare = index.spare();
-    put(index, entry(5, 4, span(0, 10)))?;
+    put(index, written(4))?;
     let left = index.spare();
-    put(index, entry(1, 5, span(5, 15)))?;
+    put(index, written(5))?;
     Ok(spare >= 2 && left >= 1 && index.len() == 2)
 }
 
@@ -117,9 +139,8 @@ fn reserved_room_is_there(rt: HostRuntime) {
 /// Whether one of 4,096 entries, each of which covers an instant of its own, is found by a moment and by a window, with few
 /// looks at each.
 fn finds_one_of_many(index: &mut Index) -> Result<bool, Refusal> {
-    for number in 0..4096u32 {
-        let start = i128::from(number);
-        put(index, entry(0, u64::from(number), span(start, start + 1)))?;
+    for number in 10..4106u64 {
+        put(index, written(number))?;
     }
     if index.len() != 4096 {
         return Ok(false);
@@ -129,7 +150,7 @@ fn finds_one_of_many(index: &mut Index) -> Result<bool, Refusal> {
     let mut other = Meter::new();
     let meeting = index.overlapping_counted(span(100, 101), &mut other)?;
     let are_few = meter.count() <= 112 && other.count() <= 112;
-    Ok(are_few && are(&covering, &[100]) && are(&meeting, &[100]))
+    Ok(are_few && are(&covering, &[110]) && are(&meeting, &[110]))
 }
 
 #[test]

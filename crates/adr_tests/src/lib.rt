@@ -1,6 +1,6 @@
 #![tactic(auto)]
 //! Tests of what no script and no stored run shows. By what public functions answer: numbers, moments and bodies behind the
-//! shield, seats, the index and the timeline, copies of objects. Of whole runs: streams that give and take little and that
+//! shield, jobs, seats, the index and the timeline, copies of objects. Of whole runs: streams that give and take little and that
 //! fail, bytes that no transcript holds, readers in threads of their own. Of desks: workers that run at once.
 
 #[cfg(test)]
@@ -11,6 +11,8 @@ mod fans;
 mod faults;
 #[cfg(test)]
 mod index;
+#[cfg(test)]
+mod jobs;
 #[cfg(test)]
 mod moments;
 #[cfg(test)]

@@ -1,6 +1,6 @@
 //! The rows of tables, and what is answered to each.
 use crate::moments::at;
-use crate::{decimals, moments, objects};
+use crate::{decimals, jobs, moments, objects};
 use adr_time::{read_moment, read_start};
 use adr_value::{Refusal, shield};
 use std::alloc::Global;
@@ -15,6 +15,7 @@ pub(crate) enum Asked {
     Body,
     Object,
     Edit,
+    Job,
 }
 
 /// Whether what is asked of the text is answered as is wanted.
@@ -26,6 +27,7 @@ fn holds(alloc: Global, asked: Asked, text: &str, wanted: &str) -> Result<bool, 
         Asked::Body => Ok(shield(alloc, text.as_bytes())?.as_slice() == wanted.as_bytes()),
         Asked::Object => objects::is_read_whole(alloc, text),
         Asked::Edit => objects::is_read_edit_copied(alloc, text),
+        Asked::Job => jobs::is_asked(alloc, text, wanted),
     }
 }
 

@@ -2,8 +2,8 @@
 //! that can't answer.
 use crate::scripts::{PRICE, PRICE_EDITED, PRICE_TOLD, TARGET, TARGET_TOLD};
 use crate::streams::{Pieces, Sink};
-use adr_script::{Logs, Machine, Unanswered, serve};
-use adr_server::{Fault, Tie, run};
+use adr_resolver::{Fault, Logs, Tie, run};
+use adr_script::{Machine, Unanswered, serve};
 use std::sync::Wait;
 use std::test::Fail;
 use std::thread::Threads;
@@ -16,7 +16,9 @@ fn tells(
     outcome: Result<(), Fault>,
     text: &[u8],
 ) -> bool {
-    run(rt, reader, writer, 1, Tie::Newest) == outcome && writer.taken.as_slice() == text
+    let mut logs = Logs::new();
+    let ended = run(rt, reader, writer, &mut logs, 1, Tie::Newest);
+    ended == outcome && writer.taken.as_slice() == text
 }
 
 /// Whether a run over this script alone writes that.

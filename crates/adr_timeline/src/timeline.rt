@@ -1,5 +1,5 @@
 //! Timelines.
-ghost use Rattle.std.specs.Prelude.{◌≡◌, ◌&&◌, ◌++◌, List, length, IsTrue, true, drop, ◌+◌, ◌*◌, ◌<◌, ◌≤◌, ◌^◌, ℤ, [], if◌then◌else◌, None, IfOk};
+ghost use Rattle.std.specs.Prelude.{◌≡◌, ◌&&◌, ◌++◌, List, length, IsTrue, true, drop, ◌+◌, ◌*◌, ◌<◌, ◌≤◌, ◌^◌, nat_le, ℤ, [], if◌then◌else◌, None, IfOk};
 ghost use Rattle.std.specs.Option.{option_map};
 ghost use Rattle.adr_refusal.specs.Answer.{OnlyNoMemory};
 ghost use Rattle.adr_refusal.specs.Copy.{IsCopyOf};
@@ -98,7 +98,7 @@ fn shared(alloc: Global, chunks: &[Chunk]) -> Result<Vec<Chunk>, AllocError>
 
 /// Whether the chunks have no more segments than so many.
 fn fits(chunks: &[Chunk], most: usize) -> bool
-    ensures { result ≡ true → length (listed chunks.now) ≤ most }
+    ensures { result ≡ nat_le (length (listed chunks.now)) most }
 {
     let mut left = most;
     for chunk in chunks {
@@ -265,7 +265,7 @@ impl Timeline {
 
     /// Whether there are no more segments than so many. Cost: a look at each chunk.
     pub fn has_at_most(&self, most: usize) -> bool
-        ensures { result ≡ true → length self.now ≤ most }
+        ensures { result ≡ nat_le (length self.now) most }
     {
         fits(&self.chunks, most)
     }

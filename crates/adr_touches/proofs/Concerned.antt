@@ -1,5 +1,7 @@
 -- What an edit touches is what it concerns.
 use Rattle.std.proofs.Common.{◌≡◌, ℕ, ◌∙◌, Bool, true, false, cond, List, [], ◌∷◌, refl, ap, sym, filter, flat_map, Ok}
+use Rattle.adr_value.specs.Limits.{limits}
+use Rattle.adr_value.specs.declared.limits.TheConstants.{MOST_VERSION}
 use Rattle.adr_object.specs.declared.object.Object.TheVariants.{Program as program, Event as event, Ven as ven, Resource as resource}
 use Rattle.adr_object.specs.declared.object.Kind.TheVariants.{Program as program_kind, Event as event_kind, Ven as ven_kind, Resource as resource_kind}
 use Rattle.adr_object.specs.declared.object.Edit.{Edit}
@@ -99,4 +101,4 @@ module _ (old new : Book) (edit : Edit) (whole : IsWhole old) (made : step old e
       ∙ ap (λ (ids : List (List ℕ)). flat_map (rows_on old new (rows_of edit) ids) (filter (concerns_resource old (concern_of edit)) both_resources))
       (es ∙ ap (λ (q : Concern). filter (concerns_event old q) both_events) k)
       ∙ concerned_all old new edit both_events both_resources
-      ∙ sym (touches_by_table old new edit whole made)
+      ∙ sym (touches_by_table limits MOST_VERSION old new edit whole made)

@@ -101,7 +101,7 @@ fn lived<J: Naming, R: AllocGlobal + Print + Wait>(
     requires tie { J.tie ≡ Newest }
 {
     let alloc = rt.alloc();
-    let (mut editor, mut readers) = Board::open::<J, R>(alloc, rt, board, Tie::Newest, 1)?;
+    let (mut editor, mut readers) = Board::open::<J, R>(rt, alloc, board, 1, Tie::Newest)?;
     let lived = match readers.first_mut() {
         Some(reader) => live_on(rt, alloc, &mut editor, reader, life, lines.as_str()),
         None => Ok(()),

@@ -137,7 +137,7 @@ fn looked<J: Naming + Send, R: AllocGlobal + Clock + Threads + Wait + Sync>(
     requires readers { (0 < readers) × (readers ≤ 64) }
 {
     let alloc = rt.alloc();
-    let (mut editor, mut readers) = Board::open::<J, R>(alloc, rt, board, Tie::Newest, readers)?;
+    let (mut editor, mut readers) = Board::open::<J, R>(rt, alloc, board, readers, Tie::Newest)?;
     let filled = fill(rt, alloc, &mut editor, lines.as_str());
     let counts = look_beside(rt, alloc, &mut editor, readers.as_mut_slice());
     drop(readers);

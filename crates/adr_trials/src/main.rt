@@ -22,7 +22,7 @@ use crate::looking::print_lookers;
 use crate::plain::print_replies;
 use crate::timelines::print_timelines;
 use adr_calls::try_parts;
-use adr_server::Tie;
+use adr_resolver::Tie;
 use std::rt::{Clock, Env};
 use std::sync::Wait;
 use std::thread::Threads;

@@ -3,7 +3,7 @@ ghost use Rattle.std.specs.Prelude.{◌≡◌, ◌≤◌, [], vec_capacity};
 
 use adr_plain::Plain;
 use adr_refusal::Refusal;
-use adr_server::{Command, Tie, parse_line, put_condensed, put_ok, put_published, put_refusal};
+use adr_resolver::{Command, Tie, parse_line, put_condensed, put_ok, put_published, put_refusal};
 use std::alloc::{AllocError, Global};
 use std::io;
 

@@ -1,7 +1,6 @@
 //! Boards that are opened and closed.
 ghost use Rattle.std.specs.Prelude.{◌≡◌, [], IfOk};
 ghost use Rattle.adr_model.specs.Book.{empty};
-ghost use Rattle.adr_model.specs.declared.entry.Tie.TheVariants.{Newest};
 
 use adr_board::{Board, Desk, Editor, Naming, NewBoard, Reader};
 use adr_model::Tie;
@@ -36,27 +35,67 @@ fn end<J: Naming, R: Wait>(rt: &R, editor: Editor<J>, readers: Vec<Reader<J>>) -
     version
 }
 
-fn open<J: Naming, R: AllocGlobal + Wait>(rt: &R, board: NewBoard) -> Result<u64, Refusal>
+/// How many readers looked, and the greatest number and version of what they saw.
+#[derive(Clone, Copy)]
+struct Looks {
+    readers: u64,
+    number: u64,
+    version: u64,
+}
+
+/// Lets each reader look.
+fn look_each<J: Naming>(readers: &mut [Reader<J>]) -> Result<Looks, Refusal> {
+    let mut looks = Looks {
+        readers: 0,
+        number: 0,
+        version: 0,
+    };
+    for reader in readers.iter_mut() {
+        let seen = reader.look()?;
+        looks.readers = looks.readers.wrapping_add(1);
+        looks.number = looks.number.max(seen.number());
+        looks.version = looks.version.max(seen.version());
+    }
+    Ok(looks)
+}
+
+/// Opens a board, lets each reader look, and ends it.
+fn open<J: Naming, R: AllocGlobal + Wait>(
+    rt: &R,
+    board: NewBoard,
+    tie: Tie,
+) -> Result<Looks, Refusal>
     requires history { board.diary.page.book ≡ J.history }
-    requires tie { J.tie ≡ Newest }
+    requires tie { J.tie ≡ tie }
 {
-    let (editor, readers) = Board::open::<J, R>(rt.alloc(), rt, board, Tie::Newest, READERS)?;
-    Ok(end(rt, editor, readers))
+    let (editor, mut readers) = Board::open::<J, R>(rt, rt.alloc(), board, READERS, tie)?;
+    let looks = look_each(readers.as_mut_slice());
+    end(rt, editor, readers);
+    looks
 }
 
-fn open_new<R: AllocGlobal + Wait>(rt: &R) -> Result<u64, Refusal> {
-    open::<Brand, R>(rt, NewBoard::new())
+fn open_new<R: AllocGlobal + Wait>(rt: &R, tie: Tie) -> Result<Looks, Refusal> {
+    open::<Brand, R>(rt, NewBoard::new(), tie)
 }
 
-/// Opens a board, and ends it.
-pub(crate) fn try_open<R: AllocGlobal + Print + Wait>(rt: &R) -> io::Result<()> {
+fn tell_looks<R: Print>(rt: &R, looks: Result<Looks, Refusal>) -> io::Result<()> {
+    let Looks {
+        readers,
+        number,
+        version,
+    } = told(looks)?;
+    println!(rt; "  ordinary: {readers} readers see at most number {number} version {version}")
+}
+
+/// Opens a board, and tells what its readers see first.
+pub(crate) fn try_open<R: AllocGlobal + Print + Wait>(rt: &R, tie: Tie) -> io::Result<()> {
     tell_next(rt, "open: version 0")?;
-    let mut answer = open_new(rt);
+    let mut answer = open_new(rt, tie);
     if answer.is_err() {
         tell_want(rt)?;
-        answer = open_new(rt);
+        answer = open_new(rt, tie);
     }
-    tell_ordinary(rt, answer)
+    tell_looks(rt, answer)
 }
 
 fn over<J: Naming, R: AllocGlobal + Wait>(
@@ -69,7 +108,7 @@ fn over<J: Naming, R: AllocGlobal + Wait>(
     requires base { desk.book.base ≡ empty }
     requires closed { desk.book.closed ≡ [] }
 {
-    let (editor, readers) = Board::over::<J, R>(rt.alloc(), rt, board, desk, READERS)?;
+    let (editor, readers) = Board::over::<J, R>(rt, rt.alloc(), board, desk, READERS)?;
     Ok(end(rt, editor, readers))
 }
 
@@ -80,18 +119,19 @@ fn over_new<R: AllocGlobal + Wait>(rt: &R, desk: Desk) -> Result<u64, Refusal>
     over::<Brand, R>(rt, NewBoard::new(), desk)
 }
 
-/// The desk of those edits.
-fn desk_of<R: AllocGlobal + Threads + Sync>(rt: &R) -> Result<Desk, Refusal>
+/// The desk of those edits under that rule for ties.
+fn desk_of<R: AllocGlobal + Threads + Sync>(rt: &R, tie: Tie) -> Result<Desk, Refusal>
     ensures base { IfOk result (λ desk. desk.book.base ≡ empty) }
     ensures closed { IfOk result (λ desk. desk.book.closed ≡ []) }
 {
     let edits = edits_of(rt.alloc())?;
-    let (desk, answers) = Desk::load(rt, rt.alloc(), edits, Tie::Newest)?;
+    let (desk, answers) = Desk::load(rt, rt.alloc(), edits, tie)?;
     drop(answers);
     Ok(desk)
 }
 
-fn add_edit(alloc: Global, line: &str, edits: &mut Vec<Edit>) -> Result<(), Refusal> {
+/// Adds the edit of the line.
+pub(crate) fn add_edit(alloc: Global, line: &str, edits: &mut Vec<Edit>) -> Result<(), Refusal> {
     let edit = edit(alloc, line)?;
     edits.push(edit)?;
     Ok(())
@@ -105,19 +145,22 @@ fn edits_of(alloc: Global) -> Result<Vec<Edit>, Refusal> {
     Ok(edits)
 }
 
-fn over_again<R: AllocGlobal + Wait + Threads + Sync>(rt: &R) -> Result<u64, Refusal> {
-    let desk = desk_of(rt)?;
+fn over_again<R: AllocGlobal + Wait + Threads + Sync>(rt: &R, tie: Tie) -> Result<u64, Refusal> {
+    let desk = desk_of(rt, tie)?;
     over_new(rt, desk)
 }
 
 /// Opens a board over a desk, and ends it.
-pub(crate) fn try_over<R: AllocGlobal + Print + Wait + Threads + Sync>(rt: &R) -> io::Result<()> {
-    let desk = told(desk_of(rt))?;
+pub(crate) fn try_over<R: AllocGlobal + Print + Wait + Threads + Sync>(
+    rt: &R,
+    tie: Tie,
+) -> io::Result<()> {
+    let desk = told(desk_of(rt, tie))?;
     tell_next(rt, "over: version 4")?;
     let mut answer = over_new(rt, desk);
     if answer.is_err() {
         tell_want(rt)?;
-        answer = over_again(rt);
+        answer = over_again(rt, tie);
     }
     tell_ordinary(rt, answer)?;
     tell_same(rt, answer == Ok(4))

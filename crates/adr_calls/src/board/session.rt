@@ -1,6 +1,5 @@
 //! Lines, on one board.
 ghost use Rattle.std.specs.Prelude.{◌≡◌};
-ghost use Rattle.adr_model.specs.declared.entry.Tie.TheVariants.{Newest};
 
 use crate::board::asking::try_ask;
 use crate::board::opening::READERS;
@@ -308,13 +307,14 @@ fn tell_end<R: Print>(rt: &R, seen: Result<u64, Refusal>) -> io::Result<()> {
 fn on_board<J: Naming, R: AllocGlobal + Print + Wait + Threads + Sync>(
     rt: &R,
     board: NewBoard,
+    tie: Tie,
     lines: String,
 ) -> Result<io::Result<()>, Refusal>
     requires history { board.diary.page.book ≡ J.history }
-    requires tie { J.tie ≡ Newest }
+    requires tie { J.tie ≡ tie }
 {
     let alloc = rt.alloc();
-    let (editor, readers) = Board::open::<J, R>(alloc, rt, board, Tie::Newest, READERS)?;
+    let (editor, readers) = Board::open::<J, R>(rt, alloc, board, READERS, tie)?;
     let twin = match Twin::of(editor.desk(), &**editor.last()) {
         Ok(twin) => twin,
         Err(refusal) => {
@@ -337,10 +337,11 @@ fn on_board<J: Naming, R: AllocGlobal + Print + Wait + Threads + Sync>(
     }
 }
 
-/// Does what the lines say on a new board.
+/// Does what the lines say on a new board under that rule for ties.
 pub(crate) fn try_lines<R: AllocGlobal + Print + Wait + Threads + Sync>(
     rt: &R,
+    tie: Tie,
     lines: String,
 ) -> io::Result<()> {
-    told(on_board::<Brand, R>(rt, NewBoard::new(), lines))?
+    told(on_board::<Brand, R>(rt, NewBoard::new(), tie, lines))?
 }

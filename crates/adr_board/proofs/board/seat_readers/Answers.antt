@@ -1,5 +1,5 @@
 use Rattle.std.proofs.Common.{◌∙◌, ap, refl, sym, ◌∷◌, []}
-use Rattle.adr_model.specs.Machine.{opening}
+use Rattle.adr_board.specs.Publications.{opening_book}
 use Rattle.adr_board.specs.History.{seen_by}
 use Rattle.adr_board.proofs.Opened.{one_more}
 use Rattle.adr_board.proofs.Prefixes.{prefix_self}
@@ -10,7 +10,7 @@ pub reader-requires : goal.reader-requires
 reader-requires g c = admits _ _
 
 pub invariant_of-reader : goal.invariant_of-reader
-invariant_of-reader g c = rw (c.in-Ok.ensures.view, ap (λ p. seen_by p.log) c.again.ensures ∙ c.requires.seen) (prefix_self (opening ∷ []), tt)
+invariant_of-reader g c = rw (c.in-Ok.ensures.view, ap (λ p. seen_by p.log) c.again.ensures ∙ c.requires.seen) (prefix_self (opening_book ∷ []), tt)
 
 pub loop-reader-preserved : goal.loop-reader-preserved
 loop-reader-preserved g c =

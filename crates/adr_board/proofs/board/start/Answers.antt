@@ -1,8 +1,7 @@
 use Rattle.std.proofs.Common.{◌≡◌, ◌∙◌, ap, arith, length}
 use Rattle.std.specs.Arc.{arc_value}
-use Rattle.adr_model.specs.Machine.{opening}
-use Rattle.adr_board.specs.Publications.{publication_of}
-use Rattle.adr_board.specs.Rules.{publication_in, showing}
+use Rattle.adr_board.specs.Publications.{opening_book}
+use Rattle.adr_board.specs.Rules.{showing}
 use Rattle.adr_board.proofs.Following.{first_carried}
 use Rattle.adr_board.proofs.Histories.{first_log}
 use Rattle.adr_board.proofs.Steps.{starts}
@@ -17,10 +16,10 @@ new-requires-clause-rule g c =
     let is = ap arc_value c.of-first.ensures.snapshot ∙ c.in_ok-shown.ensures.same in
     let number = ap (λ s. s.number) is ∙ made.number in
     let rule = ap (λ s. s.tie) is ∙ (made.tie ∙ c.requires.tie) in
-    let publication = ap publication_in is ∙ made.publication in
+    let first = ap (λ s. s.book) is ∙ made.book in
     let place : diary.attempts ≡ 0 = omega (arith, diary.counted, ap length c.args.board.empty) in
-    let first = ap publication_of (c.book.ensures ∙ ap (λ s. s.book) c.deref.ensures) ∙ made.book in
-    let log = first_log c.in-Some.attempt.page.log diary.page.log opening _ c.in-Some.ensures.log c.args.board.empty first in
+    let noted = c.book.ensures ∙ (ap (λ s. s.book) c.deref.ensures ∙ made.book) in
+    let log = first_log c.in-Some.attempt.page.log diary.page.log opening_book _ c.in-Some.ensures.log c.args.board.empty noted in
     let history = ap (λ p. p.book) page ∙ (ap (λ p. p.book) c.again-page.ensures ∙ (c.in-Some.ensures.history ∙ c.requires.history)) in
-    starts _ _ x number rule publication
-    (first_carried _ (showing x) number publication history (ap (λ p. p.log) page ∙ (ap (λ p. p.log) c.again-page.ensures ∙ log)) (c.of-first.ensures.attempt ∙ place))
+    starts _ _ x number rule first
+    (first_carried _ (showing x) number first history (ap (λ p. p.log) page ∙ (ap (λ p. p.log) c.again-page.ensures ∙ log)) (c.of-first.ensures.attempt ∙ place))

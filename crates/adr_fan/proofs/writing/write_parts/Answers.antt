@@ -2,7 +2,7 @@ use Rattle.std.proofs.Common.{◌≡◌, ◌+◌, ◌++◌, ℕ, List, drop, sym
 use Rattle.std.specs.Io.KnownBytes.{Appends}
 use Rattle.std.proofs.KnownBytes.{Appends-trans}
 use Rattle.std.proofs.lemmas.List.{at_drop_more}
-use Rattle.adr_server.specs.Fan.{reader_line}
+use Rattle.adr_resolver.specs.Fan.{reader_line}
 use Rattle.adr_fan.specs.Levels.{WritesPart}
 use Rattle.adr_fan.specs.Parts.{texts, all_texts}
 use Rattle.adr_fan.proofs.Fronts.{Wrote, wrote_more, wrote_part, part_front, part_behind, at_err}

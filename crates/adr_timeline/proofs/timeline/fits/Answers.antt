@@ -1,5 +1,5 @@
 use Rattle.std.proofs.Common.{◌+◌, List, ◌∷◌, ◌∙◌, drop, length, ap, sym, arith}
-use Rattle.std.proofs.lemmas.List.{drop_all, drop_more, length-append}
+use Rattle.std.proofs.lemmas.List.{drop_more, length-append}
 use Rattle.adr_model.specs.declared.timeline.Segment.{Segment}
 use Rattle.adr_timeline.specs.Chunks.{listed}
 use Rattle.adr_timeline.proofs.timeline.fits.Goals as goal
@@ -12,8 +12,3 @@ loop-chunk-preserved c =
     let parts = length-append c.chunk-item.result (listed (drop (i + 1) chunks)) in
     let same = ap length c.segments-count.ensures.segments in
     omega (arith, here, parts, same, c.loop-chunk.invariant)
-
-pub returns : goal.returns
-returns c h =
-    let none = ap (λ (cs : List (List Segment)). length (listed cs)) (drop_all c.loop-chunk.chunk-index c.args.chunks.now (omega arith)) in
-    omega (arith, none, c.loop-chunk.invariant)

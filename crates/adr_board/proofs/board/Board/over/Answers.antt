@@ -11,8 +11,8 @@ invariant_of-editor g c =
     let t = c.in_ok-started.started in
     let last = arc_value t.last in (
       e.shown,
-      opened_last (known t.writer.desk.place) last e.known e.number e.publication,
-      opened_objects last c.args.desk.book e.publication c.requires.base c.requires.closed,
+      opened_last (known t.writer.desk.place) last e.known e.number e.book,
+      opened_objects last c.args.desk.book e.book c.requires.base c.requires.closed,
       search rules,
       c.requires.tie,
       omega (arith, e.number),
@@ -28,8 +28,8 @@ invariant_of-editor-in-Ok g c =
     let t = c.in_ok-started.started in
     let last = arc_value t.last in (
       e.shown,
-      opened_last (known t.writer.desk.place) last e.known e.number e.publication,
-      opened_objects last c.args.desk.book e.publication c.requires.base c.requires.closed,
+      opened_last (known t.writer.desk.place) last e.known e.number e.book,
+      opened_objects last c.args.desk.book e.book c.requires.base c.requires.closed,
       search rules,
       c.requires.tie,
       omega (arith, e.number),
@@ -45,8 +45,8 @@ invariant_of-editor-in-Err g c =
     let t = c.in_ok-started.started in
     let last = arc_value t.last in (
       e.shown,
-      opened_last (known t.writer.desk.place) last e.known e.number e.publication,
-      opened_objects last c.args.desk.book e.publication c.requires.base c.requires.closed,
+      opened_last (known t.writer.desk.place) last e.known e.number e.book,
+      opened_objects last c.args.desk.book e.book c.requires.base c.requires.closed,
       search rules,
       c.requires.tie,
       omega (arith, e.number),

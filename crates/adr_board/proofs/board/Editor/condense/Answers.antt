@@ -2,7 +2,6 @@ use Rattle.std.proofs.Common.{rules, ◌≡◌, ◌∙◌, ap, sym, subst, IfOk,
 use Rattle.std.specs.Arc.{arc_value}
 use Rattle.left_right.specs.Sides.{view as known}
 use Rattle.adr_model.specs.Book.{Book}
-use Rattle.adr_model.specs.Machine.{Publication}
 use Rattle.adr_book.specs.Ledger.{Ledger}
 use Rattle.adr_board.specs.Published.{PublishedBook}
 use Rattle.adr_board.specs.Types.{HasPrivateNames}
@@ -20,13 +19,13 @@ pub returns-clause-base : goal.returns-clause-base
 returns-clause-base g c =
     let same : c.book.result.now.objects ≡ (arc_value c.self.inside.last).book.objects = search rules in
     let last = last_is (known c.self.inside.writer.desk.place) _ _ c.self.invariant.1 in
-    rw (← c.self.view_is) (subst (λ (b : Book). OnOk c.condense.result (c.condense.new.self.book.base ≡ b)) (same ∙ ap (λ (p : Publication). p.book) (sym last)) c.condense.ensures.base)
+    rw (← c.self.view_is) (subst (λ (b : Book). OnOk c.condense.result (c.condense.new.self.book.base ≡ b)) (same ∙ ap (λ (p : Ledger). p.objects) (sym last)) c.condense.ensures.base)
 
 pub returns-clause-version : goal.returns-clause-version
 returns-clause-version g c =
     let same : c.book.result.now.objects ≡ (arc_value c.self.inside.last).book.objects = search rules in
     let last = last_is (known c.self.inside.writer.desk.place) _ _ c.self.invariant.1 in
-    rw (← c.self.view_is) (subst (λ (b : Book). IfOk c.condense.result (λ v. v ≡ b.version)) (same ∙ ap (λ (p : Publication). p.book) (sym last)) c.condense.ensures.version)
+    rw (← c.self.view_is) (subst (λ (b : Book). IfOk c.condense.result (λ v. v ≡ b.version)) (same ∙ ap (λ (p : Ledger). p.objects) (sym last)) c.condense.ensures.version)
 
 pub condense-requires : goal.condense-requires
 condense-requires g c = ap (λ (b : Ledger). b.objects) (c.book.ensures ∙ ap (λ (s : PublishedBook). s.book) c.deref.ensures) ∙ c.self.invariant.2

@@ -1,11 +1,10 @@
-use Rattle.std.proofs.Common.{ℕ, ◌≡◌, ◌∙◌, ◌+◌, ◌∷◌, ◌++◌, [], ap, arith, sym, subst, length, refl}
+use Rattle.std.proofs.Common.{ℕ, ◌≡◌, ◌∙◌, ◌+◌, ◌∷◌, ◌++◌, [], ap, arith, sym, subst, length}
 use Rattle.std.specs.Arc.{arc_value}
 use Rattle.left_right.specs.Sides.{view as known}
 use Rattle.adr_model.specs.Edits.{after_from}
 use Rattle.adr_book.specs.Ledger.{Ledger, journal_of, sealed_of}
-use Rattle.adr_board.specs.Publications.{publication_of}
-use Rattle.adr_board.specs.Published.{PublishedBook}
-use Rattle.adr_board.specs.Rules.{IsLast, publication_in, showing}
+use Rattle.adr_board.specs.Published.{PublishedBook, last_batch}
+use Rattle.adr_board.specs.Rules.{IsLast, showing}
 use Rattle.adr_board.specs.Types.{HasPrivateNames}
 use Rattle.adr_board.proofs.Following.{follows_last, leads_on}
 use Rattle.adr_board.proofs.Histories.{after_shown, after_undone}
@@ -17,8 +16,8 @@ attempt_to_show-requires-clause-leads g c =
     let book = c.self.inside.desk.book in
     let before = (showing c.self.inside.writer.desk.shown.value).snapshot.book.objects in
     let leads : after_from book.base (journal_of book) ≡ book.objects = subst (λ (b : Ledger). after_from b.base (journal_of b) ≡ b.objects) c.book.ensures c.journal-leads.ensures.leads in
-    subst (λ (b : Ledger). b.objects ≡ after_from before b.pending) (sym c.book-2.ensures)
-    (leads_on book before (publication_of book) leads (sym (ap (λ s. s.book.objects) kept.0) ∙ kept.2) refl)
+    subst (λ (b : Ledger). b.objects ≡ after_from before (last_batch b.closed)) (sym (c.book-2.ensures ∙ c.in_ok-sealed.ensures.book))
+    (leads_on book before leads (sym (ap (λ s. s.book.objects) kept.0) ∙ kept.2))
 
 -- where readers were not shown it
 pub invariant_of-self : goal.invariant_of-self
@@ -43,15 +42,16 @@ invariant_of-self-2 g c =
     let same : last ≡ shown = made.last in
     let before = known c.self.inside.writer.desk.place in
     let after = known c.attempt_to_show.new.writer.desk.place in
-    let tried = publication_of c.book-2.result.now in
-    let is : publication_in shown ≡ tried = made.publication ∙ sym (ap publication_of c.book-2.ensures) in
-    let more : after ≡ before ++ publication_in shown ∷ [] = done.place ∙ ap (λ p. before ++ p ∷ []) (sym is) in
+    let tried = c.book-2.result.now in
+    let is : shown.book ≡ tried = made.publication ∙ sym (c.book-2.ensures ∙ made.book) in
+    let more : after ≡ before ++ shown.book ∷ [] = done.place ∙ ap (λ p. before ++ p ∷ []) (sym is) in
     let leads : after_from book.base (journal_of book) ≡ book.objects = subst (λ (b : Ledger). after_from b.base (journal_of b) ≡ b.objects) c.book.ensures c.journal-leads.ensures.leads in
-    let link = leads_on book was.book.objects (publication_in shown) leads kept.2 made.publication in
+    let link : shown.book.objects ≡ after_from was.book.objects (last_batch shown.book.closed) =
+    subst (λ (b : Ledger). b.objects ≡ after_from was.book.objects (last_batch b.closed)) (sym made.publication) (leads_on book was.book.objects leads kept.2) in
     let number = made.number ∙ ap (λ (n : ℕ). n + 1) (c.number-number.ensures ∙ ap (λ s. s.number) c.deref.ensures) in
     let ends = follows_last before after was shown kept.1 number link more in
-    let objects = ap (λ s. s.book.objects) same ∙ (ap (λ p. p.book) made.publication ∙ (sym made.objects ∙ (sym made.leads ∙ sym (ap (λ d. sealed_of d.book) go)))) in
+    let objects = ap (λ s. s.book.objects) same ∙ (ap (λ (b : Ledger). b.objects) (made.publication ∙ sym made.book) ∙ (sym made.leads ∙ sym (ap (λ d. sealed_of d.book) go))) in
     let tie = ap (λ s. s.tie) same ∙ (made.tie.1 ∙ (sym made.tie.0 ∙ sym (ap (λ d. d.tie) go))) in
     let long : length before ≡ last.number = kept.1.numbered ∙ sym (ap (λ s. s.number) same ∙ number) in
-    let history = after_shown diary.page.log c.attempt_to_show.new.diary.page.log tried (publication_in shown) last.number diary.attempts before after done.noted kept.7 diary.counted long more is in
-    (same ∙ sym done.shown, subst (λ (s : PublishedBook). IsLast after s) (sym same) ends, objects, tie, ap (λ d. d.tie) go ∙ (made.tie.0 ∙ kept.4), grind arith, c.attempt_to_show.ensures.history ∙ kept.6, history.0, history.1, subst HasPrivateNames (sym made.objects ∙ sym (ap (λ (b : Ledger). b.objects) (ap (λ d. d.book) go))) kept.9)
+    let history = after_shown diary.page.log c.attempt_to_show.new.diary.page.log tried shown.book last.number diary.attempts before after done.noted kept.7 diary.counted long more is in
+    (same ∙ sym done.shown, subst (λ (s : PublishedBook). IsLast after s) (sym same) ends, objects, tie, ap (λ d. d.tie) go ∙ (made.tie.0 ∙ kept.4), grind arith, c.attempt_to_show.ensures.history ∙ kept.6, history.0, history.1, subst HasPrivateNames (sym (ap (λ (b : Ledger). b.objects) (ap (λ d. d.book) go ∙ made.book))) kept.9)

@@ -26,7 +26,10 @@ pub invariant_of-self-2 : goal.invariant_of-self-2
 invariant_of-self-2 c =
     rw (c.in_ok-journal.ensures.closed, c.in_ok-journal.ensures.pending)
     (led_by_one_more c.self.inside.base c.self.inside.journal.closed c.self.inside.journal.pending c.args.edit c.self.inside.objects c.make.new.self c.self.invariant
-    (ap (step c.self.inside.objects) (sym (c.in_ok-copy.ensures)) ∙ c.in_ok-make.ensures.ok))
+    (same_step c.self.inside.base.version c.self.inside.objects c.args.edit
+    (subst (λ b. IsOk (step_to (full_at b.base.version) b.objects c.args.edit)) (sym c.self.view_is) c.requires)
+    c.make.new.self
+    (ap (step c.self.inside.objects) (sym (c.in_ok-copy.ensures)) ∙ c.in_ok-make.ensures.ok)))
 
 pub returns-clause-objects : goal.returns-clause-objects
 returns-clause-objects c =

@@ -1,5 +1,5 @@
 use Rattle.std.proofs.Common.{rules, ◌∙◌, IsTrue, List, sym, ap, subst}
-use Rattle.adr_server.specs.Fan.{Fan, Sent}
+use Rattle.adr_resolver.specs.Fan.{Fan, Sent}
 use Rattle.adr_fan.specs.declared.reading.Reply.{Reply}
 use Rattle.adr_fan.specs.Parts.{AreInOrder}
 use Rattle.adr_fan.proofs.Parts.{part_of}

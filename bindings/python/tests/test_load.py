@@ -1,0 +1,86 @@
+"""Objects as a VTN serves them."""
+import json
+import unittest
+from datetime import timedelta
+from decimal import Decimal
+
+from kuvteleg import Refusal, Resolver
+
+from .objects import NEW_YEAR, event
+
+PROGRAMS = '[{"objectType":"PROGRAM","id":"p1","createdDateTime":"2023-12-01T00:00:00Z","programName":"P","payloadDescriptors":null}]'
+VENS = '[{"objectType":"VEN","id":"v1","venName":"V","targets":[{"type":"GROUP","values":["a"]}]}]'
+RESOURCES = '[{"objectType":"RESOURCE","id":"r1","resourceName":"R","venID":"v1"}]'
+
+
+def served(id, *values, modified=None, start="2024-01-01T00:00:00Z"):
+    members = f'"objectType":"EVENT","id":"{id}",' + (f'"modificationDateTime":"{modified}",' if modified else "")
+    return "{" + members + event(*values, start=start)[1:]
+
+
+class Load(unittest.TestCase):
+    def price(self, resolver):
+        resolver.publish()
+        return resolver.reader().at("r1", "PRICE", NEW_YEAR)
+
+    def test_lists_in_any_order(self):
+        for objects in (
+            [f"[{served('e1', 17)}]", RESOURCES, VENS, PROGRAMS],
+            [json.loads(it) for it in (RESOURCES, PROGRAMS, f"[{served('e1', 17)}]", VENS)],
+            json.dumps([it for text in (f"[{served('e1', 17)}]", VENS, RESOURCES, PROGRAMS) for it in json.loads(text)]),
+        ):
+            with Resolver() as resolver:
+                self.assertEqual(resolver.load(objects), 4)
+                self.assertEqual(self.price(resolver).values, (Decimal(17),))
+
+    def test_numbers_are_kept_as_they_are_written(self):
+        with Resolver() as resolver:
+            resolver.load([PROGRAMS, VENS, RESOURCES, served("e1", "0.1000000000000000055511151231257827", "12345678901234567890123456789012345e-5")])
+            wanted = (Decimal("0.1000000000000000055511151231257827"), Decimal("123456789012345678901234567890.12345"))
+            self.assertEqual(self.price(resolver).values, wanted)
+
+    def test_numbers_of_mappings(self):
+        body = json.loads(served("e1", 1))
+        body["intervals"][0]["payloads"][0]["values"] = [Decimal("0.30"), 0.1, -2]
+        with Resolver() as resolver:
+            resolver.load([PROGRAMS, VENS, RESOURCES, [body]])
+            self.assertEqual(self.price(resolver).values, (Decimal("0.3"), Decimal("0.1"), Decimal(-2)))
+
+    def test_the_later_write_governs(self):
+        first, second = served("e1", 1, modified="2023-12-01T00:00:00Z"), served("e2", 2, modified="2023-12-02T00:00:00Z")
+        for events in ((first, second), (second, first)):
+            with Resolver() as resolver:
+                resolver.load([PROGRAMS, VENS, RESOURCES, events])
+                self.assertEqual(self.price(resolver).event, "e2")
+        with Resolver() as resolver:
+            resolver.load([PROGRAMS, VENS, RESOURCES, served("e2", 2), first])
+            self.assertEqual(self.price(resolver).event, "e1")
+
+    def test_a_zero_start_is_when_the_event_was_written(self):
+        with Resolver() as resolver:
+            resolver.load([PROGRAMS, VENS, RESOURCES, served("e1", 1, modified="2023-12-31T23:30:00Z", start="0000-00-00")])
+            self.assertEqual(self.price(resolver).until, NEW_YEAR + timedelta(minutes=30))
+        with Resolver() as resolver:
+            resolver.load([PROGRAMS, VENS, RESOURCES, served("e1", 1, start="0000-00-00")], moment=NEW_YEAR)
+            self.assertEqual(self.price(resolver).until, NEW_YEAR + timedelta(hours=1))
+
+    def test_a_refused_object_is_named(self):
+        broken = served("e2", '"text"')
+        with Resolver() as resolver:
+            with self.assertRaises(Refusal) as caught:
+                resolver.load([PROGRAMS, VENS, RESOURCES, broken])
+            self.assertEqual(str(caught.exception), "17 BadShape: event e2")
+        with Resolver() as resolver:
+            refused = []
+            self.assertEqual(resolver.load([PROGRAMS, VENS, RESOURCES, broken, served("e1", 17)], on_refusal=refused.append), 4)
+            self.assertEqual([(it.kind, it.id, it.number) for it in refused], [("event", "e2", 17)])
+            self.assertEqual(self.price(resolver).event, "e1")
+
+    def test_what_is_no_object(self):
+        with Resolver() as resolver:
+            deep = PROGRAMS.replace("null", "[" * 5000 + "]" * 5000)
+            nobody = ('[{"id":"p1"}]', '[{"objectType":"PROGRAM"}]', '[{"objectType":"REPORT","id":"x"}]')
+            for objects in (deep, "[" * 100000, "[1]", "[NaN]", "{", *nobody):
+                self.assertRaises(ValueError, resolver.load, objects)
+            self.assertEqual(resolver.load([]), 0)
+            self.assertEqual(resolver.publish(), (1, 0))

@@ -1,0 +1,11 @@
+pub mod Fan
+pub mod Fields
+pub mod Kept
+pub mod Larger
+pub mod Laws
+pub mod Line
+pub mod Outcome
+pub mod Reached
+pub mod Shown
+pub mod Text
+pub mod Views

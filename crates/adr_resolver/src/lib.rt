@@ -1,0 +1,22 @@
+#![tactic(auto)]
+//! The script: lines to commands, commands to replies, and a whole run over any reader and writer.
+
+mod command;
+mod edited;
+mod fields;
+mod hands;
+mod laws;
+mod line;
+mod machine;
+mod program;
+mod replies;
+mod resolver;
+
+pub use adr_model::Tie;
+pub use adr_script::{Fault, Logs, ReadLog, WriteLog, status};
+pub use command::Command;
+pub use laws::{fan_laws, least_matching_interval_governs, limit_laws};
+pub use line::{id_word, object_of, parse_line, type_word};
+pub use program::run;
+pub use replies::{put_condensed, put_ok, put_published, put_refusal};
+pub use resolver::Resolver;
