@@ -5,7 +5,7 @@ use Rattle.adr_read.specs.Body.{object_named, event_named_by}
 use Rattle.adr_read.specs.Names.{member_text}
 use Rattle.adr_read.specs.Objects.{event_faults, event_in}
 use Rattle.adr_read.proofs.Reading.{object_refused, object_answers}
-use Rattle.adr_read.proofs.read.read_event.Goals as goal
+use Rattle.adr_read.proofs.read.event_by.Goals as goal
 
 pub returns : goal.returns
 unfolding event_named_by

@@ -5,7 +5,7 @@ use Rattle.adr_read.specs.Body.{object_named, ven_named}
 use Rattle.adr_read.specs.Names.{member_text}
 use Rattle.adr_read.specs.Objects.{ven_faults, ven_in}
 use Rattle.adr_read.proofs.Reading.{object_refused, object_answers}
-use Rattle.adr_read.proofs.read.read_ven.Goals as goal
+use Rattle.adr_read.proofs.read.ven_by.Goals as goal
 
 pub returns : goal.returns
 unfolding ven_named
