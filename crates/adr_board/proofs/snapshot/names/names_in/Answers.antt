@@ -3,7 +3,7 @@ use Rattle.std.proofs.lemmas.Option.{get_or_from_slice_get}
 use Rattle.std.specs.Option.{option_copied}
 use Rattle.adr_board.specs.Types.{edit_names}
 use Rattle.adr_board.proofs.PrivateNames.{all_private, more_private}
-use Rattle.adr_board.proofs.board.names_in.Goals as goal
+use Rattle.adr_board.proofs.snapshot.names.names_in.Goals as goal
 
 pub loop-place-preserved : goal.loop-place-preserved
 loop-place-preserved c =
