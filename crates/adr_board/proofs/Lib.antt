@@ -5,7 +5,6 @@ pub mod Sights
 pub mod Following
 pub mod Named
 pub mod Opened
-pub mod Publishers
 pub mod Reached
 pub mod Runs
 pub mod Settled

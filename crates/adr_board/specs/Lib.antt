@@ -5,5 +5,4 @@ pub mod Laws
 pub mod History
 pub mod Publications
 pub mod Published
-pub mod Publishers
 pub mod Types

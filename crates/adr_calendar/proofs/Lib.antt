@@ -3,5 +3,3 @@ pub mod Segments
 pub mod States
 pub mod Walked
 pub mod Tabled
-mod Days
-mod Digits

@@ -12,11 +12,10 @@ ghost use Rattle.adr_model.specs.Answer.{at, shown, shown_of as shown_by, state_
 ghost use Rattle.adr_model.specs.Queries.{beginnings, in_lines, list, list_text, roll, roll_line, segment_line, type_text, types, types_text};
 
 use crate::calendar::{Calendar, State};
-use crate::events::LastEvent;
 use crate::lines::{Shown, cut, put_segment, put_state, put_type, put_version};
 use crate::moments::LastMoment;
 use crate::printing::put;
-use crate::shown::{shown_in, shown_of};
+use crate::shown::shown_of;
 use adr_book::Book;
 use adr_model::{Segment, Winner};
 use adr_object::{Id, Kind};
@@ -26,7 +25,7 @@ use adr_value::{PayloadType, Refusal};
 use std::alloc::Global;
 
 /// How long the line of a segment mostly is at most.
-const LINE: usize = 96;
+const LINE: usize = 80;
 
 /// What the winner shows of the payload type, where there is one.
 pub fn shown_by_winner<'a>(
@@ -113,31 +112,19 @@ pub fn at<C: Calendar>(
 /// Appends the line of the segment.
 fn put_line(
     out: &mut Vec<u8>,
-    last_event: &mut LastEvent<'_>,
-    last_moment: &mut LastMoment,
+    last: &mut LastMoment,
+    book: &Book,
     payload_type: &PayloadType,
     to: Moment,
     segment: &Segment,
 ) -> Result<(), Refusal>
-    ensures objects { last_event.new.objects.now ≡ last_event.old.objects.now }
-    ensures ok { OnOk result (out.new.items ≡ out.old.items ++ line_of_segment last_event.old.objects.now payload_type.now to segment.now) }
+    ensures ok { OnOk result (out.new.items ≡ out.old.items ++ line_of_segment book.now.objects payload_type.now to segment.now) }
     ensures memory { OnlyNoMemory result }
 {
-    let Some(event) = last_event.turn_to(segment.winner.written)? else {
+    let Some(shown) = shown_of(book, payload_type, segment.winner) else {
         return Ok(());
     };
-    let Some(shown) = shown_in(payload_type, segment.winner.place, event) else {
-        return Ok(());
-    };
-    let end = cut(to, segment.end);
-    put_segment(
-        out,
-        last_moment,
-        segment.start,
-        end,
-        shown,
-        last_event.naming(),
-    )
+    put_segment(out, last, segment.start, cut(to, segment.end), shown)
 }
 
 /// Appends the lines of the segments.
@@ -153,17 +140,9 @@ fn put_lines(
     ensures memory { OnlyNoMemory result }
 {
     out.reserve(segments.len().saturating_mul(LINE))?;
-    let mut last_event = LastEvent::none(alloc, book.objects());
-    let mut last_moment = LastMoment::none(alloc);
+    let mut last = LastMoment::none(alloc);
     for segment in segments {
-        put_line(
-            out,
-            &mut last_event,
-            &mut last_moment,
-            payload_type,
-            to,
-            segment,
-        )?;
+        put_line(out, &mut last, book, payload_type, to, segment)?;
     }
     Ok(())
 }

@@ -3,7 +3,6 @@
 
 mod answers;
 mod calendar;
-mod events;
 mod json;
 mod laws;
 mod lines;

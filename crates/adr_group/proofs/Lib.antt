@@ -5,8 +5,6 @@ pub mod Jobs
 pub mod Joining
 pub mod Listed
 pub mod Numbers
-pub mod Owned
-pub mod Parting
 pub mod Possible
 pub mod Rights
 pub mod Room

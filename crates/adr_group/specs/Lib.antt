@@ -1,4 +1,3 @@
-pub mod Governed
 pub mod Group
 pub mod Jobs
 pub mod Laid

@@ -6,7 +6,6 @@ mod index;
 mod order;
 mod query;
 mod reach;
-mod stretch;
 mod table;
 mod tops;
 mod tree;

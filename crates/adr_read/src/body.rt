@@ -18,11 +18,10 @@ use std::str;
 const MOST_LEVELS: usize = 127;
 
 /// The members of the JSON object (RFC 8259) that a text is, a body or a shielded one.
-fn members_of<'a, M: Members>(
+fn members_of<M: Members>(
     alloc: Global,
-    scratch: &'a mut Scratch,
     now: Moment,
-    text: &'a [u8],
+    text: &[u8],
     is_shielded: bool,
     members: M,
 ) -> Result<M, Refusal>
@@ -35,7 +34,8 @@ fn members_of<'a, M: Members>(
     let Ok(text) = str::from_utf8(text) else {
         return Err(Refusal::BadJson);
     };
-    let reader = Reader::new(text, scratch)?;
+    let mut scratch = Scratch::new(alloc);
+    let reader = Reader::new(text, &mut scratch)?;
     let mut tokens = Tokens::new(reader, is_shielded);
     let Some(token) = tokens.next() else {
         return Err(Refusal::BadJson);
@@ -62,7 +62,6 @@ fn has_no_nul(body: &[u8]) -> bool
 #[tactic(auto, unfolding(crate::specs::Body::object_named))]
 pub(crate) fn read_object<M: Members>(
     alloc: Global,
-    scratch: &mut Scratch,
     now: Moment,
     body: &[u8],
     members: M,
@@ -74,12 +73,12 @@ pub(crate) fn read_object<M: Members>(
     ensures names { IfOk result (λ m. M.names m ≡ M.names members) }
 {
     if has_no_nul(body) {
-        match members_of(alloc, scratch, now, body, false, members.anew()) {
+        match members_of(alloc, now, body, false, members.anew()) {
             Ok(members) => return Ok(members),
             Err(refusal) if refusal != Refusal::BadJson => return Err(refusal),
             Err(_) => {}
         }
     }
     let shielded = shield(alloc, body)?;
-    members_of(alloc, scratch, now, shielded.as_slice(), true, members)
+    members_of(alloc, now, shielded.as_slice(), true, members)
 }

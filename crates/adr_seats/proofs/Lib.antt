@@ -1,4 +1,2 @@
 pub mod Members
 pub mod Among
-pub mod Chunks
-pub mod Crossing

@@ -1,3 +1,2 @@
 pub mod Seats
 pub mod Law
-pub mod Table

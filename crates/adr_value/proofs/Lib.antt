@@ -1,6 +1,5 @@
 pub mod BodyLemmas
 pub mod Crossing
-pub mod NameLengths
 pub mod NumbersLemmas
 pub mod OneCutLemmas
 pub mod PackedLemmas

@@ -98,14 +98,12 @@ impl Model for Name {
 }
 
 impl Name {
-    /// Whether a text has 1 to 128 characters, as `new` requires. They are counted in one of more bytes alone.
+    /// Whether a text has 1 to 128 characters, as `new` requires.
     pub fn fits(text: &str) -> bool
         ensures { result ≡ is_name text.now }
     {
-        if text.len() <= 128 {
-            return !text.is_empty();
-        }
-        char_count(text) <= 128
+        let count = char_count(text);
+        1 <= count && count <= 128
     }
 
     /// The name with these characters. `NoMemory` where there is no room for them.
