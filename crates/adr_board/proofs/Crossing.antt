@@ -1,4 +1,4 @@
--- Readers may go to other threads: what they are shown may be shared by threads, and so may all that it is made of.
+-- Readers and publishers may go to other threads: what readers are shown may be shared by threads, and so may all that it is made of.
 use mathlib.Core.List.{List, [], ◌∷◌}
 use mir.Syntax.{Sym}
 use denote.RattleType.{RattleType}
@@ -7,12 +7,22 @@ use denote.Param.SendFields.{FieldsHave, as_row_send, declared_send}
 use denote.Struct.Field.{row_field}
 use denote.Struct.Tuple.{TupleAt, parts, type_at}
 use Rattle.std.proofs.Crossing as std
+use Rattle.adr_value.proofs.Crossing as value
 use Rattle.adr_shared.proofs.Crossing.{map_send, map_sync, shared_send, shared_sync}
 use Rattle.adr_book.proofs.Crossing.{book_send, book_sync}
 use Rattle.adr_group.proofs.Crossing.{group_send, group_sync}
 use Rattle.adr_seats.specs.contracts.seats.Seats as Seats
 use Rattle.adr_schedule.specs.contracts.schedule.Schedule as Schedule
 use Rattle.adr_schedule.specs.contracts.resolution.Resolution as Resolution
+use Rattle.adr_keys.specs.contracts.row.Row as Row
+use Rattle.adr_keys.specs.contracts.key.Key as Key
+use Rattle.adr_keys.specs.contracts.sets.Sets as Sets
+use Rattle.adr_keys.specs.contracts.index.Index as Keys
+use Rattle.adr_audience.specs.contracts.audiences.Audiences as Audiences
+use Rattle.adr_index.specs.contracts.index.Index as Index
+use Rattle.adr_lines.specs.contracts.indexes.Indexes as Indexes
+use Rattle.adr_desk.specs.contracts.desk.Desk as Desk
+use Rattle.adr_board.specs.contracts.publisher.Publisher as Publisher
 use Rattle.adr_board.specs.contracts.snapshot.Snapshot as Snapshot
 use Rattle.logbook.proofs.tokens.Seen.TheSendSync as seen
 use Rattle.left_right.proofs.part.Part.TheSendSync as part
@@ -62,6 +72,35 @@ snapshot_send = search (sendable, std.crosses, resolution_send) depth 60 fits 60
 
 pub snapshot_sync : IsSync Snapshot.the_row
 snapshot_sync = search (sendable, std.crosses, resolution_sync) depth 60 fits 60000
+
+-- so may a publisher, with all that its desk is made of
+
+key_send : IsSend Key.the_row
+key_send = search (sendable, std.crosses, value.text_send, value.name_send) depth 60 fits 60000
+
+row_send : IsSend Row.the_row
+row_send = search (sendable, std.crosses, key_send) depth 60 fits 60000
+
+sets_send : IsSend Sets.the_row
+sets_send = search (sendable, std.crosses, key_send) depth 60 fits 60000
+
+keys_send : IsSend Keys.the_row
+keys_send = search (sendable, std.crosses, row_send, sets_send) depth 60 fits 60000
+
+audiences_send : IsSend Audiences.the_row
+audiences_send = search (sendable, std.crosses, keys_send) depth 60 fits 60000
+
+index_send : IsSend Index.the_row
+index_send = search (sendable, std.crosses) depth 60 fits 60000
+
+indexes_send : IsSend Indexes.the_row
+indexes_send = search (sendable, std.crosses, index_send) depth 60 fits 60000
+
+desk_send : IsSend Desk.the_row
+desk_send = search (sendable, std.crosses, resolution_send, audiences_send, indexes_send) depth 60 fits 60000
+
+pub publisher_send : IsSend Publisher.the_row
+publisher_send = search (sendable, std.crosses, desk_send, snapshot_send, snapshot_sync) depth 60 fits 60000
 
 shown_sync : IsSync Shown.the_row
 shown_sync = search (sendable, std.crosses, snapshot_send, snapshot_sync, seen.the_sync) depth 60 fits 60000

@@ -5,6 +5,7 @@ pub mod Sights
 pub mod Following
 pub mod Named
 pub mod Opened
+pub mod Publishers
 pub mod Reached
 pub mod Runs
 pub mod Settled

@@ -5,4 +5,5 @@ pub mod Laws
 pub mod History
 pub mod Publications
 pub mod Published
+pub mod Publishers
 pub mod Types

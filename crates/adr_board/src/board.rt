@@ -1,36 +1,35 @@
 //! The editor of a board, its readers, and what it tells them.
 ghost use Rattle.std.specs.Prelude.{◌≡◌, ◌⊎◌, ◌+◌, ◌<◌, ◌≤◌, ◌++◌, ◌∷◌, [], length, All, IfErr, IfNone, IfOk, IfSome, IsTrue, List, None, Ok, OnErr, OnOk, Some, false, is_some, option_map, true, vec_len};
 ghost use Rattle.std.specs.Arc.{arc_value};
-ghost use Rattle.std.specs.List.{flat_map};
 ghost use mathlib.Core.List.{IsPrefix};
 ghost use Rattle.left_right.specs.Sides.{view as known};
 ghost use Rattle.adr_refusal.specs.Answer.{Answers, OnlyNoMemory, result_map};
 ghost use Rattle.adr_refusal.specs.Copy.{IsCopyOf};
 ghost use Rattle.adr_refusal.specs.declared.refusal.Refusal.TheVariants.{NoRuntime, NoMemory, Full};
+ghost use Rattle.adr_value.specs.declared.limits.TheConstants.{MOST_PUBLICATIONS};
 ghost use Rattle.adr_model.specs.declared.entry.Tie.{Tie};
 ghost use Rattle.adr_model.specs.Book.{empty};
 ghost use Rattle.adr_model.specs.Edits.{after_from, full_at, made as made_book, step_to};
 ghost use Rattle.adr_model.specs.Touches.{touches};
-ghost use Rattle.adr_book.specs.Ledger.{Ledger, sealed_of};
+ghost use Rattle.adr_book.specs.Ledger.{Ledger};
 ghost use Rattle.adr_regroup.specs.Compared.{most_compared_in};
 ghost use Rattle.adr_board.specs.Published.{PublishedBook, last_batch};
-ghost use Rattle.adr_board.specs.Types.{ArePrivate, edit_names, HasPrivateNames};
 ghost use Rattle.adr_board.specs.History.{HasLast, begun, ended, published_by, seen_by};
-ghost use Rattle.adr_board.specs.Publications.{opening_book, sealed};
+ghost use Rattle.adr_board.specs.Publications.{opening_book};
+ghost use Rattle.adr_board.specs.Publishers.{opening_of};
 ghost use Rattle.adr_board.specs.Boards.{Grows, last_of, newcomer, with_published};
 ghost use Rattle.adr_board.specs.Rules.{IsCarried, IsLast, IsLastBy, IsSight, IsTaken, MayFollow, showing};
 
+use crate::publisher::Publisher;
 use crate::rule::{Add, Look, Naming, RuledReader, RuledWriter};
 use crate::shown::Shown;
-use crate::snapshot::{Snapshot, has_private_names, names_stay_private};
+use crate::snapshot::Snapshot;
 use crate::{Diary, Page};
-use adr_book::{Book, SharedList};
+use adr_book::Book;
 use adr_desk::{Desk, Gate, Receipt};
 use adr_model::{Published, Tie};
 use adr_object::Edit;
-use adr_schedule::Resolution;
 use adr_value::Refusal;
-use adr_value::limits::MOST_PUBLICATIONS;
 use core::mem::replace_with;
 use std::alloc::Global;
 use std::marker::{Model, PhantomData};
@@ -338,47 +337,11 @@ fn attempt_to_show<J: Naming, R: Wait>(
     outcome
 }
 
-// What a publication is made of, before anything changes.
-struct Prepared {
-    sealed: Resolution,
-    shown: Arc<Snapshot>,
-    last: Arc<Snapshot>,
-}
-
-#[tactic(auto, using(crate::proofs::Following::all_closed))]
-fn prepare(alloc: Global, desk: &Desk, number: u64) -> Result<Prepared, Refusal>
-    requires { HasPrivateNames desk.now.book.objects }
-    ensures tie { IfOk result (λ p. (p.sealed.tie ≡ desk.now.tie) × ((arc_value p.shown).tie ≡ desk.now.tie)) }
-    ensures book { IfOk result (λ p. p.sealed.book ≡ sealed desk.now.book) }
-    ensures leads { IfOk result (λ p. sealed_of p.sealed.book ≡ p.sealed.book.objects) }
-    ensures publication { IfOk result (λ p. (arc_value p.shown).book ≡ sealed desk.now.book) }
-    ensures number { IfOk result (λ p. (arc_value p.shown).number ≡ number) }
-    ensures last { IfOk result (λ p. arc_value p.last ≡ arc_value p.shown) }
-    ensures refusal { OnlyNoMemory result }
-{
-    let sealed = desk.sealed()?;
-    let _leads = sealed.book().journal();
-    let snapshot = Snapshot::of(alloc, number, sealed.copy()?);
-    let Ok(shown) = Arc::new(alloc, snapshot) else {
-        return Err(Refusal::NoMemory);
-    };
-    let Ok(last) = Arc::try_clone(&shown) else {
-        return Err(Refusal::NoMemory);
-    };
-    Ok(Prepared {
-        sealed,
-        shown,
-        last,
-    })
-}
-
 /// The one writer. Contracts see its desk's rule for ties and book, and the publications.
 ///
 /// It is not `Drop`: end it by `close`.
 pub struct Editor<J: Naming> {
-    alloc: Global,
-    desk: Desk,
-    last: Arc<Snapshot>,
+    publisher: Publisher,
     attempt: u64,
     writer: RuledWriter<J>,
     diary: Diary,
@@ -389,17 +352,13 @@ impl<J: Naming> Model for Editor<J> {
 
     ghost Value = { Board };
 
-    ghost use Rattle.std.specs.Prelude.{◌≡◌, ◌≤◌};
-    ghost use Rattle.std.specs.Arc.{arc_value};
     ghost use Rattle.left_right.specs.Sides.{view as known};
-    ghost use Rattle.adr_book.specs.Ledger.{sealed_of};
-    ghost use Rattle.adr_board.specs.History.{HasLast, published_by};
-    ghost use Rattle.adr_board.specs.Types.{HasPrivateNames};
-    ghost use Rattle.adr_board.specs.Rules.{IsLast, showing};
+    ghost use Rattle.adr_board.specs.Publishers.{IsShownAs};
+    ghost use Rattle.adr_board.specs.Rules.{showing};
 
-    ghost view = { λ e. record { tie = e.desk.tie; book = e.desk.book; published = known e.writer.desk.place } };
+    ghost view = { λ e. record { tie = e.publisher.tie; book = e.publisher.book; published = known e.writer.desk.place } };
 
-    ghost invariant = { λ e. (arc_value e.last ≡ (showing e.writer.desk.shown.value).snapshot) × IsLast (known e.writer.desk.place) (arc_value e.last) × ((arc_value e.last).book.objects ≡ sealed_of e.desk.book) × ((arc_value e.last).tie ≡ e.desk.tie) × (e.desk.tie ≡ J.tie) × ((arc_value e.last).number ≤ 1000000) × (e.diary.page.book ≡ J.history) × (published_by e.diary.page.log ≡ known e.writer.desk.place) × HasLast e.diary.page.log (arc_value e.last).number e.attempt × HasPrivateNames e.desk.book.objects };
+    ghost invariant = { λ e. IsShownAs J.tie J.history e.publisher (showing e.writer.desk.shown.value).snapshot (known e.writer.desk.place) e.diary.page.book e.diary.page.log e.attempt };
 }
 
 impl<J: Naming> Editor<J> {
@@ -417,15 +376,13 @@ impl<J: Naming> Editor<J> {
         ensures published { self.new.published ≡ self.old.published }
         ensures unchanged { OnErr result (self.new ≡ self.old) }
     {
-        has_private_names(&edit);
-        names_stay_private();
-        self.desk.apply(edit)
+        self.publisher.apply(edit)
     }
 
     /// Makes an edit as [`Editor::apply`] does, by several workers, 1 to 64, who share out the repair of timelines
-    /// and pass the gate before each of its jobs, as the desk's `apply_with` does. Under `Tie::Newest` an event that
-    /// comes is no job where it is laid over what groups show that lose none: the calling thread does so, past no
-    /// gate. The answer is the same for every number of workers.
+    /// and pass the gate before each of its jobs, as the desk's `apply_with` does. Under `Tie::Newest` an event is no
+    /// job where it is laid over what groups show or taken out of it: the calling thread does so, past no gate. The
+    /// answer is the same for every number of workers.
     pub fn apply_with<R: Threads + Sync, G: Gate + Sync>(
         &mut self,
         rt: &R,
@@ -445,9 +402,7 @@ impl<J: Naming> Editor<J> {
         ensures published { self.new.published ≡ self.old.published }
         ensures unchanged { OnErr result (self.new ≡ self.old) }
     {
-        has_private_names(&edit);
-        names_stay_private();
-        self.desk.apply_with(rt, workers, gate, edit)
+        self.publisher.apply_with(rt, workers, gate, edit)
     }
 
     /// The desk.
@@ -455,14 +410,14 @@ impl<J: Naming> Editor<J> {
         ensures tie { result.now.tie ≡ self.now.tie }
         ensures book { result.now.book ≡ self.now.book }
     {
-        &self.desk
+        self.publisher.desk()
     }
 
     /// The rule for ties of the board's name is that of its desk.
     pub fn editor_laws(&self)
         ensures tie { self.now.tie ≡ J.tie }
     {
-        let _ = &self.desk;
+        let _ = &self.publisher;
     }
 
     /// The last publication. It stores the desk's book as it was published, with its base and all its batches, whatever
@@ -472,7 +427,7 @@ impl<J: Naming> Editor<J> {
         ensures book { (arc_value result.now).book ≡ last_of self.now.published }
         ensures tie { (arc_value result.now).tie ≡ self.now.tie }
     {
-        &self.last
+        self.publisher.last()
     }
 
     /// All publications so far, for readers to learn. It takes no memory.
@@ -480,7 +435,7 @@ impl<J: Naming> Editor<J> {
         ensures { result ≡ self.now.published }
     {
         Told {
-            number: self.last.number(),
+            number: self.publisher.last().number(),
             attempt: self.attempt,
             page: self.diary.page.again(),
             of: PhantomData,
@@ -500,24 +455,23 @@ impl<J: Naming> Editor<J> {
         ensures refused { IfErr result (λ e. (e ≡ NoMemory) ⊎ ((e ≡ Full) × (length self.old.published ≡ MOST_PUBLICATIONS + 1))) }
         ensures unchanged { OnErr result (self.new ≡ self.old) }
     {
-        let number = self.last.number();
-        if number >= MOST_PUBLICATIONS {
-            return Err(Refusal::Full);
-        }
-        let _leads = self.desk.book().journal();
-        let Prepared {
-            sealed,
-            shown,
-            last,
-        } = prepare(self.alloc, &self.desk, number + 1)?;
+        let prepared = self.publisher.prepare()?;
+        let snapshot = prepared.snapshot();
+        let shown = shared(snapshot)?;
         let place = self.diary.attempts;
-        attempt_to_show(&mut self.writer, &mut self.diary, rt, sealed.book(), shown)?;
-        self.desk.go_on_from(sealed);
-        self.last = last;
+        attempt_to_show(
+            &mut self.writer,
+            &mut self.diary,
+            rt,
+            snapshot.book(),
+            shown,
+        )?;
+        self.publisher.go_on_with(prepared);
         self.attempt = place;
+        let last = self.publisher.last();
         Ok(Published {
-            number: number + 1,
-            version: self.desk.book().version(),
+            number: last.number(),
+            version: last.version(),
         })
     }
 
@@ -535,21 +489,18 @@ impl<J: Naming> Editor<J> {
         ensures unchanged { OnErr result (self.new ≡ self.old) }
         ensures refusal { OnlyNoMemory result }
     {
-        self.desk.condense(self.last.book())
+        self.publisher.condense()
     }
 
     /// Ends the board: a look then answers `NoRuntime`. It waits for readers that are taking a share.
     pub fn close<R: Wait>(self, rt: &R) {
         let Editor {
-            alloc: _,
-            desk,
-            last,
+            publisher,
             attempt: _,
             writer,
             diary,
         } = self;
-        drop(desk);
-        drop(last);
+        drop(publisher);
         drop(diary);
         writer.take(rt);
     }
@@ -571,41 +522,25 @@ impl NewBoard {
     }
 }
 
-// What a board starts with: publication 0 alone.
+// What a board starts with beside its publisher.
 struct Started<J: Naming> {
     writer: RuledWriter<J>,
-    last: Arc<Snapshot>,
     attempt: u64,
     page: Page,
     diary: Diary,
 }
 
-// Publication 0.
-#[tactic(auto, using(crate::proofs::Following::is_opening))]
-fn opening_snapshot(alloc: Global, tie: Tie) -> Result<Arc<Snapshot>, Refusal>
-    ensures number { IfOk result (λ s. (arc_value s).number ≡ 0) }
-    ensures tie { IfOk result (λ s. (arc_value s).tie ≡ tie) }
-    ensures book { IfOk result (λ s. (arc_value s).book ≡ opening_book) }
-    ensures refusal { OnlyNoMemory result }
-{
-    let snapshot = Snapshot::first(alloc, tie)?;
-    snapshot.snapshot_laws();
-    Arc::new(alloc, snapshot).map_err(|_| Refusal::NoMemory)
-}
-
+// A board that shows publication 0.
 fn start<J: Naming>(
     alloc: Global,
     board: NewBoard,
-    tie: Tie,
+    first: &Arc<Snapshot>,
     readers: usize,
 ) -> Result<Started<J>, Refusal>
     requires history { board.diary.page.book ≡ J.history }
-    requires tie { tie ≡ J.tie }
+    requires first { arc_value first.now ≡ opening_of J.tie }
     requires readers { (0 < readers) × (readers ≤ 64) }
-    ensures shown { IfOk result (λ t. arc_value t.last ≡ (showing t.writer.desk.shown.value).snapshot) }
-    ensures number { IfOk result (λ t. (arc_value t.last).number ≡ 0) }
-    ensures book { IfOk result (λ t. (arc_value t.last).book ≡ opening_book) }
-    ensures tie { IfOk result (λ t. (arc_value t.last).tie ≡ tie) }
+    ensures shown { IfOk result (λ t. (showing t.writer.desk.shown.value).snapshot ≡ opening_of J.tie) }
     ensures known { IfOk result (λ t. known t.writer.desk.place ≡ opening_book ∷ []) }
     ensures seen { IfOk result (λ t. seen_by t.page.log ≡ opening_book ∷ []) }
     ensures history { IfOk result (λ t. t.diary.page.book ≡ J.history) }
@@ -614,23 +549,21 @@ fn start<J: Naming>(
     ensures refusal { OnlyNoMemory result }
 {
     let NewBoard { mut diary } = board;
-    let last = opening_snapshot(alloc, tie)?;
-    let shown = shared(&last)?;
-    let other = shared(&last)?;
+    let shown = shared(first)?;
+    let other = shared(first)?;
     let place = diary.attempts;
-    let Some(attempt) = diary.begin(last.book()) else {
+    let Some(attempt) = diary.begin(first.book()) else {
         return Err(Refusal::NoMemory);
     };
     let page = attempt.page.again();
-    let first = Shown::of(shown, place, &page);
-    let second = Shown::of(other, place, &page);
-    let Ok(writer) = RuledWriter::<J>::new(alloc, first, second, readers) else {
+    let one = Shown::of(shown, place, &page);
+    let two = Shown::of(other, place, &page);
+    let Ok(writer) = RuledWriter::<J>::new(alloc, one, two, readers) else {
         return Err(Refusal::NoMemory);
     };
-    diary.end(attempt, last.book(), true);
+    diary.end(attempt, first.book(), true);
     Ok(Started {
         writer,
-        last,
         attempt: place,
         page,
         diary,
@@ -667,29 +600,6 @@ fn seat_readers<J: Naming>(
         }
     }
     Ok(list)
-}
-
-fn names_in(edits: &SharedList<Edit>)
-    ensures { ArePrivate (flat_map edit_names edits.now) }
-{
-    for place in 0..edits.len() {
-        let Some(edit) = edits.at(place) else {
-            unreachable!();
-        };
-        has_private_names(edit);
-    }
-}
-
-// A desk whose batches are all open has private types under names of their own, as its edits have.
-#[tactic(auto, using(crate::proofs::Named::first_batch_private))]
-fn names_of_first_batch(desk: &Desk)
-    requires base { desk.now.book.base ≡ empty }
-    requires closed { desk.now.book.closed ≡ [] }
-    ensures { HasPrivateNames desk.now.book.objects }
-{
-    let journal = desk.book().journal();
-    names_stay_private();
-    names_in(journal.pending());
 }
 
 /// A board, by its editor and its readers.
@@ -744,19 +654,15 @@ impl Board {
         ensures newcomers { IfOk result (λ b. All (λ r. r ≡ newcomer) b.1.items) }
         ensures refused { IfErr result (λ e. (e ≡ NoMemory) ⊎ (e ≡ NoRuntime)) }
     {
-        names_of_first_batch(&desk);
-        let started = start(alloc, board, desk.tie(), readers)?;
+        let publisher = Publisher::over(alloc, desk)?;
         let Started {
             writer,
-            last,
             attempt,
             page,
             diary,
-        } = started;
+        } = start(alloc, board, publisher.last(), readers)?;
         let editor = Editor {
-            alloc,
-            desk,
-            last,
+            publisher,
             attempt,
             writer,
             diary,

@@ -8,6 +8,7 @@
 mod board;
 mod diary;
 mod laws;
+mod publisher;
 mod rule;
 mod run;
 mod run_steps;
@@ -19,6 +20,7 @@ pub use adr_model::Published;
 pub use board::{Board, Editor, NewBoard, Reader, Told};
 pub use diary::{Attempt, Diary, Entry, Law, Page, Publication};
 pub use laws::replay_laws;
+pub use publisher::{Prepared, Publisher};
 pub use rule::Naming;
 pub use run::replay;
 pub use run_steps::{Shown, Step};

@@ -20,7 +20,9 @@ mod lines;
 mod names;
 mod types;
 
-pub(crate) use crate::snapshot::names::{has_private_names, names_stay_private};
+pub(crate) use crate::snapshot::names::{
+    has_private_names, names_of_first_batch, names_stay_private,
+};
 use adr_book::{Base, Book};
 use adr_group::Group;
 use adr_model::Tie;

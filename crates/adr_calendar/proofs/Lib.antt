@@ -3,3 +3,5 @@ pub mod Segments
 pub mod States
 pub mod Walked
 pub mod Tabled
+mod Days
+mod Digits

@@ -13,6 +13,10 @@ shown_view s = record { event = s.event.now; interval = s.interval; values = s.v
 abbrev pub event_text : Shown → List ℕ
 event_text s = codes "event " ++ s.event ++ codes " interval " ++ signed_decimal s.interval
 
+-- ` event e1 interval `
+abbrev pub naming_text : List ℕ → List ℕ
+naming_text event = codes " event " ++ event ++ codes " interval "
+
 -- ` event e1 interval 0 values 10`
 abbrev pub shown_text : Shown → List ℕ
 shown_text s = codes " " ++ event_text s ++ codes " " ++ values_text s.values

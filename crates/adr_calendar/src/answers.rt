@@ -12,10 +12,11 @@ ghost use Rattle.adr_model.specs.Answer.{at, shown, shown_of as shown_by, state_
 ghost use Rattle.adr_model.specs.Queries.{beginnings, in_lines, list, list_text, roll, roll_line, segment_line, type_text, types, types_text};
 
 use crate::calendar::{Calendar, State};
+use crate::events::LastEvent;
 use crate::lines::{Shown, cut, put_segment, put_state, put_type, put_version};
 use crate::moments::LastMoment;
 use crate::printing::put;
-use crate::shown::shown_of;
+use crate::shown::{shown_in, shown_of};
 use adr_book::Book;
 use adr_model::{Segment, Winner};
 use adr_object::{Id, Kind};
@@ -25,7 +26,7 @@ use adr_value::{PayloadType, Refusal};
 use std::alloc::Global;
 
 /// How long the line of a segment mostly is at most.
-const LINE: usize = 80;
+const LINE: usize = 96;
 
 /// What the winner shows of the payload type, where there is one.
 pub fn shown_by_winner<'a>(
@@ -112,19 +113,31 @@ pub fn at<C: Calendar>(
 /// Appends the line of the segment.
 fn put_line(
     out: &mut Vec<u8>,
-    last: &mut LastMoment,
-    book: &Book,
+    last_event: &mut LastEvent<'_>,
+    last_moment: &mut LastMoment,
     payload_type: &PayloadType,
     to: Moment,
     segment: &Segment,
 ) -> Result<(), Refusal>
-    ensures ok { OnOk result (out.new.items ≡ out.old.items ++ line_of_segment book.now.objects payload_type.now to segment.now) }
+    ensures objects { last_event.new.objects.now ≡ last_event.old.objects.now }
+    ensures ok { OnOk result (out.new.items ≡ out.old.items ++ line_of_segment last_event.old.objects.now payload_type.now to segment.now) }
     ensures memory { OnlyNoMemory result }
 {
-    let Some(shown) = shown_of(book, payload_type, segment.winner) else {
+    let Some(event) = last_event.turn_to(segment.winner.written)? else {
         return Ok(());
     };
-    put_segment(out, last, segment.start, cut(to, segment.end), shown)
+    let Some(shown) = shown_in(payload_type, segment.winner.place, event) else {
+        return Ok(());
+    };
+    let end = cut(to, segment.end);
+    put_segment(
+        out,
+        last_moment,
+        segment.start,
+        end,
+        shown,
+        last_event.naming(),
+    )
 }
 
 /// Appends the lines of the segments.
@@ -140,9 +153,17 @@ fn put_lines(
     ensures memory { OnlyNoMemory result }
 {
     out.reserve(segments.len().saturating_mul(LINE))?;
-    let mut last = LastMoment::none(alloc);
+    let mut last_event = LastEvent::none(alloc, book.objects());
+    let mut last_moment = LastMoment::none(alloc);
     for segment in segments {
-        put_line(out, &mut last, book, payload_type, to, segment)?;
+        put_line(
+            out,
+            &mut last_event,
+            &mut last_moment,
+            payload_type,
+            to,
+            segment,
+        )?;
     }
     Ok(())
 }

@@ -3,6 +3,7 @@
 
 mod answers;
 mod calendar;
+mod events;
 mod json;
 mod laws;
 mod lines;

@@ -6,7 +6,7 @@ ghost use Rattle.adr_refusal.specs.Answer.{OnlyNoMemory};
 ghost use Rattle.adr_time.specs.Text.{moment_text};
 ghost use Rattle.adr_model.specs.Answer.{state_text};
 ghost use Rattle.adr_model.specs.Queries.{end_within, is_bare_byte, segment_text, type_text};
-ghost use Rattle.adr_calendar.specs.Shown.{event_text, shown_text, shown_view};
+ghost use Rattle.adr_calendar.specs.Shown.{event_text, naming_text, shown_text, shown_view};
 
 use crate::moments::LastMoment;
 use crate::printing::{put, put_end, put_id, put_natural, put_quoted, put_values};
@@ -54,7 +54,6 @@ pub fn put_state(out: &mut Vec<u8>, shown: Option<Shown<'_>>, end: End) -> Resul
     put_event(out, shown)?;
     put(out, b" until ")?;
     put_end(out, end)?;
-    put(out, b" ")?;
     put_values(out, shown.values)
 }
 
@@ -73,14 +72,24 @@ fn put_moments(
     last.put(out, end)
 }
 
-/// Appends what is shown behind a space: ` event e1 interval 0 values 10`.
-fn put_shown(out: &mut Vec<u8>, shown: Shown<'_>) -> Result<(), Refusal>
+/// Appends how the lines of an event name it: ` event e1 interval `, behind which an interval's id goes.
+pub(crate) fn put_naming(out: &mut Vec<u8>, event: &Id) -> Result<(), Refusal>
+    ensures ok { OnOk result (out.new.items ≡ out.old.items ++ naming_text event.now) }
+    ensures memory { OnlyNoMemory result }
+{
+    put(out, b" event ")?;
+    put(out, event.text().as_bytes())?;
+    put(out, b" interval ")
+}
+
+/// Appends what is shown behind a space, ` event e1 interval 0 values 10`, from how the lines of the event name it.
+fn put_shown(out: &mut Vec<u8>, shown: Shown<'_>, naming: &[u8]) -> Result<(), Refusal>
+    requires { naming.now ≡ naming_text (shown_view shown).event }
     ensures ok { OnOk result (out.new.items ≡ out.old.items ++ shown_text (shown_view shown.entry)) }
     ensures memory { OnlyNoMemory result }
 {
-    put(out, b" ")?;
-    put_event(out, shown)?;
-    put(out, b" ")?;
+    put(out, naming)?;
+    put_id(out, shown.interval)?;
     put_values(out, shown.values)
 }
 
@@ -100,7 +109,7 @@ pub fn cut(to: Moment, end: End) -> Moment
     }
 }
 
-/// Appends the line of a segment, its line feed too:
+/// Appends the line of a segment, its line feed too, from how the lines of its event name it:
 /// `2024-01-01T00:00:00Z 2024-01-01T01:00:00Z event e1 interval 0 values 10`.
 pub(crate) fn put_segment(
     out: &mut Vec<u8>,
@@ -108,12 +117,14 @@ pub(crate) fn put_segment(
     start: Moment,
     end: Moment,
     shown: Shown<'_>,
+    naming: &[u8],
 ) -> Result<(), Refusal>
+    requires { naming.now ≡ naming_text (shown_view shown).event }
     ensures ok { OnOk result (out.new.items ≡ out.old.items ++ segment_text start end (shown_view shown.entry)) }
     ensures memory { OnlyNoMemory result }
 {
     put_moments(out, last, start, end)?;
-    put_shown(out, shown)?;
+    put_shown(out, shown, naming)?;
     put(out, b"\n")
 }
 

@@ -1,5 +1,5 @@
 //! The bytes of numbers, texts, values and ends.
-ghost use Rattle.std.specs.Prelude.{◌≡◌, ◌++◌, ◌<◌, ◌≤◌, ◌^◌, ◌/◌, ◌%◌, ℕ, OnOk, codes, replicate};
+ghost use Rattle.std.specs.Prelude.{◌≡◌, ◌++◌, ◌<◌, ◌≤◌, ◌^◌, ◌/◌, ◌%◌, ℕ, OnOk, codes, drop, length, replicate};
 ghost use Rattle.std.specs.Fmt.{decimal, sign_text, signed_decimal};
 ghost use Rattle.std.specs.List.{flat_map};
 ghost use Rattle.adr_refusal.specs.Answer.{OnlyNoMemory};
@@ -8,7 +8,10 @@ ghost use Rattle.adr_model.specs.Answer.{hex_digit, quoted_byte, quoted, datum_t
 
 use adr_time::{End, print_moment};
 use adr_value::{Datum, Decimal, Refusal};
-use itoa::Buffer;
+use itoa::{Buffer, write_digits};
+
+/// Room for the digits of two numbers of 64 bits and a point.
+const ROOM: usize = 48;
 
 /// Appends bytes.
 pub fn put(out: &mut Vec<u8>, text: &[u8]) -> Result<(), Refusal>
@@ -51,18 +54,6 @@ fn put_places(out: &mut Vec<u8>, places: u8, value: u128) -> Result<(), Refusal>
     put(out, digits)
 }
 
-/// The whole part of a division, and what is left: numbers of 64 bits take a shorter way.
-fn divided(size: u128, power: u128) -> (u128, u128)
-    requires { 0 < power }
-    ensures whole { result.0 ≡ size / power }
-    ensures rest { result.1 ≡ size % power }
-{
-    match (u64::try_from(size), u64::try_from(power)) {
-        (Ok(size), Ok(power)) => (u128::from(size / power), u128::from(size % power)),
-        _ => (size / power, size % power),
-    }
-}
-
 /// Appends the point and the digits after it, if there are any.
 fn put_fraction(out: &mut Vec<u8>, places: u8, rest: u128) -> Result<(), Refusal>
     requires places { places ≤ 36 }
@@ -84,6 +75,63 @@ fn put_sign(out: &mut Vec<u8>, is_negative: bool) -> Result<(), Refusal>
     if is_negative { put(out, b"-") } else { Ok(()) }
 }
 
+/// Writes a point and that many digits at the end of a text of zeros, and answers where they begin.
+fn write_places(text: &mut [u8], places: u8, rest: u64) -> usize
+    requires zeros { text.old ≡ replicate 48 48 }
+    requires some { 0 < places }
+    requires places { places ≤ 19 }
+    requires rest { rest < 10 ^ places }
+    ensures room { 28 ≤ result }
+    ensures within { result ≤ 48 }
+    ensures length { length text.new ≡ 48 }
+    ensures written { drop result text.new ≡ codes "." ++ places_text places rest }
+{
+    let _digits = write_digits(rest, text, ROOM);
+    let point = ROOM - 1 - places as usize;
+    text[point] = b'.';
+    point
+}
+
+/// Writes the point and the digits after it, if there are any, and answers where they begin.
+fn write_fraction(text: &mut [u8], places: u8, rest: u64) -> usize
+    requires zeros { text.old ≡ replicate 48 48 }
+    requires places { places ≤ 19 }
+    requires rest { rest < 10 ^ places }
+    ensures room { 28 ≤ result }
+    ensures within { result ≤ 48 }
+    ensures length { length text.new ≡ 48 }
+    ensures written { (size : ℕ) → rest ≡ size % 10 ^ places → drop result text.new ≡ fraction_text places size }
+{
+    if places == 0 {
+        return ROOM;
+    }
+    write_places(text, places, rest)
+}
+
+/// Appends a number of a size of 64 bits and few places.
+fn put_short(out: &mut Vec<u8>, size: u64, places: u8) -> Result<(), Refusal>
+    requires { places ≤ 19 }
+    ensures ok { OnOk result (out.new.items ≡ out.old.items ++ (decimal (size / 10 ^ places) ++ fraction_text places size)) }
+    ensures memory { OnlyNoMemory result }
+{
+    let mut text = [b'0'; ROOM];
+    let power = 10u64.pow(places as u32);
+    let point = write_fraction(&mut text, places, size % power);
+    let start = write_digits(size / power, &mut text, point);
+    put(out, &text[start..])
+}
+
+/// Appends a number that `put_short` doesn't take.
+fn put_long(out: &mut Vec<u8>, size: u128, places: u8) -> Result<(), Refusal>
+    requires { places ≤ 36 }
+    ensures ok { OnOk result (out.new.items ≡ out.old.items ++ (decimal (size / 10 ^ places) ++ fraction_text places size)) }
+    ensures memory { OnlyNoMemory result }
+{
+    let power = power_of_ten(places);
+    put_natural(out, size / power)?;
+    put_fraction(out, places, size % power)
+}
+
 /// Appends a number.
 pub(crate) fn put_decimal(out: &mut Vec<u8>, number: Decimal) -> Result<(), Refusal>
     ensures ok { OnOk result (out.new.items ≡ out.old.items ++ number_text number) }
@@ -91,10 +139,11 @@ pub(crate) fn put_decimal(out: &mut Vec<u8>, number: Decimal) -> Result<(), Refu
 {
     let size = number.coefficient().unsigned_abs();
     let places = number.scale();
-    let (whole, rest) = divided(size, power_of_ten(places));
     put_sign(out, number.coefficient() < 0)?;
-    put_natural(out, whole)?;
-    put_fraction(out, places, rest)
+    match u64::try_from(size) {
+        Ok(size) if places < 20 => put_short(out, size, places),
+        _ => put_long(out, size, places),
+    }
 }
 
 // 10 to the power of `places`.
@@ -212,13 +261,19 @@ fn put_data(out: &mut Vec<u8>, values: &[Datum]) -> Result<(), Refusal>
     Ok(())
 }
 
-/// Appends `values`, and each value behind a space.
+/// Appends ` values`, and each value behind a space.
 pub(crate) fn put_values(out: &mut Vec<u8>, values: &[Datum]) -> Result<(), Refusal>
-    ensures ok { OnOk result (out.new.items ≡ out.old.items ++ values_text values.now) }
+    ensures ok { OnOk result (out.new.items ≡ out.old.items ++ (codes " " ++ values_text values.now)) }
     ensures memory { OnlyNoMemory result }
 {
-    put(out, b"values")?;
-    put_data(out, values)
+    match values {
+        [first, rest @ ..] => {
+            put(out, b" values ")?;
+            put_datum(out, first)?;
+            put_data(out, rest)
+        }
+        [] => put(out, b" values"),
+    }
 }
 
 /// Appends a moment, or `end`.

@@ -1,5 +1,5 @@
 //! What governs shows of a payload type.
-ghost use Rattle.std.specs.Prelude.{◌≡◌};
+ghost use Rattle.std.specs.Prelude.{◌≡◌, IfSome};
 ghost use Rattle.std.specs.Option.{option_copied, option_map};
 ghost use Rattle.adr_calendar.specs.Shown.{event_alone, shown_view};
 ghost use Rattle.adr_model.specs.Answer.{first_payload as first_of_type, shown_in as shown_at, shown_of as shown_by};
@@ -18,8 +18,14 @@ fn first_payload<'a>(payload_type: &PayloadType, payloads: &'a [Payload]) -> Opt
         .find(|payload| payload.kind.name() == payload_type.name())
 }
 
-fn shown_in<'a>(payload_type: &PayloadType, place: u32, event: &'a Event) -> Option<Shown<'a>>
-    ensures { option_map shown_view result ≡ shown_at payload_type.now place (event_alone event.now) }
+/// What the interval at the place of an event shows of the type.
+pub(crate) fn shown_in<'a>(
+    payload_type: &PayloadType,
+    place: u32,
+    event: &'a Event,
+) -> Option<Shown<'a>>
+    ensures value { option_map shown_view result ≡ shown_at payload_type.now place (event_alone event.now) }
+    ensures event { IfSome result (λ s. s.event.now ≡ event.now.id) }
 {
     let interval = event.intervals.as_slice().get(place as usize)?;
     let payload = first_payload(payload_type, interval.payloads.as_slice())?;

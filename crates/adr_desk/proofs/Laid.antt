@@ -1,15 +1,12 @@
--- The ranks of winners, and the entries of the event that comes.
-use Rattle.std.proofs.Common.{◌≡◌, ℕ, ◌+◌, ◌≤◌, ◌^◌, ◌==◌, ◌⊎◌, inl, inr, eqb, Bool, true, false, if◌then◌else◌, List, [], ◌∷◌, map, filter_map, Option, Some, None, refl, ap, sym, subst, ◌∙◌, arith, eqb-true, eq-eqb}
+-- The ranks of winners, and the entries of the event that goes and of the one that comes.
+use Rattle.std.proofs.Common.{◌≡◌, ℕ, ◌^◌, ◌==◌, ◌⊎◌, inl, inr, eqb, Bool, true, false, if◌then◌else◌, List, [], ◌∷◌, map, filter_map, Option, Some, None, refl, ap, sym, subst, ◌∙◌, eqb-true, eq-eqb}
 use Rattle.std.specs.Bool.{then_some}
 use Rattle.std.specs.List.{enumerate_from, zip, cons_option, IsDistinct}
 use Rattle.std.specs.Option.{option_map, option_map_or}
+use Rattle.std.specs.Prelude.{option_to_list}
 use Rattle.std.specs.Result.{result_unwrap_or}
 use Rattle.std.proofs.lemmas.Bool.{both_ways}
 use Rattle.adr_value.specs.declared.payload.PayloadType.{PayloadType}
-use Rattle.adr_object.specs.declared.object.Object.{Object}
-use Rattle.adr_object.specs.declared.object.Object.TheVariants.{Event as event}
-use Rattle.adr_object.specs.declared.object.Edit.{Edit}
-use Rattle.adr_object.specs.declared.object.Edit.TheVariants.{Create, Change as change_to, Remove}
 use Rattle.adr_model.specs.declared.entry.Entry.{Entry}
 use Rattle.adr_model.specs.declared.entry.Rank.{Rank}
 use Rattle.adr_model.specs.declared.entry.Tie.{Tie}
@@ -23,7 +20,7 @@ use Rattle.adr_model.specs.Lists.{In}
 use Rattle.adr_model.specs.Rank.{carries, priority_of, ranked}
 use Rattle.adr_model.specs.Whole.{IsWhole}
 use Rattle.adr_model.proofs.Events.{numbers, one_write}
-use Rattle.adr_model.proofs.Lists.{In-append_right, In-append_cases, In-flat_map, In-from_flat_map, In-from_map, In-map}
+use Rattle.adr_model.proofs.Lists.{In-append_left, In-append_right, In-append_cases, In-flat_map, In-from_flat_map, In-from_map, In-map}
 use Rattle.adr_repair.proofs.Inside.{number_of_entry}
 use Rattle.adr_store.specs.Numbers.{by_number}
 use Rattle.adr_lines.specs.Grouped.{entries_under}
@@ -36,24 +33,14 @@ use Rattle.adr_schedule.specs.declared.change.Change.{Change}
 use Rattle.adr_schedule.specs.declared.change.Side.{Side}
 use Rattle.adr_schedule.specs.Shift.{IsLaidBy}
 use Rattle.adr_desk.specs.Desk.{IsSideOf}
-use Rattle.adr_desk.specs.Edited.{come_of, made_of, with_come}
+use Rattle.adr_desk.specs.Edited.{with_come, IsExchanged}
 use Rattle.adr_desk.specs.Ranks.{if_newest, newest_rank, priority_in}
 
 some_one : {X : Type 0} (x y : X) → Some x ≡ Some y → x ≡ y
 some_one x y h = cc
 
--- ---- the number of what comes
-
--- what is made of an object has the next number
-made_next : (book : Book) (o : Object) (v : Written) → made_of book o ≡ Some v → v.written ≡ book.version + 1
-made_next book (event e) v h = ap (λ (z : Written). z.written) (sym (some_one (record { event = e; written = book.version + 1 }) v h))
-made_next book _ v h = absurd (cc)
-
--- what an edit makes has the next number
-pub next_number : (book : Book) (edit : Edit) (v : Written) → come_of book edit ≡ Some v → v.written ≡ book.version + 1
-next_number book (Create o) v h = made_next book o v h
-next_number book (change_to o) v h = made_next book o v h
-next_number book (Remove kind id) v h = absurd (cc)
+none_is_some : {X : Type 0} (x : X) → ◌≡◌ {A = Option X} None (Some x) → ⊥
+none_is_some x h = absurd (cc)
 
 -- ---- the events of entries
 
@@ -86,14 +73,13 @@ by_own_number (y ∷ ys) d w m = by (y.written == w.written) refl m (by_own_numb
     by false k (inl same) later = absurd (both_ways (y.written == w.written) k (eq-eqb y.written w.written (ap (λ (z : Written). z.written) same)))
     by false k (inr n) later = later n
 
--- ---- what is indexed, where one event comes to others of lower numbers
+-- ---- what is indexed
 
-module _ (tie : Tie) (book : Book) (whole : IsWhole book) (v : Written) (next : v.written ≡ book.version + 1)
-    (indexes : Indexes) (indexed : IsIndexOf tie (with_come book (Some v)) indexes) where
-  -- an indexed entry is of an event of the book, or of the one that comes
+module _ (tie : Tie) (events : List Written) (indexes : Indexes) (indexed : IsIndexOf tie events indexes) where
+  -- an indexed entry is of one of the events
   record IsFrom (k : PayloadType) (e : Entry) : Type 0 where
     pub event : Written
-    pub there : In event book.events ⊎ (v ≡ event)
+    pub there : In event events
     pub entry : Entry
     pub own : In entry (entries_of k event)
     pub is : ranked tie entry ≡ e
@@ -103,97 +89,142 @@ module _ (tie : Tie) (book : Book) (whole : IsWhole book) (v : Written) (next : 
   from : (k : PayloadType) (e : Entry) → In e (under indexes k) → IsFrom k e
   unfolding IsIndexOf
   from k e m =
-      let r = In-from_map (ranked tie) (all_of (with_come book (Some v)) k) e ((indexed k e).0 m) in
-      let f = In-from_flat_map (entries_of k) (with_come book (Some v)) r.0 r.1 in
+      let r = In-from_map (ranked tie) (all_of events k) e ((indexed k e).0 m) in
+      let f = In-from_flat_map (entries_of k) events r.0 r.1 in
       record {
         event = f.0;
-        there = which f.0 (In-append_cases f.0 book.events (v ∷ []) f.1);
+        there = f.1;
         entry = r.0;
         own = f.2;
         is = r.2;
         number = ap (λ (x : Entry). x.rank.written) (sym r.2) ∙ number_of_entry k f.0 r.0 f.2;
       }
-    where
-      which : (w : Written) → In w book.events ⊎ In w (v ∷ []) → In w book.events ⊎ (v ≡ w)
-      which w (inl n) = inl n
-      which w (inr (inl same)) = inr same
-      which w (inr (inr n)) = absurd n
 
-  -- the one that comes has a number of its own
-  apart : (w : Written) → In w book.events → w.written ≡ v.written → ⊥
-  apart w m same = let most : w.written ≤ book.version = whole.sound.numbers w m in omega (arith, most, same, next)
-
-  module _ (side : Side) (c : IsSideOf tie (Some v) (Some side)) where
+  module _ (u : Written) (held : In u events) (one : (w : Written) → In w events → w.written ≡ u.written → u ≡ w) (side : Side) (c : IsSideOf tie (Some u) (Some side)) where
     -- the entries of that number are those of the side
     own_entries : AreOwnOf indexes side.written side.entries.items
     unfolding IsIndexOf
-    own_entries k e = (λ m. there (from k e m.0) m.1, λ m. back (In-from_map (ranked tie) (entries_of k v) e (subst (λ (es : List Entry). In e es) (c.1 k) m)))
+    own_entries k e = (λ m. there (from k e m.0) m.1, λ m. back (In-from_map (ranked tie) (entries_of k u) e (subst (λ (es : List Entry). In e es) (c.1 k) m)))
       where
-        by : (f : IsFrom k e) → e.rank.written ≡ side.written → In f.event book.events ⊎ (v ≡ f.event) → v ≡ f.event
-        by f same (inl n) = absurd (apart f.event n (sym f.number ∙ same ∙ c.0))
-        by f same (inr is) = is
-
         there : IsFrom k e → e.rank.written ≡ side.written → In e (entries_under side.entries.items k)
         there f same =
-            let held : In f.entry (entries_of k v) = subst (λ (w : Written). In f.entry (entries_of k w)) (sym (by f same f.there)) f.own in
+            let own : In f.entry (entries_of k u) = subst (λ (w : Written). In f.entry (entries_of k w)) (sym (one f.event f.there (sym f.number ∙ same ∙ c.0))) f.own in
             subst (λ (es : List Entry). In e es) (sym (c.1 k))
-            (subst (λ (x : Entry). In x (map (ranked tie) (entries_of k v))) f.is (In-map (ranked tie) (entries_of k v) f.entry held))
+            (subst (λ (x : Entry). In x (map (ranked tie) (entries_of k u))) f.is (In-map (ranked tie) (entries_of k u) f.entry own))
 
-        back : (x : Entry) × In x (entries_of k v) × (ranked tie x ≡ e) → In e (under indexes k) × (e.rank.written ≡ side.written)
+        back : (x : Entry) × In x (entries_of k u) × (ranked tie x ≡ e) → In e (under indexes k) × (e.rank.written ≡ side.written)
         back r = (
           (indexed k e).1
-              (subst (λ (x : Entry). In x (map (ranked tie) (all_of (with_come book (Some v)) k))) r.2
-              (In-map (ranked tie) (all_of (with_come book (Some v)) k) r.0
-              (In-flat_map (entries_of k) (with_come book (Some v)) v r.0 (In-append_right v book.events (v ∷ []) (inl refl)) r.1))),
-          ap (λ (x : Entry). x.rank.written) (sym r.2) ∙ number_of_entry k v r.0 r.1 ∙ sym c.0,
+              (subst (λ (x : Entry). In x (map (ranked tie) (all_of events k))) r.2
+              (In-map (ranked tie) (all_of events k) r.0
+              (In-flat_map (entries_of k) events u r.0 held r.1))),
+          ap (λ (x : Entry). x.rank.written) (sym r.2) ∙ number_of_entry k u r.0 r.1 ∙ sym c.0,
         )
 
--- ---- the ranks of all other entries
+-- ---- where one event goes and another comes
 
-module _ (book : Book) (whole : IsWhole book) (v : Written) (next : v.written ≡ book.version + 1)
-    (indexes : Indexes) (indexed : IsIndexOf Newest (with_come book (Some v)) indexes) (side : Side) (c : IsSideOf Newest (Some v) (Some side)) where
-  -- a winner of an event of the book has the rank of its entry
-  rank_in_book : (k : PayloadType) (w : Written) (x : Entry) → In w book.events → In x (entries_of k w)
-      → newest_rank book.events (winner_of (ranked Newest x)) ≡ (ranked Newest x).rank
-  rank_in_book k w x m own =
-      let number = number_of_entry k w x own in
-      let found : by_number book.events x.rank.written ≡ Some w = ap (by_number book.events) number ∙ by_own_number book.events whole.sound.writes w m in
-      let priority : priority_in book.events x.rank.written ≡ x.rank.priority =
-      ap (λ (o : Option Written). option_map_or (λ (z : Written). priority_of z.event.priority) o (2 ^ 32)) found ∙ sym (priority_of_entry k w x own) in
-      ap (λ n. record (ranked Newest x).rank { priority = n }) priority
-
-  -- all other entries have the ranks of their winners
-  ranks_but : AreRanksBut side.written indexes (newest_rank book.events)
-  ranks_but k e m unlike = by (from Newest book whole v next indexes indexed k e m)
+module _ (old new : Book) (gone come : Option Written) (exchange : IsExchanged old new gone come) where
+  -- an indexed event is of the old book, or comes
+  which : (w : Written) → In w (with_come old come) → In w old.events ⊎ (come ≡ Some w)
+  which w m = by (In-append_cases w old.events (option_to_list come) m)
     where
-      by : IsFrom Newest book whole v next indexes indexed k e → newest_rank book.events (winner_of e) ≡ e.rank
-      by f = subst (λ (x : Entry). newest_rank book.events (winner_of x) ≡ x.rank) f.is (which f.there)
-        where
-          which : In f.event book.events ⊎ (v ≡ f.event) → newest_rank book.events (winner_of (ranked Newest f.entry)) ≡ (ranked Newest f.entry).rank
-          which (inl n) = rank_in_book k f.event f.entry n f.own
-          which (inr same) = absurd (unlike (f.number ∙ ap (λ (w : Written). w.written) (sym same) ∙ sym c.0))
+      comes : (o : Option Written) → In w (option_to_list o) → o ≡ Some w
+      comes None n = absurd n
+      comes (Some v) (inl same) = ap (λ (z : Written). Some z) same
+      comes (Some v) (inr n) = absurd n
 
-  -- so the entries of the one that comes can be laid over what is shown
-  is_coming : IsComing indexes (newest_rank book.events) side.written side.entries.items
-  is_coming = record {
-    types = c.2;
-    own = own_entries Newest book whole v next indexes indexed side c;
-    ranks = ranks_but;
-  }
+      by : In w old.events ⊎ In w (option_to_list come) → In w old.events ⊎ (come ≡ Some w)
+      by (inl n) = inl n
+      by (inr n) = inr (comes come n)
 
--- ---- the change
+  comes_in : (v : Written) → come ≡ Some v → In v (with_come old come)
+  comes_in v is = In-append_right v old.events (option_to_list come) (subst (λ (o : Option Written). In v (option_to_list o)) (sym is) (inl refl))
 
--- what an edit makes is laid by the ranks under the rule of the newest write
-pub laid_by : (tie : Tie) (book : Book) (come : Option Written) (indexes : Indexes) (change : Change) → IsWhole book → ((v : Written) → come ≡ Some v → v.written ≡ book.version + 1)
-    → IsIndexOf tie (with_come book come) indexes → IsSideOf tie come change.come → IsLaidBy (if_newest tie (newest_rank book.events)) indexes change
-laid_by Newest book (Some v) indexes change whole next indexed c rank side r s =
-    subst (λ (f : Winner → Rank). IsComing indexes f side.written side.entries.items) (some_one (newest_rank book.events) rank r)
-    (is_coming book whole v (next v refl) indexes indexed side (subst (λ (o : Option Side). IsSideOf Newest (Some v) o) s c))
-laid_by Newest book None indexes change whole next indexed c rank side r s = absurd (subst (λ (o : Option Side). IsSideOf Newest None o) s c)
-laid_by LatestStart book come indexes change whole next indexed c rank side r s = absurd (apart r)
-  where
-    apart : None ≡ Some rank → ⊥
-    apart h = absurd (cc)
+  -- each has its number alone
+  one_comes : (v : Written) → come ≡ Some v → (w : Written) → In w (with_come old come) → w.written ≡ v.written → v ≡ w
+  one_comes v is w m same = by (which w m)
+    where
+      by : In w old.events ⊎ (come ≡ Some w) → v ≡ w
+      by (inl n) = absurd (exchange.fresh w v n is same)
+      by (inr k) = some_one v w (sym is ∙ k)
+
+  one_goes : (u : Written) → gone ≡ Some u → (w : Written) → In w (with_come old come) → w.written ≡ u.written → u ≡ w
+  one_goes u is w m same = by (which w m)
+    where
+      by : In w old.events ⊎ (come ≡ Some w) → u ≡ w
+      by (inl n) = exchange.one u w (exchange.were u is) n (sym same)
+      by (inr k) = absurd (exchange.fresh u w (exchange.were u is) k (sym same))
+
+  module _ (tie : Tie) (indexes : Indexes) (indexed : IsIndexOf tie (with_come old come) indexes) where
+    -- the entries of the event that goes are indexed
+    goes_by : (o : Option Side) → IsSideOf tie gone o → (side : Side) → o ≡ Some side → AreOwnOf indexes side.written side.entries.items
+    goes_by o c side is = by gone refl (subst (λ (s : Option Side). IsSideOf tie gone s) is c)
+      where
+        by : (g : Option Written) → gone ≡ g → IsSideOf tie g (Some side) → AreOwnOf indexes side.written side.entries.items
+        by None k d = absurd d
+        by (Some u) k d =
+            own_entries tie (with_come old come) indexes indexed u (In-append_left u old.events (option_to_list come) (exchange.were u k)) (one_goes u k) side d
+
+  -- ---- the ranks of all other entries
+
+  module _ (whole : IsWhole old) (v : Written) (comes : come ≡ Some v) (indexes : Indexes) (indexed : IsIndexOf Newest (with_come old come) indexes)
+      (side : Side) (c : IsSideOf Newest (Some v) (Some side)) where
+    -- a winner of an event of the book has the rank of its entry
+    rank_in_book : (k : PayloadType) (w : Written) (x : Entry) → In w old.events → In x (entries_of k w)
+        → newest_rank old.events (winner_of (ranked Newest x)) ≡ (ranked Newest x).rank
+    rank_in_book k w x m own =
+        let number = number_of_entry k w x own in
+        let found : by_number old.events x.rank.written ≡ Some w = ap (by_number old.events) number ∙ by_own_number old.events whole.sound.writes w m in
+        let priority : priority_in old.events x.rank.written ≡ x.rank.priority =
+        ap (λ (o : Option Written). option_map_or (λ (z : Written). priority_of z.event.priority) o (2 ^ 32)) found ∙ sym (priority_of_entry k w x own) in
+        ap (λ n. record (ranked Newest x).rank { priority = n }) priority
+
+    -- all other entries have the ranks of their winners
+    ranks_but : AreRanksBut side.written indexes (newest_rank old.events)
+    ranks_but k e m unlike = by (from Newest (with_come old come) indexes indexed k e m)
+      where
+        by : IsFrom Newest (with_come old come) indexes indexed k e → newest_rank old.events (winner_of e) ≡ e.rank
+        by f = subst (λ (x : Entry). newest_rank old.events (winner_of x) ≡ x.rank) f.is (of_event (which f.event f.there))
+          where
+            of_event : In f.event old.events ⊎ (come ≡ Some f.event) → newest_rank old.events (winner_of (ranked Newest f.entry)) ≡ (ranked Newest f.entry).rank
+            of_event (inl n) = rank_in_book k f.event f.entry n f.own
+            of_event (inr is) = absurd (unlike (f.number ∙ ap (λ (w : Written). w.written) (some_one f.event v (sym is ∙ comes)) ∙ sym c.0))
+
+    -- so the entries of the one that comes can be laid over what is shown
+    is_coming : IsComing indexes (newest_rank old.events) side.written side.entries.items
+    is_coming = record {
+      types = c.2;
+      own = own_entries Newest (with_come old come) indexes indexed v (comes_in v comes) (one_comes v comes) side c;
+      ranks = ranks_but;
+    }
+
+  -- ---- the change
+
+  module _ (tie : Tie) (indexes : Indexes) (indexed : IsIndexOf tie (with_come old come) indexes) where
+    comes_by : (o : Option Side) → IsWhole old → IsSideOf tie come o → (rank : Winner → Rank) (side : Side) → if_newest tie (newest_rank old.events) ≡ Some rank → o ≡ Some side
+        → IsComing indexes rank side.written side.entries.items
+    comes_by o whole c rank side r is = by tie r come refl (subst (λ (s : Option Side). IsSideOf tie come s) is c) indexed
+      where
+        by : (x : Tie) → if_newest x (newest_rank old.events) ≡ Some rank → (w : Option Written) → come ≡ w → IsSideOf x w (Some side) → IsIndexOf x (with_come old come) indexes
+            → IsComing indexes rank side.written side.entries.items
+        by LatestStart k w i d held = absurd (none_is_some rank k)
+        by Newest k None i d held = absurd d
+        by Newest k (Some v) i d held =
+            subst (λ (f : Winner → Rank). IsComing indexes f side.written side.entries.items) (some_one (newest_rank old.events) rank k) (is_coming whole v i indexes held side d)
+
+    -- what an edit makes is laid by the ranks under the rule of the newest write, and what it takes away is indexed
+    pub laid_by : (change : Change) → IsWhole old → IsSideOf tie gone change.gone → IsSideOf tie come change.come → IsLaidBy (if_newest tie (newest_rank old.events)) indexes change
+    laid_by change whole left c = record {
+      comes = comes_by change.come whole c;
+      goes = λ rank side r is. goes_by tie indexes indexed change.gone left side is;
+    }
+
+    -- the same of what it takes away alone
+    pub gone_by : (side : Option Side) → IsSideOf tie gone side → IsLaidBy (if_newest tie (newest_rank old.events)) indexes (record { gone = side; come = None })
+    gone_by o left = record {
+      comes = λ rank side r is. absurd (none_is_some side is);
+      goes = λ rank side r is. goes_by tie indexes indexed o left side is;
+    }
 
 -- a function of what there is under the rule
 pub map_if_newest : {X Y : Type 0} (f : X → Y) (tie : Tie) (x : X) → option_map f (if_newest tie x) ≡ if_newest tie (f x)

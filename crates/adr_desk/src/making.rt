@@ -101,14 +101,13 @@ fn regrouped<C: Fn(&Indexes, &[Job]) -> Result<Vec<Done>, Refusal>>(
     }
     let gone = gone_side(alloc, accepted.tie, accepted.old, accepted.edit)?;
     let alone = Change { gone, come: None };
-    let no_ranks: Option<&NewestRanks> = None;
     mid.shifted(
         alloc,
         indexes,
         crew,
         leaving.as_slice(),
         &alone,
-        no_ranks,
+        ranks,
         meter,
     )
 }

@@ -7,9 +7,10 @@ ghost use Rattle.adr_embed.specs.Answered.{line_answer};
 ghost use Rattle.adr_embed.specs.Steps.{changed, created, removed, IsCondensed, IsEdit, IsPublication};
 
 use crate::parts::object_named;
-use crate::publisher::Publisher;
 use crate::reading::Reading;
 use crate::script::answer;
+use crate::steps;
+use adr_board::Publisher;
 use adr_model::{Published, Tie};
 use adr_object::{Edit, Kind};
 use adr_resolver::id_word;
@@ -25,11 +26,11 @@ pub struct Editing {
 }
 
 impl Model for Editing {
-    ghost use Rattle.adr_embed.specs.Held.{Edited};
+    ghost use Rattle.adr_embed.specs.Held.{Edited, kept_of};
 
     ghost Value = { Edited };
 
-    ghost view = { λ e. record { kept = e.publisher; reply = e.reply.items } };
+    ghost view = { λ e. record { kept = kept_of e.publisher; reply = e.reply.items } };
 }
 
 impl Editing {
@@ -79,7 +80,7 @@ impl Editing {
     {
         let alloc = self.publisher.allocator();
         let object = object_named(alloc, seconds, nanoseconds, kind, id, body)?;
-        self.publisher.edit(Edit::Create(object))
+        steps::edit(&mut self.publisher, Edit::Create(object))
     }
 
     /// Makes an edit that puts a whole object in the place of the one with its id.
@@ -100,7 +101,7 @@ impl Editing {
     {
         let alloc = self.publisher.allocator();
         let object = object_named(alloc, seconds, nanoseconds, kind, id, body)?;
-        self.publisher.edit(Edit::Change(object))
+        steps::edit(&mut self.publisher, Edit::Change(object))
     }
 
     /// Makes an edit that takes an object away. At which moment changes nothing.
@@ -113,7 +114,7 @@ impl Editing {
         ensures reply { self.new.reply ≡ self.old.reply }
     {
         let id = id_word(self.publisher.allocator(), id)?;
-        self.publisher.edit(Edit::Remove(kind, id))
+        steps::edit(&mut self.publisher, Edit::Remove(kind, id))
     }
 
     /// Publishes the objects as they are. `Full` after 1,000,000 publications; `NoMemory`.
@@ -121,7 +122,7 @@ impl Editing {
         ensures publication { IsPublication self.old.kept self.new.kept result }
         ensures reply { self.new.reply ≡ self.old.reply }
     {
-        self.publisher.publish()
+        steps::publish(&mut self.publisher)
     }
 
     /// Counts the accepted edits from the last publication on, and answers its version, or `NoMemory`.
@@ -129,7 +130,7 @@ impl Editing {
         ensures condensed { IsCondensed self.old.kept self.new.kept result }
         ensures reply { self.new.reply ≡ self.old.reply }
     {
-        self.publisher.condense()
+        steps::condense(&mut self.publisher)
     }
 
     /// The reply to the last line, or nothing where it was refused.

@@ -6,15 +6,14 @@ mod editing;
 mod governor;
 mod instants;
 mod laws;
-mod names;
 mod parts;
-mod publisher;
 mod reading;
 mod script;
+mod steps;
 
+pub use adr_board::Publisher;
 pub use editing::Editing;
 pub use governor::{Governor, Source};
 pub use instants::seconds_of;
 pub use laws::{crossing_laws, publication_laws};
-pub use publisher::Publisher;
 pub use reading::Reading;

@@ -3,10 +3,11 @@ ghost use Rattle.std.specs.Prelude.{◌≡◌, ◌≤◌, [], OnOk, OnErr, IfOk,
 ghost use Rattle.adr_refusal.specs.Answer.{Answers, OnlyNoMemory, result_map};
 ghost use Rattle.adr_resolver.specs.declared.command.Command.TheVariants.{Edit as EditCommand, Publish as PublishCommand, Condense as CondenseCommand};
 ghost use Rattle.adr_resolver.specs.Kept.{kept_command_next, kept_next};
+ghost use Rattle.adr_embed.specs.Held.{kept_of};
 ghost use Rattle.adr_embed.specs.Answered.{asked_answer, command_answer, line_answer};
 
-use crate::publisher::Publisher;
-use adr_board::Snapshot;
+use crate::steps;
+use adr_board::{Publisher, Snapshot};
 use adr_object::Edit;
 use adr_resolver::{Command, parse_line, put_condensed, put_ok, put_published};
 use adr_value::Refusal;
@@ -25,45 +26,45 @@ fn short_reply(alloc: Global) -> Result<Vec<u8>, Refusal>
 
 /// Makes an edit.
 fn edit(publisher: &mut Publisher, edit: Edit) -> Result<Vec<u8>, Refusal>
-    ensures answer { Answers (result_map (λ reply. reply.items) result) (command_answer publisher.old (EditCommand edit)) }
-    ensures next { OnOk result (publisher.new ≡ kept_command_next publisher.old (EditCommand edit)) }
-    ensures unchanged { OnErr result (publisher.new ≡ publisher.old) }
+    ensures answer { Answers (result_map (λ reply. reply.items) result) (command_answer (kept_of publisher.old) (EditCommand edit)) }
+    ensures next { OnOk result (kept_of publisher.new ≡ kept_command_next (kept_of publisher.old) (EditCommand edit)) }
+    ensures unchanged { OnErr result (kept_of publisher.new ≡ kept_of publisher.old) }
 {
     let mut reply = short_reply(publisher.allocator())?;
-    let version = publisher.edit(edit)?;
+    let version = steps::edit(publisher, edit)?;
     put_ok(&mut reply, version);
     Ok(reply)
 }
 
 /// Publishes the objects as they are.
 fn publish(publisher: &mut Publisher) -> Result<Vec<u8>, Refusal>
-    ensures answer { Answers (result_map (λ reply. reply.items) result) (command_answer publisher.old PublishCommand) }
-    ensures next { OnOk result (publisher.new ≡ kept_command_next publisher.old PublishCommand) }
-    ensures unchanged { OnErr result (publisher.new ≡ publisher.old) }
+    ensures answer { Answers (result_map (λ reply. reply.items) result) (command_answer (kept_of publisher.old) PublishCommand) }
+    ensures next { OnOk result (kept_of publisher.new ≡ kept_command_next (kept_of publisher.old) PublishCommand) }
+    ensures unchanged { OnErr result (kept_of publisher.new ≡ kept_of publisher.old) }
 {
     let mut reply = short_reply(publisher.allocator())?;
-    let published = publisher.publish()?;
+    let published = steps::publish(publisher)?;
     put_published(&mut reply, published.number, published.version);
     Ok(reply)
 }
 
 /// Makes the last publication the base.
 fn condense(publisher: &mut Publisher) -> Result<Vec<u8>, Refusal>
-    ensures answer { Answers (result_map (λ reply. reply.items) result) (command_answer publisher.old CondenseCommand) }
-    ensures next { OnOk result (publisher.new ≡ kept_command_next publisher.old CondenseCommand) }
-    ensures unchanged { OnErr result (publisher.new ≡ publisher.old) }
+    ensures answer { Answers (result_map (λ reply. reply.items) result) (command_answer (kept_of publisher.old) CondenseCommand) }
+    ensures next { OnOk result (kept_of publisher.new ≡ kept_command_next (kept_of publisher.old) CondenseCommand) }
+    ensures unchanged { OnErr result (kept_of publisher.new ≡ kept_of publisher.old) }
 {
     let mut reply = short_reply(publisher.allocator())?;
-    let version = publisher.condense()?;
+    let version = steps::condense(publisher)?;
     put_condensed(&mut reply, version);
     Ok(reply)
 }
 
 /// Answers a line of an editor. A refused one changes nothing.
 pub(crate) fn answer(publisher: &mut Publisher, line: &[u8]) -> Result<Vec<u8>, Refusal>
-    ensures answer { Answers (result_map (λ reply. reply.items) result) (line_answer publisher.old line.now) }
-    ensures next { OnOk result (publisher.new ≡ kept_next publisher.old line.now) }
-    ensures unchanged { OnErr result (publisher.new ≡ publisher.old) }
+    ensures answer { Answers (result_map (λ reply. reply.items) result) (line_answer (kept_of publisher.old) line.now) }
+    ensures next { OnOk result (kept_of publisher.new ≡ kept_next (kept_of publisher.old) line.now) }
+    ensures unchanged { OnErr result (kept_of publisher.new ≡ kept_of publisher.old) }
 {
     let alloc = publisher.allocator();
     match parse_line(alloc, line)? {

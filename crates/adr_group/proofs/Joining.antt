@@ -35,7 +35,7 @@ use Rattle.adr_group.proofs.Turns.{one_shown}
 
 -- ---- the ranks of winners
 
-first_in : (es : List Entry) (e : Entry) → first_of es ≡ Some e → In e es
+pub first_in : (es : List Entry) (e : Entry) → first_of es ≡ Some e → In e es
 first_in [] e h = absurd (none-some e h)
 first_in (x ∷ xs) e h = by (first_of xs) (λ f k. first_in xs f k) h
   where
@@ -212,3 +212,11 @@ module _ (ws others : List ℕ) (number : ℕ) (lacks : has_number ws number ≡
       ∙ (winner_same (written_in ws (under indexes k) ++ entries_under event k) (written_in others (under indexes k)) t
       (there event indexes rank coming k t) (back event indexes rank coming k t)
       ∙ held_wins tie events k (under indexes k) others t (indexed k))))
+
+-- the writes with one number more before them
+pub one_more : (ws : List ℕ) (number : ℕ) → (n : ℕ) → has_number (number ∷ ws) n ≡ changed_number None (Some number) ws n
+one_more ws number n = by (number == n)
+  where
+    by : (b : Bool) → (b || has_number ws n) ≡ (if b then true else has_number ws n)
+    by true = refl
+    by false = refl

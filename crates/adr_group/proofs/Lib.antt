@@ -5,6 +5,8 @@ pub mod Jobs
 pub mod Joining
 pub mod Listed
 pub mod Numbers
+pub mod Owned
+pub mod Parting
 pub mod Possible
 pub mod Rights
 pub mod Room

@@ -42,7 +42,7 @@ covers_append (x ∷ xs) ys t = either (covers x t) (covers_append xs ys t)
     either true h = refl
     either false h = h
 
-entries_append : (xs ys : List Entry) (t : ℤ) → any_covers_at (xs ++ ys) t ≡ (any_covers_at xs t || any_covers_at ys t)
+pub entries_append : (xs ys : List Entry) (t : ℤ) → any_covers_at (xs ++ ys) t ≡ (any_covers_at xs t || any_covers_at ys t)
 entries_append [] ys t = refl
 entries_append (x ∷ xs) ys t = either (covers x.span t) (entries_append xs ys t)
   where
@@ -66,7 +66,7 @@ pub compared_append : (es : List Entry) (xs ys : List Span) → most_compared_al
 compared_append es [] ys = omega arith
 compared_append es (x ∷ xs) ys = ap (λ n. most_compared es x + n) (compared_append es xs ys) ∙ (omega arith)
 
-inside_append : (ws : List ℕ) (es : List Entry) (xs ys : List Entry) → most_inside ws es (xs ++ ys) ≡ most_inside ws es xs + most_inside ws es ys
+pub inside_append : (ws : List ℕ) (es : List Entry) (xs ys : List Entry) → most_inside ws es (xs ++ ys) ≡ most_inside ws es xs + most_inside ws es ys
 inside_append ws es [] ys = omega arith
 inside_append ws es (x ∷ xs) ys = ap (λ n. most_compared (written_in ws es) x.span + n) (inside_append ws es xs ys) ∙ (omega arith)
 

@@ -1,3 +1,4 @@
+pub mod Governed
 pub mod Group
 pub mod Jobs
 pub mod Laid

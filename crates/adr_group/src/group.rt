@@ -1,5 +1,5 @@
 //! The timelines of resources to which the same events apply.
-ghost use Rattle.std.specs.Prelude.{◌≡◌, ◌≢◌, ◌+◌, ◌*◌, ◌++◌, ◌<◌, ◌≤◌, ◌^◌, ℕ, ℤ, true, false, List, [], None, Some, Ok, length, option_map, slice_get, IfOk, IfSome, if◌then◌else◌};
+ghost use Rattle.std.specs.Prelude.{◌≡◌, ◌≢◌, ◌+◌, ◌*◌, ◌++◌, ◌∷◌, ◌<◌, ◌≤◌, ◌^◌, ℕ, ℤ, true, false, List, [], None, Some, Ok, length, option_map, slice_get, IfOk, IfSome, if◌then◌else◌};
 ghost use Rattle.std.specs.List.{AllZip};
 ghost use Rattle.std.specs.Option.{option_copied, option_map_or};
 ghost use Rattle.adr_refusal.specs.Answer.{OnlyNoMemory};
@@ -19,12 +19,13 @@ ghost use Rattle.adr_lines.specs.Exchange.{IsIndexOf};
 ghost use Rattle.adr_lines.specs.Indexes.{under};
 ghost use Rattle.adr_group.specs.Group.{shown_in, AgreeOutside, AllShow, AreWindowsOf, IsRightOf};
 ghost use Rattle.adr_group.specs.Jobs.{jobs_for, IsDone};
-ghost use Rattle.adr_group.specs.Laid.{are_runs, IsComing};
+ghost use Rattle.adr_group.specs.Laid.{are_runs, AreOwnOf, IsComing};
 ghost use Rattle.adr_group.specs.Repair.{most_repaired};
 ghost use Rattle.adr_group.specs.Writes.{changed_number};
 
 use crate::job::Done;
 use crate::laid::{all_laid, all_met};
+use crate::leaving::all_without;
 use crate::repair::{repaired, together};
 use crate::timelines::Timelines;
 use crate::writes::Writes;
@@ -191,6 +192,7 @@ impl Group {
         requires room { are_runs entries.now ≡ true → meter.old + 3 * entries_in_groups entries.now < 2 ^ 128 }
         ensures writes { IfOk result (λ made. IfSome made (λ group. group.writes ≡ writes.now)) }
         ensures right { IfOk result (λ made. IfSome made (λ group. (indexes : AllIndexes) (number : ℕ) → IsComing indexes (R.rank ranks.now) number entries.now → has_number self.now.writes number ≡ false → ((n : ℕ) → has_number writes.now n ≡ changed_number None (Some number) self.now.writes n) → (tie : Tie) (events : List Written) → IsIndexOf tie events indexes → IsRightOf tie events self.now → IsRightOf tie events group)) }
+        ensures joined { IfOk result (λ made. IfSome made (λ group. (indexes : AllIndexes) (number : ℕ) → IsComing indexes (R.rank ranks.now) number entries.now → has_number self.now.writes number ≡ false → (tie : Tie) (events : List Written) → IsIndexOf tie events indexes → IsRightOf tie events self.now → IsRightOf tie events (record { writes = number ∷ self.now.writes; lines = group.lines }))) }
         ensures runs { IfOk result (λ made. IfSome made (λ group. are_runs entries.now ≡ true)) }
         ensures compared { meter.new ≤ meter.old + 3 * entries_in_groups entries.now }
         ensures none { result ≡ Ok None → meter.new ≡ meter.old }
@@ -202,6 +204,40 @@ impl Group {
         let lines = all_laid(alloc, &self.lines, entries, &met, ranks, meter)?;
         let writes = writes.copy()?;
         Ok(Some(Group { writes, lines }))
+    }
+
+    /// The group of those writes, which the event of that number leaves: what wins among the writes is built in those of
+    /// its windows in which it governs. If the timelines of this group are right of the writes and that event, then the new
+    /// ones are right of the writes alone: elsewhere what governs does so without it too.
+    ///
+    /// `NoMemory` where there is no room. Cost: for each type of the event that of `Timeline::met`, and that of
+    /// `Group::repaired` in the windows in which it governs.
+    pub fn without(
+        &self,
+        alloc: Global,
+        indexes: &Indexes,
+        writes: &Shared<Writes>,
+        number: u64,
+        windows: &[TypeEntries],
+        meter: &mut Meter,
+    ) -> Result<Group, Refusal>
+        requires room { meter.old + most_repaired windows.now writes.now indexes.now < 2 ^ 128 }
+        ensures writes { IfOk result (λ group. group.writes ≡ writes.now) }
+        ensures right { IfOk result (λ group. (others : List ℕ) → AreOwnOf indexes.now number windows.now → ((n : ℕ) → has_number writes.now n ≡ changed_number (Some number) None others n) → (tie : Tie) (events : List Written) → IsIndexOf tie events indexes.now → IsRightOf tie events (record { writes = others; lines = self.now.lines }) → IsRightOf tie events group) }
+        ensures compared { meter.new ≤ meter.old + most_repaired windows.now writes.now indexes.now }
+        ensures memory { OnlyNoMemory result }
+    {
+        let lines = all_without(
+            alloc,
+            &self.lines,
+            indexes,
+            windows,
+            number,
+            writes.get(),
+            meter,
+        )?;
+        let writes = writes.copy()?;
+        Ok(Group { writes, lines })
     }
 }
 

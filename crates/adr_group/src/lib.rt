@@ -3,10 +3,12 @@
 //! of a repair at once, and the gates that they pass.
 
 mod gate;
+mod governed;
 mod group;
 mod job;
 mod laid;
 mod laws;
+mod leaving;
 mod line;
 mod repair;
 mod share;

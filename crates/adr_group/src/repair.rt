@@ -55,7 +55,7 @@ fn repaired_line(
 }
 
 /// The timelines with what the writes show of the windows' type inside them.
-fn repaired_type(
+pub(crate) fn repaired_type(
     alloc: Global,
     lines: &Timelines,
     indexes: &Indexes,

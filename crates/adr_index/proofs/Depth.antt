@@ -1,5 +1,5 @@
 -- How many chunks there are, how long they are, and how many looks a search of them takes.
-use Rattle.std.proofs.Common.{ℕ, ◌+◌, ◌*◌, ◌^◌, ◌<◌, ◌≤◌, Bool, true, false, List, [], ◌∷◌, length, if◌then◌else◌, arith}
+use Rattle.std.proofs.Common.{◌≡◌, ℕ, suc, ◌+◌, ◌*◌, ◌^◌, ◌<◌, ◌≤◌, Bool, true, false, List, [], ◌∷◌, length, if◌then◌else◌, arith}
 use Rattle.std.specs.List.{AllByRecursion}
 use Rattle.std.proofs.Math.Nat.{mul-le-mul_left}
 use Rattle.std.proofs.lemmas.List.{length-append}
@@ -15,11 +15,14 @@ pub chunks_few : (cs : List Chunk) → AreChunks cs → length cs ≤ length (al
 chunks_few [] h = omega arith
 chunks_few (c ∷ cs) h = rw (length-append (listed c) (all_listed cs)) (omega (arith, h.0.some, chunks_few cs h.1))
 
-pub chunks_short : (n : ℕ) (cs : List Chunk) → length (all_listed cs) ≤ n → AllByRecursion (λ c. length (listed c) ≤ n) cs
-chunks_short n [] h = tt
-chunks_short n (c ∷ cs) h =
-    let both : length (listed c) + length (all_listed cs) ≤ n = rw (length-append (listed c) (all_listed cs)) at h in
-    (omega (arith, both), chunks_short n cs (omega (arith, both)))
+pub chunks_short : (d : ℕ) (cs : List Chunk) → length (all_listed cs) ≤ 2 ^ d → AllByRecursion (λ c. 2 * length (listed c) ≤ 2 ^ (d + 1)) cs
+chunks_short d [] h = tt
+chunks_short d (c ∷ cs) h =
+    let both : length (listed c) + length (all_listed cs) ≤ 2 ^ d = rw (length-append (listed c) (all_listed cs)) at h in
+    (twice d (length (listed c)) (omega (arith, both)), chunks_short d cs (omega (arith, both)))
+  where
+    twice : (d l : ℕ) → l ≤ 2 ^ d → 2 * l ≤ 2 ^ (d + 1)
+    twice d l h = let e : d + 1 ≡ suc d = omega arith in rw e (omega (arith, h))
 
 reached_most : (es : List Entry) (q : Query) → reached es q ≤ length (hits es q) + 1
 reached_most es q = either (any_late es q)
@@ -31,16 +34,16 @@ reached_most es q = either (any_late es q)
 hits_fewer : (es : List Entry) (q : Query) → length (hits es q) ≤ length es
 hits_fewer es q = rw (length-filter (is_hit q) es) (count_by-le-length (is_hit q) es)
 
-paid : (d r m : ℕ) → r ≤ m + 1 → 1 + 2 * (d + d) * r ≤ 4 * (d + 1) * (m + 1)
-paid d r m h = omega (arith, mul-le-mul_left (4 * d) h)
+paid : (d r m : ℕ) → r ≤ m + 1 → 1 + 2 * (d + (d + 1)) * r ≤ 4 * (d + 1) * (m + 1)
+paid d r m h = omega (arith, mul-le-mul_left (4 * d + 2) h)
 
-pub looks_few : (es : List Entry) (q : Query) → looks (digits (length es) + digits (length es)) es q ≤ most_probes es (length (hits es q))
+pub looks_few : (es : List Entry) (q : Query) → looks (digits (length es) + (digits (length es) + 1)) es q ≤ most_probes es (length (hits es q))
 looks_few es q = paid (digits (length es)) (reached es q) (length (hits es q)) (reached_most es q)
 
-pub looks_room : (es : List Entry) (q : Query) → looks (digits (length es) + digits (length es)) es q ≤ most_probes es (length es)
+pub looks_room : (es : List Entry) (q : Query) → looks (digits (length es) + (digits (length es) + 1)) es q ≤ most_probes es (length es)
 looks_room es q = paid (digits (length es)) (reached es q) (length es) (omega (arith, reached_most es q, hits_fewer es q))
 
-pub looks_fit : (d : ℕ) (es : List Entry) (q : Query) → d ≤ 64 → length es < 2 ^ 64 → looks (d + d) es q < 2 ^ 128
+pub looks_fit : (d : ℕ) (es : List Entry) (q : Query) → d ≤ 64 → length es < 2 ^ 64 → looks (d + (d + 1)) es q < 2 ^ 128
 looks_fit d es q small short =
     let r : reached es q ≤ 2 ^ 64 = omega (arith, reached_most es q, hits_fewer es q) in
-    omega (arith, mul-le-mul_left (4 * d) r, small)
+    omega (arith, mul-le-mul_left (4 * d + 2) r, small)

@@ -32,10 +32,35 @@ half_left h l lt = grind arith
 half_right : (h l : ℕ) → l ≤ 2 ^ suc h → l - l / 2 ≤ 2 ^ h
 half_right h l lt = grind arith
 
-pub few_levels : (n c : ℕ) → 1 < c → c ≤ 4 → c ≤ 2 ^ n → c ≤ 2 * n
+-- the same where there is a level more than they need, so that no parts are past it
+pub spare_left : (n l : ℕ) → 0 < n → 8 < l → 2 * l ≤ 2 ^ n → 2 * (l / 2) ≤ 2 ^ (n - 1)
+spare_left zero l p two h = absurd (omega arith)
+spare_left (suc zero) l p two h = absurd (omega arith)
+spare_left (suc (suc n)) l p two h =
+    let e : suc (suc n) - 1 ≡ suc n = omega arith in
+    let half : l / 2 ≤ 2 ^ n = half_left n l (omega (arith, h)) in
+    rw e (omega (arith, half))
+
+pub spare_right : (n l : ℕ) → 0 < n → 8 < l → 2 * l ≤ 2 ^ n → 2 * (l - l / 2) ≤ 2 ^ (n - 1)
+spare_right zero l p two h = absurd (omega arith)
+spare_right (suc zero) l p two h = absurd (omega arith)
+spare_right (suc (suc n)) l p two h =
+    let e : suc (suc n) - 1 ≡ suc n = omega arith in
+    let half : l - l / 2 ≤ 2 ^ n = half_right n l (omega (arith, h)) in
+    rw e (omega (arith, half))
+
+pub few_spared : (n c : ℕ) → 1 < c → c ≤ 8 → 2 * c ≤ 2 ^ n → c ≤ 2 * n
+few_spared zero c h k l = absurd (omega arith)
+few_spared (suc zero) c h k l = omega arith
+few_spared (suc (suc zero)) c h k l = omega arith
+few_spared (suc (suc (suc zero))) c h k l = omega arith
+few_spared (suc (suc (suc (suc n)))) c h k l = omega arith
+
+pub few_levels : (n c : ℕ) → 1 < c → c ≤ 6 → c ≤ 2 ^ n → c ≤ 2 * n
 few_levels zero c h k l = absurd (omega arith)
 few_levels (suc zero) c h k l = omega arith
-few_levels (suc (suc n)) c h k l = omega arith
+few_levels (suc (suc zero)) c h k l = omega arith
+few_levels (suc (suc (suc n))) c h k l = omega arith
 
 -- ---- greatest ends
 
@@ -96,46 +121,8 @@ module _ {A : Type 0} (f : A → List Entry) where
   pub parted : (m : ℕ) (xs : List A) → flat_map f xs ≡ flat_map f (take m xs) ++ flat_map f (drop m xs)
   parted m xs = ap (flat_map f) (sym (take-append-drop m xs)) ∙ flat_map-append f (take m xs) (drop m xs)
 
-  pub tree_short : (n : ℕ) (xs : List A) (gs : List (Option End)) → length xs < 2 → IsTree f n xs gs
-  tree_short zero xs gs h = tt
-  tree_short (suc n) xs gs h = λ lt. absurd (omega arith)
-
-  pub tree_few : (n : ℕ) (xs : List A) (gs : List (Option End)) → length xs ≤ 4 → (1 < length xs → IsGreatest (get_or gs (length xs / 2 - 1) None) (flat_map f xs)) → IsTree f n xs gs
-  tree_few zero xs gs h g = tt
-  tree_few (suc n) xs gs h g = λ lt. (g lt, λ more. absurd (omega arith))
-
-  pub tree_at : (n : ℕ) (xs : List A) (gs : List (Option End)) → 0 < n → 1 < length xs → IsTree f n xs gs → IsGreatest (get_or gs (length xs / 2 - 1) None) (flat_map f xs) × (4 < length xs → IsTree f (n - 1) (take (length xs / 2) xs) (take (length xs / 2 - 1) gs) × IsTree f (n - 1) (drop (length xs / 2) xs) (drop (length xs / 2) gs))
-  tree_at zero xs gs p lt t = absurd (omega arith)
-  tree_at (suc h) xs gs p lt t = let e : suc h - 1 ≡ h = omega arith in rw e (t lt)
-
-  tree_made : (n : ℕ) (xs : List A) (front back : List (Option End)) (x : Option End) → 0 < n → 1 < length xs → length front ≡ length xs / 2 - 1 → IsGreatest x (flat_map f xs) → IsTree f (n - 1) (take (length xs / 2) xs) front → IsTree f (n - 1) (drop (length xs / 2) xs) back → IsTree f n xs (front ++ x ∷ back)
-  tree_made zero xs front back x p two h g l r = absurd (omega arith)
-  tree_made (suc n) xs front back x p two h g l r =
-      let e : suc n - 1 ≡ n = omega arith in
-      let l' = rw e at l in
-      let r' = rw e at r in
-      λ lt. (rw (get_or_at front x back None (length xs / 2 - 1) h) g, λ more. (rw (take_at front (x ∷ back) (length xs / 2 - 1) h) l', rw past r'))
-    where
-      past : drop (length xs / 2) (front ++ x ∷ back) ≡ back
-      past = ap (drop (length xs / 2)) (sym (append_assoc front (x ∷ []) back)) ∙ drop_at (front ++ x ∷ []) back (length xs / 2) (length-append front (x ∷ []) ∙ (omega arith))
-
   pub greatest_halves : (xs left right : List A) (x l r : Option End) → left ≡ take (length xs / 2) xs → right ≡ drop (length xs / 2) xs → x ≡ greater_end l r → IsGreatest l (flat_map f left) → IsGreatest r (flat_map f right) → IsGreatest x (flat_map f xs)
   greatest_halves xs left right x l r s t k gl gr = rw (k, parted (length xs / 2) xs, ← s, ← t) (greatest_both l r (flat_map f left) (flat_map f right) gl gr)
-
-  pub tree_written : (n : ℕ) (xs left right : List A) (front here back : List (Option End)) (x l r : Option End) → 0 < n → 1 < length xs → left ≡ take (length xs / 2) xs → right ≡ drop (length xs / 2) xs → length front ≡ length xs / 2 - 1 → length here ≡ 1 → x ≡ greater_end l r → IsGreatest l (flat_map f left) → IsGreatest r (flat_map f right) → IsTree f (n - 1) left front → IsTree f (n - 1) right back → IsTree f n xs (front ++ (set here 0 x ++ back))
-  tree_written n xs left right front here back x l r p two s t h o k gl gr tl tr = rw (set_one here x o) (tree_made n xs front back x p two h (greatest_halves xs left right x l r s t k gl gr) (rw s at tl) (rw t at tr))
-
-  -- a tree serves for as many levels as its length needs
-  pub tree_levels : (h k : ℕ) (xs : List A) (gs : List (Option End)) → length xs ≤ 2 ^ h → IsTree f h xs gs → IsTree f k xs gs
-  tree_levels zero k xs gs le t = tree_short k xs gs (omega arith)
-  tree_levels (suc h) zero xs gs le t = tt
-  tree_levels (suc h) (suc k) xs gs le t = λ lt. (
-    (t lt).0,
-    λ more. let parts = (t lt).1 more in (
-      tree_levels h k (take (length xs / 2) xs) (take (length xs / 2 - 1) gs) (rw (length-take-le (length xs / 2) xs (omega arith)) (half_left h (length xs) le)) parts.0,
-      tree_levels h k (drop (length xs / 2) xs) (drop (length xs / 2) gs) (rw (length-drop (length xs / 2) xs) (half_right h (length xs) le)) parts.1,
-    ),
-  )
 
   module _ (n : ℕ) (xs : List A) (gs : List (Option End)) (level : 0 < n) where
     pub left_short : length xs ≤ 2 ^ n → length (take (length xs / 2) xs) ≤ 2 ^ (n - 1)
@@ -144,12 +131,52 @@ module _ {A : Type 0} (f : A → List Entry) where
     pub right_short : length xs ≤ 2 ^ n → length (drop (length xs / 2) xs) ≤ 2 ^ (n - 1)
     right_short h = let e : suc (n - 1) ≡ n = omega arith in rw (length-drop (length xs / 2) xs) (half_right (n - 1) (length xs) (rw e h))
 
-    -- the greatest end as it was read
-    pub root_read : (t : ℤ) (g : Option End) (x : Bool) → 1 < length xs → length xs ≤ length gs + 1 → IsTree f n xs gs → g ≡ get_or gs (length xs / 2 - 1) g → comes_after g t ≡ x → any_lasts (flat_map f xs) t ≡ x
-    root_read t g x two lengths tree read h =
-        let inside : length xs / 2 - 1 < length gs = omega arith in
-        sym ((tree_at n xs gs level two tree).0 t) ∙ subst (λ (r : Option End). comes_after r t ≡ x) (get_or_read gs (length xs / 2 - 1) g inside read None) h
+  module _ (few : ℕ) where
+    pub tree_short : (n : ℕ) (xs : List A) (gs : List (Option End)) → length xs < 2 → IsTree f few n xs gs
+    tree_short zero xs gs h = tt
+    tree_short (suc n) xs gs h = λ lt. absurd (omega arith)
+
+    pub tree_few : (n : ℕ) (xs : List A) (gs : List (Option End)) → length xs ≤ few → (1 < length xs → IsGreatest (get_or gs (length xs / 2 - 1) None) (flat_map f xs)) → IsTree f few n xs gs
+    tree_few zero xs gs h g = tt
+    tree_few (suc n) xs gs h g = λ lt. (g lt, λ more. absurd (omega arith))
+
+    pub tree_at : (n : ℕ) (xs : List A) (gs : List (Option End)) → 0 < n → 1 < length xs → IsTree f few n xs gs → IsGreatest (get_or gs (length xs / 2 - 1) None) (flat_map f xs) × (few < length xs → IsTree f few (n - 1) (take (length xs / 2) xs) (take (length xs / 2 - 1) gs) × IsTree f few (n - 1) (drop (length xs / 2) xs) (drop (length xs / 2) gs))
+    tree_at zero xs gs p lt t = absurd (omega arith)
+    tree_at (suc h) xs gs p lt t = let e : suc h - 1 ≡ h = omega arith in rw e (t lt)
+
+    tree_made : (n : ℕ) (xs : List A) (front back : List (Option End)) (x : Option End) → 0 < n → 1 < length xs → length front ≡ length xs / 2 - 1 → IsGreatest x (flat_map f xs) → IsTree f few (n - 1) (take (length xs / 2) xs) front → IsTree f few (n - 1) (drop (length xs / 2) xs) back → IsTree f few n xs (front ++ x ∷ back)
+    tree_made zero xs front back x p two h g l r = absurd (omega arith)
+    tree_made (suc n) xs front back x p two h g l r =
+        let e : suc n - 1 ≡ n = omega arith in
+        let l' = rw e at l in
+        let r' = rw e at r in
+        λ lt. (rw (get_or_at front x back None (length xs / 2 - 1) h) g, λ more. (rw (take_at front (x ∷ back) (length xs / 2 - 1) h) l', rw past r'))
+      where
+        past : drop (length xs / 2) (front ++ x ∷ back) ≡ back
+        past = ap (drop (length xs / 2)) (sym (append_assoc front (x ∷ []) back)) ∙ drop_at (front ++ x ∷ []) back (length xs / 2) (length-append front (x ∷ []) ∙ (omega arith))
+
+    pub tree_written : (n : ℕ) (xs left right : List A) (front here back : List (Option End)) (x l r : Option End) → 0 < n → 1 < length xs → left ≡ take (length xs / 2) xs → right ≡ drop (length xs / 2) xs → length front ≡ length xs / 2 - 1 → length here ≡ 1 → x ≡ greater_end l r → IsGreatest l (flat_map f left) → IsGreatest r (flat_map f right) → IsTree f few (n - 1) left front → IsTree f few (n - 1) right back → IsTree f few n xs (front ++ (set here 0 x ++ back))
+    tree_written n xs left right front here back x l r p two s t h o k gl gr tl tr = rw (set_one here x o) (tree_made n xs front back x p two h (greatest_halves xs left right x l r s t k gl gr) (rw s at tl) (rw t at tr))
+
+    -- a tree serves for as many levels as its length needs
+    pub tree_levels : (h k : ℕ) (xs : List A) (gs : List (Option End)) → length xs ≤ 2 ^ h → IsTree f few h xs gs → IsTree f few k xs gs
+    tree_levels zero k xs gs le t = tree_short k xs gs (omega arith)
+    tree_levels (suc h) zero xs gs le t = tt
+    tree_levels (suc h) (suc k) xs gs le t = λ lt. (
+      (t lt).0,
+      λ more. let parts = (t lt).1 more in (
+        tree_levels h k (take (length xs / 2) xs) (take (length xs / 2 - 1) gs) (rw (length-take-le (length xs / 2) xs (omega arith)) (half_left h (length xs) le)) parts.0,
+        tree_levels h k (drop (length xs / 2) xs) (drop (length xs / 2) gs) (rw (length-drop (length xs / 2) xs) (half_right h (length xs) le)) parts.1,
+      ),
+    )
+
+    module _ (n : ℕ) (xs : List A) (gs : List (Option End)) (level : 0 < n) where
+      -- the greatest end as it was read
+      pub root_read : (t : ℤ) (g : Option End) (x : Bool) → 1 < length xs → length xs ≤ length gs + 1 → IsTree f few n xs gs → g ≡ get_or gs (length xs / 2 - 1) g → comes_after g t ≡ x → any_lasts (flat_map f xs) t ≡ x
+      root_read t g x two lengths tree read h =
+          let inside : length xs / 2 - 1 < length gs = omega arith in
+          sym ((tree_at n xs gs level two tree).0 t) ∙ subst (λ (r : Option End). comes_after r t ≡ x) (get_or_read gs (length xs / 2 - 1) g inside read None) h
 
 -- the same for entries
-pub entries_read : (n : ℕ) (es : List Entry) (gs : List (Option End)) (t : ℤ) (g : Option End) (x : Bool) → 0 < n → 1 < length es → length es ≤ length gs + 1 → IsTree only n es gs → g ≡ get_or gs (length es / 2 - 1) g → comes_after g t ≡ x → any_lasts es t ≡ x
-entries_read n es gs t g x level two lengths tree read h = subst (λ (xs : List Entry). any_lasts xs t ≡ x) (only_all es) (root_read only n es gs level t g x two lengths tree read h)
+pub entries_read : (n : ℕ) (es : List Entry) (gs : List (Option End)) (t : ℤ) (g : Option End) (x : Bool) → 0 < n → 1 < length es → length es ≤ length gs + 1 → IsTree only 8 n es gs → g ≡ get_or gs (length es / 2 - 1) g → comes_after g t ≡ x → any_lasts es t ≡ x
+entries_read n es gs t g x level two lengths tree read h = subst (λ (xs : List Entry). any_lasts xs t ≡ x) (only_all es) (root_read only 8 n es gs level t g x two lengths tree read h)

@@ -1,31 +1,32 @@
 -- A tree of which a part is written anew.
-use Rattle.std.proofs.Common.{◌≡◌, ℕ, zero, suc, ◌+◌, ◌-◌, ◌/◌, ◌<◌, ◌≤◌, min, List, length, take, drop, set, Option, Some, None, IfSome, ◌⊎◌, ◌∙◌, ap, arith, inl, inr}
+use Rattle.std.proofs.Common.{◌≡◌, ℕ, zero, suc, ◌+◌, ◌-◌, ◌/◌, ◌<◌, ◌≤◌, max, min, List, length, take, drop, set, Option, Some, None, IfNone, IfSome, ◌⊎◌, ◌∙◌, ap, arith, inl, inr}
 use Rattle.std.proofs.lemmas.List.{length-set, length-take-le, length-drop, take-set-le, drop-set-lt, drop-set-add}
 use Rattle.std.proofs.Math.Seq.{take-set-lt}
 use Rattle.adr_time.specs.declared.span.End.{End}
 use Rattle.adr_model.specs.declared.entry.Entry.{Entry}
 use Rattle.adr_index.specs.declared.chunk.Chunk.{Chunk}
+use Rattle.adr_index.specs.declared.stretch.Stretch.{Stretch}
 use Rattle.adr_index.specs.Chunks.{listed}
 use Rattle.adr_index.specs.Tables.{HasTops, HasTopsBut, IsChangedAt}
 use Rattle.adr_index.specs.Tree.{IsTree, IsTreeBut}
 use Rattle.adr_index.proofs.Grown.{tree_levels, tree_short}
 
-module _ {A : Type 0} (f : A → List Entry) where
-  pub none_but : (n from to : ℕ) (xs : List A) (gs : List (Option End)) → to ≤ from → IsTree f n xs gs → IsTreeBut f n from to xs gs
-  none_but zero from to xs gs le t = tt
-  none_but (suc n) from to xs gs le t = (
+module _ {A : Type 0} (f : A → List Entry) (few : ℕ) where
+  pub none_but : 0 < few → (n from to : ℕ) (xs : List A) (gs : List (Option End)) → to ≤ from → IsTree f few n xs gs → IsTreeBut f few n from to xs gs
+  none_but some zero from to xs gs le t = tt
+  none_but some (suc n) from to xs gs le t = (
     λ _. t,
-    λ more. let parts = (t (omega (arith, more))).1 more in (
-      none_but n (min from (length xs / 2)) (min to (length xs / 2)) (take (length xs / 2) xs) (take (length xs / 2 - 1) gs) (omega (arith, le)) parts.0,
-      none_but n (from - length xs / 2) (to - length xs / 2) (drop (length xs / 2) xs) (drop (length xs / 2) gs) (omega (arith, le)) parts.1,
+    λ more. let parts = (t (omega (arith, some, more))).1 more in (
+      none_but some n (min from (length xs / 2)) (min to (length xs / 2)) (take (length xs / 2) xs) (take (length xs / 2 - 1) gs) (omega (arith, le)) parts.0,
+      none_but some n (from - length xs / 2) (to - length xs / 2) (drop (length xs / 2) xs) (drop (length xs / 2) gs) (omega (arith, le)) parts.1,
     ),
   )
 
   -- everything is
-  pub all_but : (n from to : ℕ) (xs : List A) (gs : List (Option End)) → from ≡ 0 → length xs ≤ to → IsTreeBut f n from to xs gs
+  pub all_but : (n from to : ℕ) (xs : List A) (gs : List (Option End)) → from ≡ 0 → length xs ≤ to → IsTreeBut f few n from to xs gs
   all_but zero from to xs gs s l = tt
   all_but (suc n) from to xs gs s l = (
-    λ le. tree_short f (suc n) xs gs (omega (arith, le, s, l)),
+    λ le. tree_short f few (suc n) xs gs (omega (arith, le, s, l)),
     λ more. (
       all_but n (min from (length xs / 2)) (min to (length xs / 2)) (take (length xs / 2) xs) (take (length xs / 2 - 1) gs) (omega (arith, s)) (rw (length-take-le (length xs / 2) xs (omega arith)) (omega (arith, l))),
       all_but n (from - length xs / 2) (to - length xs / 2) (drop (length xs / 2) xs) (drop (length xs / 2) gs) (omega (arith, s)) (rw (length-drop (length xs / 2) xs) (omega (arith, l))),
@@ -33,29 +34,40 @@ module _ {A : Type 0} (f : A → List Entry) where
   )
 
   -- the halves
-  pub but_left : (n from to a b : ℕ) (xs : List A) (gs : List (Option End)) → 0 < n → 4 < length xs → a ≡ min from (length xs / 2) → b ≡ min to (length xs / 2) → IsTreeBut f n from to xs gs → IsTreeBut f (n - 1) a b (take (length xs / 2) xs) (take (length xs / 2 - 1) gs)
+  pub but_left : (n from to a b : ℕ) (xs : List A) (gs : List (Option End)) → 0 < n → few < length xs → a ≡ min from (length xs / 2) → b ≡ min to (length xs / 2) → IsTreeBut f few n from to xs gs → IsTreeBut f few (n - 1) a b (take (length xs / 2) xs) (take (length xs / 2 - 1) gs)
   but_left zero from to a b xs gs level more s t h = absurd (omega arith)
   but_left (suc n) from to a b xs gs level more s t h = let e : suc n - 1 ≡ n = omega arith in rw (e, s, t) (h.1 more).0
 
-  pub but_right : (n from to a b : ℕ) (xs : List A) (gs : List (Option End)) → 0 < n → 4 < length xs → a ≡ from - length xs / 2 → b ≡ to - length xs / 2 → IsTreeBut f n from to xs gs → IsTreeBut f (n - 1) a b (drop (length xs / 2) xs) (drop (length xs / 2) gs)
+  pub but_right : (n from to a b : ℕ) (xs : List A) (gs : List (Option End)) → 0 < n → few < length xs → a ≡ from - length xs / 2 → b ≡ to - length xs / 2 → IsTreeBut f few n from to xs gs → IsTreeBut f few (n - 1) a b (drop (length xs / 2) xs) (drop (length xs / 2) gs)
   but_right zero from to a b xs gs level more s t h = absurd (omega arith)
   but_right (suc n) from to a b xs gs level more s t h = let e : suc n - 1 ≡ n = omega arith in rw (e, s, t) (h.1 more).1
 
-  -- one of the parts is
-  pub one_but : (n k : ℕ) (xs : List A) (c : A) (gs : List (Option End)) → IsTree f n xs gs → IsTreeBut f n k (k + 1) (set xs k c) gs
-  one_but zero k xs c gs t = tt
-  one_but (suc n) k xs c gs t = rw (length-set xs k c) (
-    λ le. absurd (omega (arith, le)),
+  -- more is
+  pub more_but : (n from to a b : ℕ) (xs : List A) (gs : List (Option End)) → a ≤ from → to ≤ b → IsTreeBut f few n from to xs gs → IsTreeBut f few n a b xs gs
+  more_but zero from to a b xs gs low high t = tt
+  more_but (suc n) from to a b xs gs low high t = (
+    λ le. t.0 (omega (arith, low, high, le)),
+    λ more. (
+      more_but n (min from (length xs / 2)) (min to (length xs / 2)) (min a (length xs / 2)) (min b (length xs / 2)) (take (length xs / 2) xs) (take (length xs / 2 - 1) gs) (omega (arith, low)) (omega (arith, high)) (t.1 more).0,
+      more_but n (from - length xs / 2) (to - length xs / 2) (a - length xs / 2) (b - length xs / 2) (drop (length xs / 2) xs) (drop (length xs / 2) gs) (omega (arith, low)) (omega (arith, high)) (t.1 more).1,
+    ),
+  )
+
+  -- one of the parts is, and more
+  pub one_but : (n from to a b k : ℕ) (xs : List A) (c : A) (gs : List (Option End)) → a ≤ from → to ≤ b → a ≤ k → k < b → IsTreeBut f few n from to xs gs → IsTreeBut f few n a b (set xs k c) gs
+  one_but zero from to a b k xs c gs low high first last t = tt
+  one_but (suc n) from to a b k xs c gs low high first last t = rw (length-set xs k c) (
+    λ le. absurd (omega (arith, le, first, last)),
     λ more.
-        let parts = (t (omega (arith, more))).1 more in
+        let parts = t.1 more in
         elim (stands k (length xs / 2)) [
-          | inl first ↦ (
-            in_left (take (length xs / 2 - 1) gs) first (one_but n k (take (length xs / 2) xs) c (take (length xs / 2 - 1) gs) parts.0),
-            rw (drop-set-lt (length xs / 2) xs k c first) (none_but n (k - length xs / 2) (k + 1 - length xs / 2) (drop (length xs / 2) xs) (drop (length xs / 2) gs) (omega (arith, first)) parts.1),
+          | inl left ↦ (
+            rw (take-set-lt (length xs / 2) xs k c left) (one_but n (min from (length xs / 2)) (min to (length xs / 2)) (min a (length xs / 2)) (min b (length xs / 2)) k (take (length xs / 2) xs) c (take (length xs / 2 - 1) gs) (omega (arith, low)) (omega (arith, high)) (omega (arith, first)) (omega (arith, last, left)) parts.0),
+            rw (drop-set-lt (length xs / 2) xs k c left) (more_but n (from - length xs / 2) (to - length xs / 2) (a - length xs / 2) (b - length xs / 2) (drop (length xs / 2) xs) (drop (length xs / 2) gs) (omega (arith, low)) (omega (arith, high)) parts.1),
           )
-          | inr second ↦ (
-            rw (take-set-le (length xs / 2) xs k c second) (none_but n (min k (length xs / 2)) (min (k + 1) (length xs / 2)) (take (length xs / 2) xs) (take (length xs / 2 - 1) gs) (omega (arith, second)) parts.0),
-            in_right (drop (length xs / 2) gs) second (one_but n (k - length xs / 2) (drop (length xs / 2) xs) c (drop (length xs / 2) gs) parts.1),
+          | inr right ↦ (
+            rw (take-set-le (length xs / 2) xs k c right) (more_but n (min from (length xs / 2)) (min to (length xs / 2)) (min a (length xs / 2)) (min b (length xs / 2)) (take (length xs / 2) xs) (take (length xs / 2 - 1) gs) (omega (arith, low)) (omega (arith, high)) parts.0),
+            rw (set_behind (length xs / 2) right) (one_but n (from - length xs / 2) (to - length xs / 2) (a - length xs / 2) (b - length xs / 2) (k - length xs / 2) (drop (length xs / 2) xs) c (drop (length xs / 2) gs) (omega (arith, low)) (omega (arith, high)) (omega (arith, first)) (omega (arith, last, right)) parts.1),
           )
         ],
   )
@@ -68,23 +80,20 @@ module _ {A : Type 0} (f : A → List Entry) where
         | inr le ↦ inr (omega (arith, le))
       ]
 
-      in_left : (hs : List (Option End)) → k < length xs / 2 → IsTreeBut f n k (k + 1) (set (take (length xs / 2) xs) k c) hs → IsTreeBut f n (min k (length xs / 2)) (min (k + 1) (length xs / 2)) (take (length xs / 2) (set xs k c)) hs
-      in_left hs lt t =
-          let low : min k (length xs / 2) ≡ k = omega (arith, lt) in
-          let high : min (k + 1) (length xs / 2) ≡ k + 1 = omega (arith, lt) in
-          rw (low, high, take-set-lt (length xs / 2) xs k c lt) t
+      set_behind : (m : ℕ) → m ≤ k → drop m (set xs k c) ≡ set (drop m xs) (k - m) c
+      set_behind m le =
+          let parts : k ≡ m + (k - m) = omega (arith, le) in
+          ap (λ (j : ℕ). drop m (set xs j c)) parts ∙ drop-set-add m xs (k - m) c
 
-      in_right : (hs : List (Option End)) → length xs / 2 ≤ k → IsTreeBut f n (k - length xs / 2) ((k - length xs / 2) + 1) (set (drop (length xs / 2) xs) (k - length xs / 2) c) hs → IsTreeBut f n (k - length xs / 2) (k + 1 - length xs / 2) (drop (length xs / 2) (set xs k c)) hs
-      in_right hs le t =
-          let low : k ≡ length xs / 2 + (k - length xs / 2) = omega (arith, le) in
-          let high : k + 1 - length xs / 2 ≡ (k - length xs / 2) + 1 = omega (arith, le) in
-          let parted : drop (length xs / 2) (set xs k c) ≡ set (drop (length xs / 2) xs) (k - length xs / 2) c = ap (λ (j : ℕ). drop (length xs / 2) (set xs j c)) low ∙ drop-set-add (length xs / 2) xs (k - length xs / 2) c in
-          rw (high, parted) t
+-- no chunk was changed
+pub tops_but : (from to : ℕ) (cs : List Chunk) (gs : List (Option End)) → to ≤ from → HasTops cs gs → HasTopsBut from to cs gs
+tops_but from to cs gs le h = λ n. none_but listed 6 (omega arith) n from to cs gs le (tree_levels listed 6 h.levels n cs gs h.enough h.tree)
 
--- where one chunk was changed
-pub changed_but : (n k : ℕ) (cs : List Chunk) (gs : List (Option End)) → HasTopsBut k cs gs → IsTreeBut listed n k (k + 1) cs gs
-changed_but n k cs gs h = rw h.changed.is (one_but listed n k h.before h.changed.chunk gs (tree_levels listed h.tops.levels n h.before gs h.tops.enough h.tops.tree))
+pub inside_new : (r : Option ℕ) (old new : List Chunk) (count : ℕ) → count ≡ length new → IfSome r (λ place. IsChangedAt place old new) → IfSome r (λ place. place < count)
+inside_new None old new count all h = h
+inside_new (Some k) old new count all h = rw (all, h.is, length-set old k h.chunk) h.inside
 
-pub still_kept : (r : Option ℕ) (old new : List Chunk) (gs : List (Option End)) → IfSome r (λ place. IsChangedAt place old new) → HasTops old gs → IfSome r (λ place. HasTopsBut place new gs)
-still_kept None old new gs h t = h
-still_kept (Some k) old new gs h t = record { before = old; tops = t; changed = h }
+-- one more was, or all were
+pub stretched : (r : Option ℕ) (old new : List Chunk) (gs : List (Option End)) (s t : Stretch) (count : ℕ) → count ≡ length new → IfSome r (λ place. IsChangedAt place old new) → IfSome r (λ place. (t.from ≡ min s.from place) × (t.to ≡ max s.to (place + 1))) → IfNone r ((t.from ≡ 0) × (t.to ≡ count)) → HasTopsBut s.from s.to old gs → HasTopsBut t.from t.to new gs
+stretched None old new gs s t count whole h one all tops = λ n. all_but listed 6 n t.from t.to new gs all.0 (omega (arith, all.1, whole))
+stretched (Some k) old new gs s t count whole h one all tops = λ n. rw h.is (one_but listed 6 n s.from s.to t.from t.to k old h.chunk gs (omega (arith, one.0)) (omega (arith, one.1)) (omega (arith, one.0)) (omega (arith, one.1)) (tops n))

@@ -110,7 +110,7 @@ both_paid (suc n) l r w p h k = let e : suc n - 1 ≡ n = omega arith in rw e (o
 pub one_paid : (n l w : ℕ) → 0 < n → l ≤ w → 1 ≤ w → 1 + (1 + 2 * (n - 1) * l) ≤ 1 + 2 * n * w
 one_paid n l w p h k = omega (arith, both_paid n l 0 w p (omega arith) k)
 
--- two levels pay for four entries, and one for two
+-- three levels pay for six entries, two for four, and one for two
 pub few_paid : (n c w : ℕ) → 1 ≤ w → c ≤ 2 * n → 1 + c ≤ 1 + 2 * n * w
 few_paid n c w k h = omega (arith, mul-le-mul_left (2 * n) k)
 

@@ -33,7 +33,7 @@ pub record IsRoomy (c : Chunk) : Type 0 where
 pub record HasEnds (es : List Entry) (gs : List (Option End)) (end : Option End) : Type 0 where
   pub levels : ℕ
   pub enough : length es ≤ 2 ^ levels
-  pub tree : IsTree only levels es gs
+  pub tree : IsTree only 8 levels es gs
   pub greatest : IsGreatest end es
 
 -- the last of the entries starts then

@@ -6,7 +6,7 @@ use Rattle.adr_index.specs.declared.table.Table.{Table}
 use Rattle.adr_time.specs.declared.span.End.{End}
 use Rattle.adr_index.specs.declared.chunk.Chunk.{Chunk}
 use Rattle.adr_index.specs.Chunks.{all_listed, crowd, listed, AreChunks, ArePooled}
-use Rattle.adr_index.specs.Tree.{IsTree}
+use Rattle.adr_index.specs.Tree.{IsTree, IsTreeBut}
 use Rattle.adr_index.specs.Index.{is_entry, others, IsOrdered}
 
 -- how many chunks of the pool are there to part others, where the first entry has one of its own
@@ -45,7 +45,7 @@ pub record IsFound (written place : ℕ) (e : Entry) (es : List Entry) : Type 0 
 pub record HasTops (cs : List Chunk) (gs : List (Option End)) : Type 0 where
   pub levels : ℕ
   pub enough : length cs ≤ 2 ^ levels
-  pub tree : IsTree listed levels cs gs
+  pub tree : IsTree listed 6 levels cs gs
 
 -- one chunk stands in the place of another
 pub record IsChangedAt (place : ℕ) (old new : List Chunk) : Type 0 where
@@ -53,11 +53,9 @@ pub record IsChangedAt (place : ℕ) (old new : List Chunk) : Type 0 where
   pub chunk : Chunk
   pub is : new ≡ slice_set old place chunk
 
--- the tree of the chunks before one of them was changed
-pub record HasTopsBut (place : ℕ) (cs : List Chunk) (gs : List (Option End)) : Type 0 where
-  pub before : List Chunk
-  pub tops : HasTops before gs
-  pub changed : IsChangedAt place before cs
+-- the tree over the chunks but for what it has of those from a place up to another
+abbrev pub HasTopsBut : ℕ → ℕ → List Chunk → List (Option End) → Type 0
+HasTopsBut from to cs gs = (levels : ℕ) → IsTreeBut listed 6 levels from to cs gs
 
 -- chunks in order, with the tree of their ends
 pub record IsIndex (t : Table) (gs : List (Option End)) : Type 0 where

@@ -29,27 +29,27 @@ IsGreatest g es = (t : ℤ) → comes_after g t ≡ any_lasts es t
 abbrev pub only : Entry → List Entry
 only e = e ∷ []
 
--- two parts or more have their greatest end between the ends of their halves, and the halves of more than four are
+-- two parts or more have their greatest end between the ends of their halves, and the halves of more than a few are
 -- trees again
-abbrev pub IsTree : {A : Type 0} → (A → List Entry) → ℕ → List A → List (Option End) → Type 0
-IsTree f zero xs gs = ⊤
-IsTree f (suc h) xs gs =
+abbrev pub IsTree : {A : Type 0} → (A → List Entry) → ℕ → ℕ → List A → List (Option End) → Type 0
+IsTree f few zero xs gs = ⊤
+IsTree f few (suc h) xs gs =
     1 < length xs →
     IsGreatest (slice_index_or gs (length xs / 2 - 1) None) (flat_map f xs)
-    × (4 < length xs → IsTree f h (take (length xs / 2) xs) (take (length xs / 2 - 1) gs) × IsTree f h (drop (length xs / 2) xs) (drop (length xs / 2) gs))
+    × (few < length xs → IsTree f few h (take (length xs / 2) xs) (take (length xs / 2 - 1) gs) × IsTree f few h (drop (length xs / 2) xs) (drop (length xs / 2) gs))
 
 -- a tree of enough levels
-pub record HasTree {A : Type 0} (f : A → List Entry) (xs : List A) (gs : List (Option End)) : Type 0 where
+pub record HasTree {A : Type 0} (f : A → List Entry) (few : ℕ) (xs : List A) (gs : List (Option End)) : Type 0 where
   pub levels : ℕ
   pub enough : length xs ≤ 2 ^ levels
-  pub tree : IsTree f levels xs gs
+  pub tree : IsTree f few levels xs gs
 
 -- a tree but for what it has of the parts from a place up to another
-abbrev pub IsTreeBut : {A : Type 0} → (A → List Entry) → ℕ → ℕ → ℕ → List A → List (Option End) → Type 0
-IsTreeBut f zero from to xs gs = ⊤
-IsTreeBut f (suc h) from to xs gs =
-    (to ≤ from → IsTree f (suc h) xs gs)
-    × (4 < length xs → IsTreeBut f h (min from (length xs / 2)) (min to (length xs / 2)) (take (length xs / 2) xs) (take (length xs / 2 - 1) gs) × IsTreeBut f h (from - length xs / 2) (to - length xs / 2) (drop (length xs / 2) xs) (drop (length xs / 2) gs))
+abbrev pub IsTreeBut : {A : Type 0} → (A → List Entry) → ℕ → ℕ → ℕ → ℕ → List A → List (Option End) → Type 0
+IsTreeBut f few zero from to xs gs = ⊤
+IsTreeBut f few (suc h) from to xs gs =
+    (to ≤ from → IsTree f few (suc h) xs gs)
+    × (few < length xs → IsTreeBut f few h (min from (length xs / 2)) (min to (length xs / 2)) (take (length xs / 2) xs) (take (length xs / 2 - 1) gs) × IsTreeBut f few h (from - length xs / 2) (to - length xs / 2) (drop (length xs / 2) xs) (drop (length xs / 2) gs))
 
 -- the later of two ends, where there is one
 abbrev pub greater_end : Option End → Option End → Option End

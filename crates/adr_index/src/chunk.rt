@@ -1,5 +1,5 @@
 //! A chunk of an index: some entries in order, under a tree of their ends.
-ghost use Rattle.std.specs.Prelude.{◌≡◌, ◌+◌, ◌<◌, ◌≤◌, ◌++◌, ◌∷◌, [], ◌^◌, IfNone, IfOk, IfSome, OnOk, length, vec_capacity};
+ghost use Rattle.std.specs.Prelude.{◌≡◌, ◌+◌, ◌*◌, ◌<◌, ◌≤◌, ◌++◌, ◌∷◌, [], ◌^◌, IfNone, IfOk, IfSome, OnOk, length, vec_capacity};
 ghost use Rattle.adr_index.specs.Chunks.{listed, listed_too, ArePooled, HasEnds, IsChunk, IsPooled, IsRoomy, StartsLast};
 ghost use Rattle.adr_index.specs.Query.{any_late, hits, looks};
 ghost use Rattle.adr_index.specs.Tree.{IsByStart};
@@ -157,7 +157,7 @@ impl Chunk {
         ensures same { IfNone result ((length self.new.entries.items ≤ length self.old.entries.items + 1) × (length pool.new.items ≡ length pool.old.items)) }
         ensures parted { IfSome result (λ other. (length self.old.entries.items ≡ 64) × (length self.new.entries.items ≡ 32) × (length other.entries.items ≡ 33) × (length pool.new.items + 1 ≡ length pool.old.items)) }
     {
-        let place = place_of(&self.entries, 0, &entry);
+        let place = place_of(&self.entries, self.entries.len() / 2, &entry);
         let _ = self.entries.insert(place, entry);
         if self.entries.len() <= MOST {
             self.refresh();
@@ -179,7 +179,8 @@ impl Chunk {
         ensures room { IsRoomy self.new }
         ensures chunk { 0 < length self.new.entries.items → IsChunk self.new }
     {
-        let near = take_out(&mut self.entries, 0, first);
+        let middle = self.entries.len() / 2;
+        let near = take_out(&mut self.entries, middle, first);
         take_each(&mut self.entries, near, run);
         self.refresh();
     }
@@ -194,7 +195,7 @@ impl Chunk {
         ensures chunk { IsChunk self.new }
         ensures more { length self.new.entries.items ≡ length self.old.entries.items + (length run.now + 1) }
     {
-        let place = place_of(&self.entries, 0, first);
+        let place = place_of(&self.entries, self.entries.len() / 2, first);
         let _ = self.entries.insert(place, *first);
         insert_each(&mut self.entries, place, run);
         self.refresh();
@@ -237,7 +238,7 @@ impl Chunk {
         meter: &mut Meter,
     ) -> Result<bool, AllocError>
         requires chunk { IsChunk self.now }
-        requires depth { length self.now.entries.items ≤ 2 ^ depth }
+        requires depth { 2 * length self.now.entries.items ≤ 2 ^ depth }
         requires order { IsByStart self.now.entries.items }
         requires room { meter.old + looks depth self.now.entries.items query.now < 2 ^ 128 }
         ensures found { OnOk result (found.new.items ≡ found.old.items ++ hits self.now.entries.items query.now) }

@@ -1,5 +1,5 @@
 //! Entries in order, found by the moments and windows that they cover.
-ghost use Rattle.std.specs.Prelude.{◌≡◌, ◌+◌, ◌*◌, ◌<◌, ◌≤◌, ◌^◌, [], true, false, length, IfOk, IfSome, IsOk, OnOk, OnErr};
+ghost use Rattle.std.specs.Prelude.{◌≡◌, ◌+◌, ◌*◌, ◌<◌, ◌≤◌, ◌^◌, [], false, length, IfOk, IsOk, OnOk, OnErr};
 ghost use Rattle.std.specs.List.{list_any};
 ghost use Rattle.std.specs.List.Sorted.{IsPermutation};
 ghost use Rattle.adr_refusal.specs.Answer.{OnlyNoMemory};
@@ -13,7 +13,8 @@ use crate::chunk::Chunk;
 use crate::order::sort;
 use crate::query::{Latest, Query};
 use crate::reach::Reach;
-use crate::table::Table;
+use crate::stretch::Stretch;
+use crate::table::{Table, home};
 use crate::tops::{rebuild_chunks, search_chunks};
 use crate::tree::digits;
 use adr_model::Entry;
@@ -28,10 +29,10 @@ use std::marker::Model;
 ///
 /// No two entries have one written number and place. An entry whose span covers no moment is kept, and never found.
 ///
-/// They lie in chunks of at most 64. An edit goes to one chunk, found by halving or behind the last one, and writes
-/// what the tree of greatest ends has over that chunk. Where a chunk is parted or emptied or many are changed, all of
-/// the tree is written anew, a step for each chunk: n/48 of them where an index of n entries is filled at once. A chunk
-/// that loses entries is not put together with others.
+/// They lie in chunks of at most 64. An edit goes to one chunk for each entry, found by halving or behind the last one,
+/// and writes what the tree of greatest ends has from the first chunk that it changed to the last. Where a chunk is
+/// parted or emptied, all of the tree is written anew, a step for each chunk: n/48 of them where an index of n entries is
+/// filled at once. A chunk that loses entries is not put together with others.
 pub struct Index {
     table: Table,
     tops: Vec<Reach>,
@@ -58,6 +59,12 @@ impl Model for Index {
     ghost invariant = { λ index. IsIndex index.table index.tops.items };
 }
 
+/// How many entries an answer has room for from the start, so that most need not grow.
+const OFTEN: usize = 32;
+
+/// How many chunks' ends are written in about the time that the path to one takes.
+const APART: usize = 32;
+
 /// Writes the tree over the chunks anew.
 fn refresh(chunks: &[Chunk], tops: &mut [Reach])
     requires chunks { AreChunks chunks.now }
@@ -68,45 +75,52 @@ fn refresh(chunks: &[Chunk], tops: &mut [Reach])
     let _ = rebuild_chunks(levels, 0, chunks.len(), chunks, tops);
 }
 
-/// Writes the ends over one chunk anew, where the tree is that of the others. Answers whether it is that of them all.
-fn update(chunks: &[Chunk], tops: &mut [Reach], changed: Option<usize>, is_kept: bool) -> bool
+/// Writes what the tree over the chunks has of the stretch anew.
+fn write(chunks: &[Chunk], tops: &mut [Reach], stretch: Stretch)
     requires chunks { AreChunks chunks.now }
     requires lengths { length chunks.now ≤ length tops.old + 1 }
-    requires tops { is_kept ≡ true → IfSome changed (λ place. HasTopsBut place chunks.now tops.old) }
-    ensures { result ≡ true → HasTops chunks.now tops.new }
-{
-    let Some(place) = changed else {
-        return false;
-    };
-    if !is_kept {
-        return false;
-    }
-    let levels = digits(chunks.len());
-    let _ = rebuild_chunks(levels, place, place + 1, chunks, tops);
-    true
-}
-
-/// Writes the tree over the chunks anew, where it is not theirs.
-fn settle(chunks: &[Chunk], tops: &mut [Reach], is_kept: bool)
-    requires chunks { AreChunks chunks.now }
-    requires lengths { length chunks.now ≤ length tops.old + 1 }
-    requires tops { is_kept ≡ true → HasTops chunks.now tops.old }
+    requires tops { HasTopsBut stretch.from stretch.to chunks.now tops.old }
     ensures { HasTops chunks.now tops.new }
 {
-    if !is_kept {
-        refresh(chunks, tops);
+    let levels = digits(chunks.len());
+    let _ = rebuild_chunks(levels, stretch.from, stretch.to, chunks, tops);
+}
+
+/// Writes the tree over the one chunk of the stretch, where the next one lies far behind it, and answers what is left to be
+/// written.
+fn write_far(chunks: &[Chunk], tops: &mut [Reach], stretch: Stretch, is_far: bool) -> Stretch
+    requires chunks { AreChunks chunks.now }
+    requires lengths { length chunks.now ≤ length tops.old + 1 }
+    requires tops { HasTopsBut stretch.from stretch.to chunks.now tops.old }
+    ensures { HasTopsBut result.from result.to chunks.now tops.new }
+{
+    if !is_far || !stretch.is_one() {
+        return stretch;
     }
+    write(chunks, tops, stretch);
+    Stretch::none()
 }
 
-/// Whether so few entries go or come that the tree over the chunks is written sooner along the paths to theirs than
-/// whole.
-fn are_few(entries: &[Entry], chunks: &[Chunk]) -> bool {
-    entries.len() <= chunks.len() / 32
+/// Whether the entries lie so far apart, if they are in order, that the tree over the chunks is written sooner along the
+/// paths to theirs than from the first of these to the last.
+fn are_far(chunks: &[Chunk], entries: &[Entry]) -> bool
+    requires chunks { AreChunks chunks.now }
+    requires order { IsOrdered (all_listed chunks.now) }
+{
+    let (Some(first), Some(last)) = (entries.first(), entries.last()) else {
+        return false;
+    };
+    if entries.len() > chunks.len() / APART {
+        return false;
+    }
+    let from = home(chunks, 0, first);
+    let to = home(chunks, from, last);
+    entries.len() <= to.saturating_sub(from) / APART
 }
 
-/// Takes out what stands in the places of the old entries, those of one chunk together, and answers whether the tree
-/// over the chunks is kept.
-fn take_all(table: &mut Table, tops: &mut [Reach], old: &[Entry]) -> bool
+/// Takes out what stands in the places of the old entries, those of one chunk together, and answers of which chunks the
+/// tree is still to be written.
+fn take_all(table: &mut Table, tops: &mut [Reach], old: &[Entry]) -> Stretch
     requires table { IsTable table.old }
     requires lengths { length table.old.chunks.items + length table.old.pool.items ≤ length tops.old }
     requires tops { HasTops table.old.chunks.items tops.old }
@@ -115,45 +129,49 @@ fn take_all(table: &mut Table, tops: &mut [Reach], old: &[Entry]) -> bool
     ensures spare { table.old.spare ≤ table.new.spare }
     ensures sum { length table.new.chunks.items + length table.new.pool.items ≤ length table.old.chunks.items + length table.old.pool.items }
     ensures nodes { length tops.new ≡ length tops.old }
-    ensures tops { result ≡ true → HasTops table.new.chunks.items tops.new }
+    ensures tops { HasTopsBut result.from result.to table.new.chunks.items tops.new }
 {
-    let mut is_kept = are_few(old, &table.chunks);
+    let is_far = are_far(&table.chunks, old);
+    let mut stretch = Stretch::none();
     let mut near = 0;
     let mut rest = old;
     while let Some((first, later)) = rest.split_first() {
         let run = table.take(near, first, later);
-        is_kept = update(&table.chunks, tops, run.place, is_kept);
+        stretch = stretch.with(run.place, table.chunks.len());
+        stretch = write_far(&table.chunks, tops, stretch, is_far);
         near = run.place.unwrap_or(0);
         (_, rest) = later.split_at(run.given);
     }
-    is_kept
+    stretch
 }
 
-/// Adds the entries, those of one chunk together as far as it has room, and answers whether the tree over the chunks is
-/// kept.
-fn put_all(table: &mut Table, tops: &mut [Reach], new: &[Entry], was_kept: bool) -> bool
+/// Adds the entries, those of one chunk together as far as it has room, and answers of which chunks the tree is still to
+/// be written, where it was so of some.
+fn put_all(table: &mut Table, tops: &mut [Reach], new: &[Entry], changed: Stretch) -> Stretch
     requires table { IsTable table.old }
     requires spare { length new.now ≤ table.old.spare }
     requires fresh { AreNew new.now (all_listed table.old.chunks.items) }
     requires lengths { length table.old.chunks.items + length table.old.pool.items ≤ length tops.old }
-    requires tops { was_kept ≡ true → HasTops table.old.chunks.items tops.old }
+    requires tops { HasTopsBut changed.from changed.to table.old.chunks.items tops.old }
     ensures table { IsTable table.new }
     ensures entries { all_listed table.new.chunks.items ≡ inserted_all new.now (all_listed table.old.chunks.items) }
     ensures spare { table.old.spare ≤ table.new.spare + length new.now }
     ensures sum { length table.new.chunks.items + length table.new.pool.items ≤ length table.old.chunks.items + length table.old.pool.items }
     ensures nodes { length tops.new ≡ length tops.old }
-    ensures tops { result ≡ true → HasTops table.new.chunks.items tops.new }
+    ensures tops { HasTopsBut result.from result.to table.new.chunks.items tops.new }
 {
-    let mut is_kept = was_kept && are_few(new, &table.chunks);
+    let is_far = are_far(&table.chunks, new);
+    let mut stretch = changed;
     let mut near = 0;
     let mut rest = new;
     while let Some((first, later)) = rest.split_first() {
         let run = table.put_run(near, first, later);
-        is_kept = update(&table.chunks, tops, run.place, is_kept);
+        stretch = stretch.with(run.place, table.chunks.len());
+        stretch = write_far(&table.chunks, tops, stretch, is_far);
         near = run.place.unwrap_or(0);
         (_, rest) = later.split_at(run.given);
     }
-    is_kept
+    stretch
 }
 
 /// Makes room for the ends of that many chunks.
@@ -283,9 +301,7 @@ impl Index {
         ensures refused { OnlyNoMemory result }
     {
         self.make_room()?;
-        let changed = self.table.put(entry);
-        let is_kept = update(&self.table.chunks, &mut self.tops, changed, true);
-        settle(&self.table.chunks, &mut self.tops, is_kept);
+        self.replace(&[], &[entry]);
         Ok(())
     }
 
@@ -293,18 +309,19 @@ impl Index {
     /// ones, as when an event is written again. It takes no memory: a chunk that is emptied is kept for later.
     ///
     /// Cost: each entry moves those behind it in its chunk, at most 64. For entries that come in order each chunk of
-    /// theirs is searched once, and its tree written once. The tree over the chunks is written along the paths to
-    /// theirs, or once whole, a step for each chunk, where there are more entries than a 32nd of the chunks, or where a
-    /// chunk is parted or emptied, which also moves the chunks behind it.
+    /// theirs is searched once, and its tree written once. The tree over the chunks is written once, from the first of
+    /// theirs to the last, a step for each of these, or, where there are 32 chunks and more for each entry, along the
+    /// paths to theirs. Where a chunk is parted or emptied it is written whole, a step for each chunk, and the chunks
+    /// behind that one are moved.
     pub fn replace(&mut self, old: &[Entry], new: &[Entry])
         requires room { length new.now ≤ self.old.spare }
         requires fresh { AreNew new.now (others_all old.now self.old.entries) }
         ensures entries { self.new.entries ≡ inserted_all new.now (others_all old.now self.old.entries) }
         ensures spare { self.old.spare ≤ self.new.spare + length new.now }
     {
-        let was_kept = take_all(&mut self.table, &mut self.tops, old);
-        let is_kept = put_all(&mut self.table, &mut self.tops, new, was_kept);
-        settle(&self.table.chunks, &mut self.tops, is_kept);
+        let changed = take_all(&mut self.table, &mut self.tops, old);
+        let stretch = put_all(&mut self.table, &mut self.tops, new, changed);
+        write(&self.table.chunks, &mut self.tops, stretch);
     }
 
     /// Takes out the entry of that written number and place, and answers whether it was there. It takes no memory.
@@ -325,11 +342,11 @@ impl Index {
         ensures found { IfOk result (λ found. found.items ≡ hits self.now.entries query.now) }
         ensures probes { meter.new ≤ meter.old + most_probes self.now.entries (length (hits self.now.entries query.now)) }
     {
-        let mut found = Vec::new(*self.tops.allocator());
+        let mut found = Vec::with_capacity(*self.tops.allocator(), OFTEN)?;
         let depth = digits(self.table.count);
         search_chunks(
             depth,
-            depth,
+            depth + 1,
             &self.table.chunks,
             &self.tops,
             query,
@@ -343,12 +360,12 @@ impl Index {
     fn find(&self, query: &Query) -> Result<Vec<Entry>, AllocError>
         ensures { IfOk result (λ found. found.items ≡ hits self.now.entries query.now) }
     {
-        let mut found = Vec::new(*self.tops.allocator());
+        let mut found = Vec::with_capacity(*self.tops.allocator(), OFTEN)?;
         let mut meter = Meter::new();
         let depth = digits(self.table.count);
         search_chunks(
             depth,
-            depth,
+            depth + 1,
             &self.table.chunks,
             &self.tops,
             query,

@@ -6,6 +6,7 @@ mod index;
 mod order;
 mod query;
 mod reach;
+mod stretch;
 mod table;
 mod tops;
 mod tree;

@@ -45,7 +45,7 @@ fn end(chunks: &[Chunk], low: usize, entry: &Entry) -> usize
 
 /// The place of the chunk to which the entry belongs. The chunk behind that at `near` is tried first, which is mostly
 /// that of the next entry of an event.
-fn home(chunks: &[Chunk], near: usize, entry: &Entry) -> usize
+pub(crate) fn home(chunks: &[Chunk], near: usize, entry: &Entry) -> usize
     requires some { 0 < length chunks.now }
     requires chunks { AreChunks chunks.now }
     requires order { IsOrdered (all_listed chunks.now) }

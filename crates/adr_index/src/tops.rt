@@ -14,7 +14,7 @@ use adr_rule::Meter;
 use std::alloc::AllocError;
 
 /// How many chunks are gone through one by one.
-const FEW: usize = 4;
+const FEW: usize = 6;
 
 /// Searches the few chunks, up to an entry that lasts and starts too late, and answers whether it came to such a one.
 fn scan_chunks(
@@ -25,7 +25,7 @@ fn scan_chunks(
     meter: &mut Meter,
 ) -> Result<bool, AllocError>
     requires chunks { AreChunks chunks.now }
-    requires depth { AllByRecursion (λ c. length (listed c) ≤ 2 ^ depth) chunks.now }
+    requires depth { AllByRecursion (λ c. 2 * length (listed c) ≤ 2 ^ depth) chunks.now }
     requires order { IsByStart (all_listed chunks.now) }
     requires room { meter.old + length chunks.now + 2 * depth * reached (all_listed chunks.now) query.now < 2 ^ 128 }
     ensures found { OnOk result (found.new.items ≡ found.old.items ++ hits (all_listed chunks.now) query.now) }
@@ -50,7 +50,8 @@ fn any_chunk_reaches(chunks: &[Chunk], tops: &[Reach], query: &Query) -> bool
     tops[chunks.len() / 2 - 1].is_past(query.from)
 }
 
-/// Adds the entries of the chunks that are asked for, as the search of a chunk does, which takes `depth` levels.
+/// Adds the entries of the chunks that are asked for, as the search of a chunk does, which takes `depth` levels, one more than
+/// its entries need.
 pub(crate) fn search_chunks(
     levels: u32,
     depth: u32,
@@ -61,10 +62,10 @@ pub(crate) fn search_chunks(
     meter: &mut Meter,
 ) -> Result<bool, AllocError>
     requires chunks { AreChunks chunks.now }
-    requires depth { AllByRecursion (λ c. length (listed c) ≤ 2 ^ depth) chunks.now }
+    requires depth { AllByRecursion (λ c. 2 * length (listed c) ≤ 2 ^ depth) chunks.now }
     requires levels { length chunks.now ≤ 2 ^ levels }
     requires lengths { length chunks.now ≤ length tops.now + 1 }
-    requires tree { IsTree listed levels chunks.now tops.now }
+    requires tree { IsTree listed 6 levels chunks.now tops.now }
     requires order { IsByStart (all_listed chunks.now) }
     requires room { meter.old + looks (levels + depth) (all_listed chunks.now) query.now < 2 ^ 128 }
     ensures found { OnOk result (found.new.items ≡ found.old.items ++ hits (all_listed chunks.now) query.now) }
@@ -130,8 +131,8 @@ pub(crate) fn rebuild_chunks(
     requires chunks { AreChunks chunks.now }
     requires levels { length chunks.now ≤ 2 ^ levels }
     requires lengths { length chunks.now ≤ length tops.old + 1 }
-    requires rest { IsTreeBut listed levels from to chunks.now tops.old }
-    ensures tree { IsTree listed levels chunks.now tops.new }
+    requires rest { IsTreeBut listed 6 levels from to chunks.now tops.old }
+    ensures tree { IsTree listed 6 levels chunks.now tops.new }
     ensures greatest { IsGreatest result (all_listed chunks.now) }
 {
     if to <= from {

@@ -13,12 +13,13 @@ use adr_time::{End, Span};
 use std::alloc::AllocError;
 
 /// How many entries are gone through one by one.
-const FEW: usize = 4;
+const FEW: usize = 8;
 
 /// How many binary digits the number has.
 pub(crate) fn digits(number: usize) -> u32
     ensures digits { result ≡ digits_of number }
     ensures below { number < 2 ^ result }
+    ensures most { result ≤ 64 }
 {
     usize::BITS - number.leading_zeros()
 }
@@ -70,14 +71,15 @@ fn scan(
 fn any_reaches(entries: &[Entry], greatest: &[Reach], query: &Query) -> bool
     requires some { 1 < length entries.now }
     requires lengths { length entries.now ≤ length greatest.now + 1 }
-    requires tree { HasTree only entries.now greatest.now }
+    requires tree { HasTree only 8 entries.now greatest.now }
     ensures { result ≡ any_lasts entries.now query.now.from }
 {
     greatest[entries.len() / 2 - 1].is_past(query.from)
 }
 
 /// Adds the entries that are asked for, in order, and answers whether it came to one that lasts and starts too late.
-/// Each look at an entry or at an end is a tick.
+/// Each look at an entry or at an end is a tick. A level more than the entries need pays for the few that are gone
+/// through one by one.
 pub(crate) fn search(
     levels: u32,
     entries: &[Entry],
@@ -86,9 +88,9 @@ pub(crate) fn search(
     found: &mut Vec<Entry>,
     meter: &mut Meter,
 ) -> Result<bool, AllocError>
-    requires levels { length entries.now ≤ 2 ^ levels }
+    requires levels { 2 * length entries.now ≤ 2 ^ levels }
     requires lengths { length entries.now ≤ length greatest.now + 1 }
-    requires tree { IsTree only levels entries.now greatest.now }
+    requires tree { IsTree only 8 levels entries.now greatest.now }
     requires order { IsByStart entries.now }
     requires room { meter.old + looks levels entries.now query.now < 2 ^ 128 }
     ensures found { OnOk result (found.new.items ≡ found.old.items ++ hits entries.now query.now) }
@@ -131,7 +133,7 @@ fn greatest_of(entries: &[Entry]) -> Reach
 pub(crate) fn rebuild(levels: u32, entries: &[Entry], greatest: &mut [Reach]) -> Reach
     requires levels { length entries.now ≤ 2 ^ levels }
     requires lengths { length entries.now ≤ length greatest.old + 1 }
-    ensures tree { IsTree only levels entries.now greatest.new }
+    ensures tree { IsTree only 8 levels entries.now greatest.new }
     ensures greatest { IsGreatest result entries.now }
 {
     let count = entries.len();

@@ -18,10 +18,11 @@ use std::str;
 const MOST_LEVELS: usize = 127;
 
 /// The members of the JSON object (RFC 8259) that a text is, a body or a shielded one.
-fn members_of<M: Members>(
+fn members_of<'a, M: Members>(
     alloc: Global,
+    scratch: &'a mut Scratch,
     now: Moment,
-    text: &[u8],
+    text: &'a [u8],
     is_shielded: bool,
     members: M,
 ) -> Result<M, Refusal>
@@ -34,8 +35,7 @@ fn members_of<M: Members>(
     let Ok(text) = str::from_utf8(text) else {
         return Err(Refusal::BadJson);
     };
-    let mut scratch = Scratch::new(alloc);
-    let reader = Reader::new(text, &mut scratch)?;
+    let reader = Reader::new(text, scratch)?;
     let mut tokens = Tokens::new(reader, is_shielded);
     let Some(token) = tokens.next() else {
         return Err(Refusal::BadJson);
@@ -62,6 +62,7 @@ fn has_no_nul(body: &[u8]) -> bool
 #[tactic(auto, unfolding(crate::specs::Body::object_named))]
 pub(crate) fn read_object<M: Members>(
     alloc: Global,
+    scratch: &mut Scratch,
     now: Moment,
     body: &[u8],
     members: M,
@@ -73,12 +74,12 @@ pub(crate) fn read_object<M: Members>(
     ensures names { IfOk result (λ m. M.names m ≡ M.names members) }
 {
     if has_no_nul(body) {
-        match members_of(alloc, now, body, false, members.anew()) {
+        match members_of(alloc, scratch, now, body, false, members.anew()) {
             Ok(members) => return Ok(members),
             Err(refusal) if refusal != Refusal::BadJson => return Err(refusal),
             Err(_) => {}
         }
     }
     let shielded = shield(alloc, body)?;
-    members_of(alloc, now, shielded.as_slice(), true, members)
+    members_of(alloc, scratch, now, shielded.as_slice(), true, members)
 }

@@ -11,9 +11,11 @@ mod name;
 mod object;
 mod period;
 mod read;
+mod reader;
 mod skip;
 mod text;
 mod tokens;
 mod values;
 
 pub use read::{limit_laws, read_event, read_program, read_resource, read_ven};
+pub use reader::BodyReader;

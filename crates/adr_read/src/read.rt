@@ -17,6 +17,7 @@ use crate::object::{common_members, program, resource, ven};
 use adr_object::{Event, Id, Program, Resource, Ven};
 use adr_time::Moment;
 use adr_value::Refusal;
+use json::Scratch;
 use std::alloc::Global;
 
 /// The program (OpenADR 3.0 Definition, program) of a body, one JSON object (RFC 8259), on a line that names this id. A
@@ -30,8 +31,7 @@ use std::alloc::Global;
 pub fn read_program(alloc: Global, body: &[u8], id: &Id, now: Moment) -> Result<Program, Refusal>
     ensures { Answers result (program_named body.now id.now) }
 {
-    let members = (common_members(), Member::named(MemberName::ProgramName));
-    program(alloc, id, read_object(alloc, now, body, members)?)
+    program_by(alloc, &mut Scratch::new(alloc), body, id, now)
 }
 
 /// The event (OpenADR 3.0 Definition, event) of a body on a line that names this id, in an edit at this moment, which a
@@ -40,24 +40,81 @@ pub fn read_program(alloc: Global, body: &[u8], id: &Id, now: Moment) -> Result<
 pub fn read_event(alloc: Global, body: &[u8], id: &Id, now: Moment) -> Result<Event, Refusal>
     ensures { Answers result (event_named now body.now id.now) }
 {
-    event(alloc, id, read_object(alloc, now, body, event_members())?)
+    event_by(alloc, &mut Scratch::new(alloc), body, id, now)
 }
 
 /// The ven (OpenADR 3.0 Definition, ven) of a body on a line that names this id, as of a program.
 pub fn read_ven(alloc: Global, body: &[u8], id: &Id, now: Moment) -> Result<Ven, Refusal>
     ensures { Answers result (ven_named body.now id.now) }
 {
-    let members = (common_members(), Member::named(MemberName::VenName));
-    ven(alloc, id, read_object(alloc, now, body, members)?)
+    ven_by(alloc, &mut Scratch::new(alloc), body, id, now)
 }
 
 /// The resource (OpenADR 3.0 Definition, resource) of a body on a line that names this id, as of a program.
 pub fn read_resource(alloc: Global, body: &[u8], id: &Id, now: Moment) -> Result<Resource, Refusal>
     ensures { Answers result (resource_named body.now id.now) }
 {
+    resource_by(alloc, &mut Scratch::new(alloc), body, id, now)
+}
+
+/// As `read_program`, in this memory.
+pub(crate) fn program_by(
+    alloc: Global,
+    scratch: &mut Scratch,
+    body: &[u8],
+    id: &Id,
+    now: Moment,
+) -> Result<Program, Refusal>
+    ensures { Answers result (program_named body.now id.now) }
+{
+    let members = (common_members(), Member::named(MemberName::ProgramName));
+    program(alloc, id, read_object(alloc, scratch, now, body, members)?)
+}
+
+/// As `read_event`, in this memory.
+pub(crate) fn event_by(
+    alloc: Global,
+    scratch: &mut Scratch,
+    body: &[u8],
+    id: &Id,
+    now: Moment,
+) -> Result<Event, Refusal>
+    ensures { Answers result (event_named now body.now id.now) }
+{
+    event(
+        alloc,
+        id,
+        read_object(alloc, scratch, now, body, event_members())?,
+    )
+}
+
+/// As `read_ven`, in this memory.
+pub(crate) fn ven_by(
+    alloc: Global,
+    scratch: &mut Scratch,
+    body: &[u8],
+    id: &Id,
+    now: Moment,
+) -> Result<Ven, Refusal>
+    ensures { Answers result (ven_named body.now id.now) }
+{
+    let members = (common_members(), Member::named(MemberName::VenName));
+    ven(alloc, id, read_object(alloc, scratch, now, body, members)?)
+}
+
+/// As `read_resource`, in this memory.
+pub(crate) fn resource_by(
+    alloc: Global,
+    scratch: &mut Scratch,
+    body: &[u8],
+    id: &Id,
+    now: Moment,
+) -> Result<Resource, Refusal>
+    ensures { Answers result (resource_named body.now id.now) }
+{
     let name = Member::named(MemberName::ResourceName);
     let members = (common_members(), (name, Member::named(MemberName::VenId)));
-    resource(alloc, id, read_object(alloc, now, body, members)?)
+    resource(alloc, id, read_object(alloc, scratch, now, body, members)?)
 }
 
 /// What a larger limit of intervals changes: nothing of a body that is not refused for a list above the lesser one.

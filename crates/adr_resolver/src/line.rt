@@ -10,7 +10,7 @@ use crate::fields::{
     roll_line, types_line, write_line,
 };
 use adr_object::{Edit, Id, Kind, Object, Shared};
-use adr_read::{read_event, read_program, read_resource, read_ven};
+use adr_read::BodyReader;
 use adr_script::MAX_LINE;
 use adr_time::{Moment, read_moment};
 use adr_value::{PayloadType, Refusal};
@@ -56,33 +56,51 @@ pub fn object_of(
 ) -> Result<Object, Refusal>
     ensures { Answers result (object_of kind now id.now body.now) }
 {
+    object_by(alloc, &mut BodyReader::new(), kind, now, id, body)
+}
+
+/// As `object_of`, by this reader.
+fn object_by(
+    alloc: Global,
+    bodies: &mut BodyReader,
+    kind: Kind,
+    now: Moment,
+    id: &Id,
+    body: &[u8],
+) -> Result<Object, Refusal>
+    ensures { Answers result (object_of kind now id.now body.now) }
+{
     match kind {
         Kind::Program => {
-            let program = read_program(alloc, body, id, now)?;
+            let program = bodies.program(alloc, body, id, now)?;
             Ok(Object::Program(Shared::new(alloc, program)?))
         }
         Kind::Event => {
-            let event = read_event(alloc, body, id, now)?;
+            let event = bodies.event(alloc, body, id, now)?;
             Ok(Object::Event(Shared::new(alloc, event)?))
         }
         Kind::Ven => {
-            let ven = read_ven(alloc, body, id, now)?;
+            let ven = bodies.ven(alloc, body, id, now)?;
             Ok(Object::Ven(Shared::new(alloc, ven)?))
         }
         Kind::Resource => {
-            let resource = read_resource(alloc, body, id, now)?;
+            let resource = bodies.resource(alloc, body, id, now)?;
             Ok(Object::Resource(Shared::new(alloc, resource)?))
         }
     }
 }
 
 #[tactic(auto, unfolding(crate::specs::Line::write_command_by))]
-fn write_command(alloc: Global, line: &WriteLine<'_>) -> Result<Command, Refusal>
+fn write_command(
+    alloc: Global,
+    bodies: &mut BodyReader,
+    line: &WriteLine<'_>,
+) -> Result<Command, Refusal>
     ensures { Answers result (write_command (write_view line.now)) }
 {
     let now = moment_word(line.moment)?;
     let id = id_word(alloc, line.id)?;
-    let object = object_of(alloc, line.kind, now, &id, line.body)?;
+    let object = object_by(alloc, bodies, line.kind, now, &id, line.body)?;
     match line.verb {
         Verb::Create => Ok(Command::Edit(Edit::Create(object))),
         Verb::Change => Ok(Command::Edit(Edit::Change(object))),
@@ -160,8 +178,19 @@ fn query_named(alloc: Global, line: &[u8]) -> Result<Command, Refusal>
 /// script, `BadMoment`, `BadId`, `BadText` for a type that is no UTF-8 or has more than 128 characters, and those of
 /// the body (`BadNumber` to `TooMany`). `NoMemory` may come in place of any. Cost: a pass over the words of the
 /// line for each form until one fits, and that of reading the body.
-#[tactic(auto, unfolding(crate::specs::Line::line_named_by))]
 pub fn parse_line(alloc: Global, line: &[u8]) -> Result<Command, Refusal>
+    ensures { Answers result (line_named line.now) }
+{
+    parse_line_by(alloc, &mut BodyReader::new(), line)
+}
+
+/// As `parse_line`, by a reader that may keep its memory for the bodies of the lines that follow.
+#[tactic(auto, unfolding(crate::specs::Line::line_named_by))]
+pub fn parse_line_by(
+    alloc: Global,
+    bodies: &mut BodyReader,
+    line: &[u8],
+) -> Result<Command, Refusal>
     ensures { Answers result (line_named line.now) }
 {
     if line.len() > MAX_LINE {
@@ -174,7 +203,7 @@ pub fn parse_line(alloc: Global, line: &[u8]) -> Result<Command, Refusal>
         return Ok(Command::Condense);
     }
     if let Some(write) = write_line(line) {
-        return write_command(alloc, &write);
+        return write_command(alloc, bodies, &write);
     }
     match delete_line(line) {
         Some(delete) => delete_command(alloc, &delete),

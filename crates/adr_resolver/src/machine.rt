@@ -6,13 +6,15 @@ ghost use Rattle.adr_resolver.specs.Kept.{kept_command_reply, kept_command_next}
 ghost use Rattle.adr_resolver.specs.Text.{answer_line};
 
 use crate::command::Command;
-use crate::line::parse_line;
+use crate::line::parse_line_by;
 use crate::replies::{put_answer, put_condensed, put_ok, put_published, put_refusal};
 use crate::resolver::Resolver;
 use adr_object::{Edit, Id};
+use adr_read::BodyReader;
 use adr_script::{Machine, Unanswered};
 use adr_time::Moment;
 use adr_value::{PayloadType, Refusal};
+use std::alloc::Global;
 use std::marker::Model;
 use std::sync::Wait;
 use std::thread::Threads;
@@ -20,6 +22,7 @@ use std::thread::Threads;
 /// Answers a script's lines from a resolver. It is not `Drop`: end it by `into_resolver`.
 pub(crate) struct ScriptOf<R: Resolver> {
     resolver: R,
+    bodies: BodyReader,
 }
 
 impl<R: Resolver> Model for ScriptOf<R> {
@@ -32,15 +35,19 @@ impl<R: Resolver> Model for ScriptOf<R> {
 
 impl<R: Resolver> ScriptOf<R> {
     /// A script over the resolver as it is.
-    pub(crate) fn new(resolver: R) -> ScriptOf<R>
+    pub(crate) fn new(alloc: Global, resolver: R) -> ScriptOf<R>
         ensures { result ≡ R.kept resolver }
     {
-        ScriptOf { resolver }
+        ScriptOf {
+            resolver,
+            bodies: BodyReader::keeping(alloc),
+        }
     }
 
     /// The resolver, once there are no more lines.
     pub(crate) fn into_resolver(self) -> R {
-        let ScriptOf { resolver } = self;
+        let ScriptOf { resolver, bodies } = self;
+        drop(bodies);
         resolver
     }
 
@@ -206,7 +213,7 @@ impl<R: Resolver> Machine for ScriptOf<R> {
         line: &[u8],
         reply: &mut Vec<u8>,
     ) -> Result<(), Unanswered> {
-        match parse_line(rt.alloc(), line) {
+        match parse_line_by(rt.alloc(), &mut self.bodies, line) {
             Ok(Command::Edit(edit)) => self.edit(edit, reply),
             Ok(Command::Publish) => self.publish(rt, reply),
             Ok(Command::Condense) => self.condense(reply),

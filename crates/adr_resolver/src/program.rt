@@ -86,7 +86,7 @@ fn run_by<S: Resolver, H: AllocGlobal + Threads + Wait, R: Read, W: Write>(
     ensures cause { IsCaused logs.new.reads logs.new.writes result }
     ensures read_ends { has_read_failed logs.new.reads ≡ true → result ≡ Err Fault.Reading }
 {
-    let mut machine = ScriptOf::new(resolver);
+    let mut machine = ScriptOf::new(rt.alloc(), resolver);
     let served = serve(rt, reader, writer, logs, &mut machine);
     machine.into_resolver().close(rt);
     served

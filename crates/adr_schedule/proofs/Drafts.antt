@@ -56,9 +56,6 @@ in_either x y (z ∷ xs) (inr m) = by (in_either x y xs m)
 -- ---- the windows of a change
 
 module _ (change : Change) (writes : List ℕ) where
-  pub for_come : (s : Side) → kept_side true writes change.gone ≡ None → kept_side false writes change.come ≡ Some s → entries_in change.come ≡ sides_for change writes
-  for_come s gone come = ap entries_in (kept_is false writes change.come s come) ∙ sym (rw (gone, come) refl)
-
   -- the entries of the sides that make a difference, and of the change that has them
   pub gone_entries : (s : Side) → kept_side true writes change.gone ≡ Some s → entries_in change.gone ≡ s.entries.items
   gone_entries s gone = ap entries_in (kept_is true writes change.gone s gone)

@@ -1,7 +1,7 @@
 -- What is laid over groups, and how little that compares.
-use Rattle.std.proofs.Common.{◌≡◌, ◌⊎◌, inl, inr, ℕ, suc, ◌+◌, ◌-◌, ◌*◌, ◌≤◌, Bool, true, false, if◌then◌else◌, List, [], ◌∷◌, ◌++◌, length, take, Option, Some, None, refl, ap, sym, subst, ◌∙◌, append-nil, arith}
-use Rattle.std.specs.Prelude.{IfSome}
-use Rattle.std.proofs.lemmas.Bool.{and_parts, eq-eqb}
+use Rattle.std.proofs.Common.{◌≡◌, ◌⊎◌, inl, inr, ℕ, suc, ◌+◌, ◌-◌, ◌*◌, ◌≤◌, ◌==◌, ◌||◌, Bool, true, false, if◌then◌else◌, List, [], ◌∷◌, ◌++◌, length, take, Option, Some, None, refl, ap, sym, subst, ◌∙◌, append-nil, arith}
+use Rattle.std.specs.Prelude.{Result, Ok, Err, IfOk, IfSome, OnOk}
+use Rattle.std.proofs.lemmas.Bool.{and_parts, both_ways, eq-eqb, eqb-true}
 use Rattle.std.proofs.lemmas.List.Sums.{sum_by-cons, sum_by_push}
 use Rattle.adr_value.specs.Payload.{name_of}
 use Rattle.adr_value.specs.Same.{same_type}
@@ -26,18 +26,19 @@ use Rattle.adr_lines.specs.declared.indexes.Indexes.{Indexes}
 use Rattle.adr_lines.specs.Exchange.{IsIndexOf}
 use Rattle.adr_lines.specs.Indexes.{under}
 use Rattle.adr_group.specs.Group.{IsRightOf, Lines}
-use Rattle.adr_group.specs.Laid.{are_runs, IsComing}
+use Rattle.adr_group.specs.Laid.{are_runs, AreOwnOf, IsComing}
 use Rattle.adr_group.specs.Repair.{most_inside, most_repaired}
 use Rattle.adr_group.specs.Writes.{changed_number}
 use Rattle.adr_group.proofs.Possible.{cost_rises}
+use Rattle.adr_group.proofs.Turns.{most_both}
 use Rattle.adr_shared.specs.Map.{put}
 use Rattle.adr_schedule.specs.declared.change.Change.{Change}
 use Rattle.adr_schedule.specs.declared.change.Side.{Side}
 use Rattle.adr_schedule.specs.declared.draft.Draft.{Draft}
 use Rattle.adr_schedule.specs.Draft.{most_drafted, AreDraftsOf, AreMadeSoFar, IsDraftOf, IsMadeOf}
-use Rattle.adr_schedule.specs.Shift.{entries_in, kept_side, IsLaidBy}
+use Rattle.adr_schedule.specs.Shift.{kept_side, IsLaidBy}
 use Rattle.adr_schedule.specs.Slots.{in_slot}
-use Rattle.adr_schedule.proofs.Drafts.{for_come, in_before, in_last, one_made}
+use Rattle.adr_schedule.proofs.Drafts.{in_before, in_last, one_made}
 use Rattle.adr_schedule.proofs.Variant.{kept_is}
 
 -- ---- what the entries of an event compare at least
@@ -84,58 +85,134 @@ module _ (indexes : Indexes) (writes : List ℕ) (number : ℕ) (has : has_numbe
         let whole = sum_by-cons (λ (h : TypeEntries). length h.entries.items) g gs in
         omega (arith, whole, here, rest)
 
--- ---- a draft whose group only gains the event that comes
+-- ---- the numbers of the events that make a difference
 
-module _ (change : Change) (g : Lines) (d : Draft) (side : Side) (of : IsDraftOf change g d) (gone : kept_side true g.writes change.gone ≡ None) (come : kept_side false g.writes change.come ≡ Some side) where
-  -- its writes get that event's number
-  pub joined : (n : ℕ) → has_number d.writes n ≡ changed_number None (Some side.written) g.writes n
-  joined n = of.writes n ∙ rw (gone, come) refl
+-- the one that goes is among the writes
+was_there : (writes : List ℕ) (o : Option Side) (side : Side) → kept_side true writes o ≡ Some side → has_number writes side.written ≡ true
+was_there writes None side h = absurd (cc)
+was_there writes (Some s) side h = by (has_number writes s.written) refl h
+  where
+    by : (b : Bool) → has_number writes s.written ≡ b → (if b then Some s else None) ≡ Some side → has_number writes side.written ≡ true
+    by true k e = let one : s ≡ side = cc in subst (λ (x : Side). has_number writes x.written ≡ true) one k
+    by false k e = absurd (cc)
 
-  -- which they have not yet
-  pub not_yet : has_number g.writes side.written ≡ false
-  not_yet = by change.come come
-    where
-      by : (o : Option Side) → kept_side false g.writes o ≡ Some side → has_number g.writes side.written ≡ false
-      by None e = absurd (cc)
-      by (Some s) e = other (has_number g.writes s.written) refl e
-        where
-          other : (b : Bool) → has_number g.writes s.written ≡ b → (if b then None else Some s) ≡ Some side → has_number g.writes side.written ≡ false
-          other true h k = absurd (cc)
-          other false h k = let one : s ≡ side = cc in subst (λ (x : Side). has_number g.writes x.written ≡ false) one h
+-- and the one that comes is not
+not_there : (writes : List ℕ) (o : Option Side) (side : Side) → kept_side false writes o ≡ Some side → has_number writes side.written ≡ false
+not_there writes None side h = absurd (cc)
+not_there writes (Some s) side h = by (has_number writes s.written) refl h
+  where
+    by : (b : Bool) → has_number writes s.written ≡ b → (if b then None else Some s) ≡ Some side → has_number writes side.written ≡ false
+    by true k e = absurd (cc)
+    by false k e = let one : s ≡ side = cc in subst (λ (x : Side). has_number writes x.written ≡ false) one k
 
-  module _ (rank : Winner → Rank) (indexes : Indexes) (laid : IsLaidBy (Some rank) indexes change) where
-    pub comes : IsComing indexes rank side.written side.entries.items
-    comes = laid rank side refl (kept_is false g.writes change.come side come)
+-- ---- a draft of a change whose events are indexed
 
-    -- what is laid compares no more than the repair does
-    pub laid_least : are_runs side.entries.items ≡ true → 3 * entries_in_groups side.entries.items ≤ most_repaired d.windows.items d.writes indexes
-    laid_least runs =
-        let has : has_number d.writes side.written ≡ true = joined side.written ∙ (rw (eq-eqb side.written side.written refl) refl) in
-        let least = groups_least indexes d.writes side.written has side.entries.items rank comes side.entries.items (λ x m. m) runs in
-        let cost = of.windows.cost d.writes indexes ∙ ap (λ l. most_repaired l d.writes indexes) (sym (for_come change g.writes side gone come) ∙ ap entries_in (kept_is false g.writes change.come side come)) in
-        omega (arith, least, cost)
+module _ (rank : Winner → Rank) (indexes : Indexes) (change : Change) (laid : IsLaidBy (Some rank) indexes change) (g : Lines) where
+  pub comes : (side : Side) → kept_side false g.writes change.come ≡ Some side → IsComing indexes rank side.written side.entries.items
+  comes side come = laid.comes rank side refl (kept_is false g.writes change.come side come)
 
-    -- so what is laid compares no more, where nothing is compared unless it is laid
-    pub laid_within : (made : Option Lines) (entries : List TypeEntries) (count : ℕ) → entries ≡ side.entries.items → (made ≡ None → count ≡ 0) → IfSome made (λ h. are_runs entries ≡ true)
-        → count ≤ 3 * entries_in_groups entries → count ≤ most_repaired d.windows.items d.writes indexes
-    laid_within None entries count same none runs most = omega (arith, none refl)
-    laid_within (Some h) entries count same none runs most =
-        let least = laid_least (subst (λ l. are_runs l ≡ true) same runs) in
-        let as_many = ap entries_in_groups same in
-        omega (arith, least, as_many, most)
+  pub goes : (side : Side) → kept_side true g.writes change.gone ≡ Some side → AreOwnOf indexes side.written side.entries.items
+  goes side gone = laid.goes rank side refl (kept_is true g.writes change.gone side gone)
 
-  -- the group with the event laid over it was made of the draft
-  pub laid_made : (rank : Winner → Rank) (made : Option Lines) (entries : List TypeEntries) → entries ≡ side.entries.items → IfSome made (λ h. h.writes ≡ d.writes)
-      → IfSome made (λ h. (indexes : Indexes) (number : ℕ) → IsComing indexes rank number entries → has_number g.writes number ≡ false → ((n : ℕ) → has_number d.writes n ≡ changed_number None (Some number) g.writes n)
-      → (tie : Tie) (events : List Written) → IsIndexOf tie events indexes → IsRightOf tie events g → IsRightOf tie events h)
-      → IfSome made (λ h. (indexes : Indexes) → IsLaidBy (Some rank) indexes change → IsMadeOf indexes d h)
-  laid_made rank None entries same writes right = tt
-  laid_made rank (Some h) entries same writes right = λ indexes laid. record {
-    writes = writes;
-    right = λ tie events index windows before.
-        right indexes side.written (subst (λ l. IsComing indexes rank side.written l) (sym same) (comes rank indexes laid)) not_yet joined tie events index
-        (subst (λ (x : Lines). IsRightOf tie events x) of.group before);
-  }
+  module _ (d : Draft) (of : IsDraftOf change g d) where
+    -- to lay the event that comes compares no more than to repair its entries
+    come_least : (side : Side) → kept_side false g.writes change.come ≡ Some side → are_runs side.entries.items ≡ true → 3 * entries_in_groups side.entries.items ≤ most_repaired side.entries.items d.writes indexes
+    come_least side come runs = groups_least indexes d.writes side.written has side.entries.items rank (comes side come) side.entries.items (λ x m. m) runs
+      where
+        has : has_number d.writes side.written ≡ true
+        has = of.writes side.written ∙ (rw come (rw (eq-eqb side.written side.written refl) refl))
+
+    -- where none goes
+    module _ (side : Side) (gone : kept_side true g.writes change.gone ≡ None) (come : kept_side false g.writes change.come ≡ Some side) where
+      cost_joined : most_repaired d.windows.items d.writes indexes ≡ most_repaired side.entries.items d.writes indexes
+      cost_joined = of.windows.cost d.writes indexes ∙ (rw (gone, come) refl)
+
+      pub joined_least : are_runs side.entries.items ≡ true → 3 * entries_in_groups side.entries.items ≤ most_repaired d.windows.items d.writes indexes
+      joined_least runs = let least = come_least side come runs in omega (arith, least, cost_joined)
+
+      pub joined_made : (h : Lines) → h.writes ≡ d.writes → d.group ≡ g
+          → ((indexes : Indexes) (number : ℕ) → IsComing indexes rank number side.entries.items → has_number g.writes number ≡ false → ((n : ℕ) → has_number d.writes n ≡ changed_number None (Some number) g.writes n)
+          → (tie : Tie) (events : List Written) → IsIndexOf tie events indexes → IsRightOf tie events g → IsRightOf tie events h)
+          → IsMadeOf indexes d h
+      joined_made h writes same right = record {
+        writes = writes;
+        right = λ tie events index windows before.
+            right indexes side.written (comes side come) (not_there g.writes change.come side come) (λ n. of.writes n ∙ (rw (gone, come) refl)) tie events index
+            (subst (λ (x : Lines). IsRightOf tie events x) same before);
+      }
+
+    -- where none comes
+    module _ (side : Side) (gone : kept_side true g.writes change.gone ≡ Some side) (come : kept_side false g.writes change.come ≡ None) where
+      pub lost_cost : most_repaired d.windows.items d.writes indexes ≡ most_repaired side.entries.items d.writes indexes
+      lost_cost = of.windows.cost d.writes indexes ∙ (rw (gone, come) (ap (λ (gs : List TypeEntries). most_repaired gs d.writes indexes) (append-nil side.entries.items)))
+
+      pub lost_made : (h : Lines) → h.writes ≡ d.writes → d.group ≡ g
+          → ((others : List ℕ) → AreOwnOf indexes side.written side.entries.items → ((n : ℕ) → has_number d.writes n ≡ changed_number (Some side.written) None others n)
+          → (tie : Tie) (events : List Written) → IsIndexOf tie events indexes → IsRightOf tie events (record { writes = others; lines = g.lines }) → IsRightOf tie events h)
+          → IsMadeOf indexes d h
+      lost_made h writes same right = record {
+        writes = writes;
+        right = λ tie events index windows before.
+            right g.writes (goes side gone) (λ n. of.writes n ∙ (rw (gone, come) refl)) tie events index (subst (λ (x : Lines). IsRightOf tie events x) same before);
+      }
+
+    -- where one goes and one comes
+    module _ (left side : Side) (gone : kept_side true g.writes change.gone ≡ Some left) (come : kept_side false g.writes change.come ≡ Some side) where
+      cost_both : most_repaired d.windows.items d.writes indexes ≡ most_repaired left.entries.items d.writes indexes + most_repaired side.entries.items d.writes indexes
+      cost_both = of.windows.cost d.writes indexes ∙ (rw (gone, come) (most_both left.entries.items side.entries.items d.writes indexes))
+
+      pub both_least : are_runs side.entries.items ≡ true → most_repaired left.entries.items d.writes indexes + 3 * entries_in_groups side.entries.items ≤ most_repaired d.windows.items d.writes indexes
+      both_least runs = let least = come_least side come runs in omega (arith, least, cost_both)
+
+      pub both_made : (h : Lines) → h.writes ≡ d.writes → d.group ≡ g
+          → (IsComing indexes rank side.written side.entries.items → AreOwnOf indexes left.written left.entries.items → has_number g.writes side.written ≡ false → has_number g.writes left.written ≡ true
+          → ((n : ℕ) → has_number d.writes n ≡ changed_number (Some left.written) (Some side.written) g.writes n)
+          → (tie : Tie) (events : List Written) → IsIndexOf tie events indexes → IsRightOf tie events g → IsRightOf tie events h)
+          → IsMadeOf indexes d h
+      both_made h writes same right = record {
+        writes = writes;
+        right = λ tie events index windows before.
+            right (comes side come) (goes left gone) (not_there g.writes change.come side come) (was_there g.writes change.gone left gone) (λ n. of.writes n ∙ (rw (gone, come) refl)) tie events index
+            (subst (λ (x : Lines). IsRightOf tie events x) same before);
+      }
+
+-- ---- what is made, where anything is
+
+pub some_has : (P : Lines → Type 0) (o : Option Lines) (h : Lines) → o ≡ Some h → IfSome o P → P h
+some_has P None h e p = absurd (cc)
+some_has P (Some x) h e p = let one : x ≡ h = cc in subst P one p
+
+pub if_both : {E : Type 0} (r : Result (Option Lines) E) (P Q R : Lines → Type 0) → ((h : Lines) → P h → Q h → R h)
+    → IfOk r (λ m. IfSome m P) → IfOk r (λ m. IfSome m Q) → IfOk r (λ m. IfSome m R)
+if_both (Ok None) P Q R f p q = tt
+if_both (Ok (Some h)) P Q R f p q = f h p q
+if_both (Err e) P Q R f p q = tt
+
+pub any_ok : {V E : Type 0} (r : Result V E) (X : Type 0) → X → OnOk r X
+any_ok (Ok v) X x = x
+any_ok (Err e) X x = tt
+
+-- nothing is compared where nothing is made
+pub within : {E : Type 0} (r : Result (Option Lines) E) (P : Type 0) (most old new others : ℕ) → (r ≡ Ok None → new ≡ old) → IfOk r (λ m. IfSome m (λ h. P)) → OnOk r (new ≤ old + others) → (P → others ≤ most)
+    → OnOk r (new ≤ old + most)
+within (Ok None) P most old new others none some compared least = let same : new ≡ old = none refl in omega (arith, same)
+within (Ok (Some h)) P most old new others none some compared least = let l : others ≤ most = least some in let c : new ≤ old + others = compared in omega (arith, c, l)
+within (Err e) P most old new others none some compared least = tt
+
+-- ---- the numbers of an exchange
+
+-- first one comes, and then the other goes
+pub exchanged_numbers : (ws others : List ℕ) (gone come : ℕ) → has_number ws come ≡ false → has_number ws gone ≡ true → ((n : ℕ) → has_number others n ≡ changed_number (Some gone) (Some come) ws n)
+    → (n : ℕ) → has_number others n ≡ changed_number (Some gone) None (come ∷ ws) n
+exchanged_numbers ws others gone come lacks has both n = both n ∙ by (come == n) refl (gone == n) refl
+  where
+    by : (c : Bool) → (come == n) ≡ c → (l : Bool) → (gone == n) ≡ l → (if c then true else if l then false else has_number ws n) ≡ (if l then false else (c || has_number ws n))
+    by true c true l =
+        let one : gone ≡ come = eqb-true gone n l ∙ sym (eqb-true come n c) in
+        absurd (both_ways (has_number ws come) lacks (ap (has_number ws) (sym one) ∙ has))
+    by true c false l = refl
+    by false c true l = refl
+    by false c false l = refl
 
 -- ---- one draft after the other
 

@@ -14,7 +14,7 @@ use Rattle.adr_lines.specs.declared.grouped.TypeEntries.{TypeEntries}
 use Rattle.adr_lines.specs.Grouped.{entries_under}
 use Rattle.adr_lines.specs.Right.{has_number}
 use Rattle.adr_group.specs.Group.{Lines, IsRightOf}
-use Rattle.adr_group.specs.Laid.{IsComing}
+use Rattle.adr_group.specs.Laid.{AreOwnOf, IsComing}
 pub use Rattle.adr_group.specs.Repair.{most_possible}
 use Rattle.adr_group.specs.Repair.{most_repaired}
 use Rattle.adr_group.specs.Writes.{is_number, stays}
@@ -50,9 +50,11 @@ abbrev pub entries_in : Option Side → List TypeEntries
 entries_in None = []
 entries_in (Some s) = s.entries.items
 
--- the indexes have the entries of the event that comes, and the ranks are those of all others
-abbrev pub IsLaidBy : Option (Winner → Rank) → Indexes → Change → Type 0
-IsLaidBy ranks indexes change = (rank : Winner → Rank) (side : Side) → ranks ≡ Some rank → change.come ≡ Some side → IsComing indexes rank side.written side.entries.items
+-- where there are ranks, the indexes have the entries of the event that comes and those of the one that goes, and the ranks
+-- are those of all but the one that comes
+pub record IsLaidBy (ranks : Option (Winner → Rank)) (indexes : Indexes) (change : Change) : Type 0 where
+  pub comes : (rank : Winner → Rank) (side : Side) → ranks ≡ Some rank → change.come ≡ Some side → IsComing indexes rank side.written side.entries.items
+  pub goes : (rank : Winner → Rank) (side : Side) → ranks ≡ Some rank → change.gone ≡ Some side → AreOwnOf indexes side.written side.entries.items
 
 -- one number goes and one comes, and the group is right still
 pub record Becomes (change : Change) (indexes : Indexes) (g h : Lines) : Type 0 where

@@ -1,17 +1,26 @@
-//! The groups to which an event only comes: its entries are laid over their timelines.
-ghost use Rattle.std.specs.Prelude.{◌≡◌, ◌<◌, ◌≤◌, ◌+◌, ◌++◌, ◌∷◌, ◌^◌, [], List, Some, None, Ok, option_map, IfOk, IfSome};
+//! The groups which an event joins or leaves: the entries of the one are laid over their timelines, and the other is
+//! taken out where it governs.
+ghost use Rattle.std.specs.Prelude.{◌≡◌, ◌<◌, ◌≤◌, ◌+◌, ◌*◌, ◌++◌, ◌∷◌, ◌^◌, ℕ, true, false, [], List, Some, None, Ok, option_map, IfOk, IfSome, OnOk};
 ghost use Rattle.std.specs.Option.{option_copied};
 ghost use Rattle.adr_refusal.specs.Answer.{OnlyNoMemory};
-ghost use Rattle.adr_lines.specs.declared.indexes.Indexes.{Indexes as AllIndexes};
+ghost use Rattle.adr_model.specs.declared.entry.Tie.{Tie};
+ghost use Rattle.adr_model.specs.declared.written.Written.{Written};
+ghost use Rattle.adr_lines.specs.Counted.{entries_in_groups};
+ghost use Rattle.adr_lines.specs.Exchange.{IsIndexOf};
+ghost use Rattle.adr_lines.specs.Right.{has_number};
+ghost use Rattle.adr_group.specs.Group.{IsRightOf};
+ghost use Rattle.adr_group.specs.Laid.{are_runs, AreOwnOf, IsComing};
 ghost use Rattle.adr_group.specs.Repair.{most_repaired};
+ghost use Rattle.adr_group.specs.Writes.{changed_number};
 ghost use Rattle.adr_schedule.specs.declared.draft.Draft.{Draft as AnyDraft};
 ghost use Rattle.adr_schedule.specs.Draft.{most_drafted, AreDraftsOf, AreMadeSoFar, IsDraftOf, IsMadeOf};
 ghost use Rattle.adr_schedule.specs.Shift.{IsLaidBy};
 
-use crate::change::Change;
+use crate::change::{Change, Side};
 use crate::draft::{Draft, joining, leaving};
 use crate::made::Made;
 use adr_group::Group;
+use adr_lines::Indexes;
 use adr_rule::Meter;
 use adr_timeline::Ranks;
 use adr_value::Refusal;
@@ -24,35 +33,101 @@ pub(crate) struct Laid {
     pub(crate) left: Vec<Draft>,
 }
 
-/// The draft's group with the event that comes laid over its timelines. None, and nothing compared, where an event goes
-/// from the group or none comes to it, and where the entries cannot be laid. `NoMemory` where there is no room: then
-/// nothing is counted.
-fn laid_of<R: Ranks>(
+/// The draft's group with the event that comes laid over its timelines, and then without the one that goes. None, and
+/// nothing compared, where the entries cannot be laid.
+fn exchanged<R: Ranks>(
     alloc: Global,
+    indexes: &Indexes,
+    draft: &Draft,
+    gone: &Side,
+    come: &Side,
+    ranks: &R,
+    meter: &mut Meter,
+) -> Result<Option<Group>, Refusal>
+    requires room { are_runs come.now.entries.items ≡ true → meter.old + (most_repaired gone.now.entries.items draft.now.writes indexes.now + 3 * entries_in_groups come.now.entries.items) < 2 ^ 128 }
+    ensures writes { IfOk result (λ made. IfSome made (λ group. group.writes ≡ draft.now.writes)) }
+    ensures right { IfOk result (λ made. IfSome made (λ group. IsComing indexes.now (R.rank ranks.now) come.now.written come.now.entries.items → AreOwnOf indexes.now gone.now.written gone.now.entries.items → has_number draft.now.group.writes come.now.written ≡ false → has_number draft.now.group.writes gone.now.written ≡ true → ((n : ℕ) → has_number draft.now.writes n ≡ changed_number (Some gone.now.written) (Some come.now.written) draft.now.group.writes n) → (tie : Tie) (events : List Written) → IsIndexOf tie events indexes.now → IsRightOf tie events draft.now.group → IsRightOf tie events group)) }
+    ensures runs { IfOk result (λ made. IfSome made (λ group. are_runs come.now.entries.items ≡ true)) }
+    ensures compared { OnOk result (meter.new ≤ meter.old + (most_repaired gone.now.entries.items draft.now.writes indexes.now + 3 * entries_in_groups come.now.entries.items)) }
+    ensures none { result ≡ Ok None → meter.new ≡ meter.old }
+    ensures refusal { OnlyNoMemory result }
+{
+    let entries = come.entries.as_slice();
+    let laid = draft
+        .group
+        .laid(alloc, &draft.writes, entries, ranks, meter)?;
+    let Some(laid) = laid else {
+        return Ok(None);
+    };
+    let windows = gone.entries.as_slice();
+    let made = laid.without(alloc, indexes, &draft.writes, gone.written, windows, meter)?;
+    Ok(Some(made))
+}
+
+/// The draft's group after the change: the event that comes is laid over its timelines, and the one that goes is taken out
+/// of them. None, and nothing compared, where no event comes or goes, and where the entries cannot be laid.
+fn changed<R: Ranks>(
+    alloc: Global,
+    indexes: &Indexes,
     change: &Change,
     ranks: &R,
     draft: &Draft,
     meter: &mut Meter,
 ) -> Result<Option<Group>, Refusal>
     requires draft { IsDraftOf change.now draft.now.group draft.now }
-    requires room { (indexes : AllIndexes) × IsLaidBy (Some (R.rank ranks.now)) indexes change.now × (meter.old + most_repaired draft.now.windows.items draft.now.writes indexes < 2 ^ 128) }
-    ensures made { IfOk result (λ made. IfSome made (λ group. (indexes : AllIndexes) → IsLaidBy (Some (R.rank ranks.now)) indexes change.now → IsMadeOf indexes draft.now group)) }
-    ensures compared { (indexes : AllIndexes) → IsLaidBy (Some (R.rank ranks.now)) indexes change.now → meter.new ≤ meter.old + most_repaired draft.now.windows.items draft.now.writes indexes }
+    requires laid { IsLaidBy (Some (R.rank ranks.now)) indexes.now change.now }
+    requires room { meter.old + most_repaired draft.now.windows.items draft.now.writes indexes.now < 2 ^ 128 }
+    ensures made { IfOk result (λ made. IfSome made (IsMadeOf indexes.now draft.now)) }
+    ensures compared { OnOk result (meter.new ≤ meter.old + most_repaired draft.now.windows.items draft.now.writes indexes.now) }
     ensures none { result ≡ Ok None → meter.new ≡ meter.old }
     ensures refusal { OnlyNoMemory result }
 {
     let writes = draft.group.writes();
-    if let Some(_gone) = leaving(writes, &change.gone) {
-        return Ok(None);
+    let gone = leaving(writes, &change.gone);
+    let come = joining(writes, &change.come);
+    match (gone, come) {
+        (Some(gone), Some(come)) => exchanged(alloc, indexes, draft, gone, come, ranks, meter),
+        (Some(gone), None) => {
+            let windows = gone.entries.as_slice();
+            let made = draft.group.without(
+                alloc,
+                indexes,
+                &draft.writes,
+                gone.written,
+                windows,
+                meter,
+            )?;
+            Ok(Some(made))
+        }
+        (None, Some(come)) => {
+            let entries = come.entries.as_slice();
+            draft
+                .group
+                .laid(alloc, &draft.writes, entries, ranks, meter)
+        }
+        (None, None) => Ok(None),
     }
-    let Some(side) = joining(writes, &change.come) else {
-        return Ok(None);
-    };
+}
+
+/// The same; `NoMemory` where there is no room: then nothing is counted.
+fn laid_of<R: Ranks>(
+    alloc: Global,
+    indexes: &Indexes,
+    change: &Change,
+    ranks: &R,
+    draft: &Draft,
+    meter: &mut Meter,
+) -> Result<Option<Group>, Refusal>
+    requires draft { IsDraftOf change.now draft.now.group draft.now }
+    requires laid { IsLaidBy (Some (R.rank ranks.now)) indexes.now change.now }
+    requires room { meter.old + most_repaired draft.now.windows.items draft.now.writes indexes.now < 2 ^ 128 }
+    ensures made { IfOk result (λ made. IfSome made (IsMadeOf indexes.now draft.now)) }
+    ensures compared { meter.new ≤ meter.old + most_repaired draft.now.windows.items draft.now.writes indexes.now }
+    ensures none { result ≡ Ok None → meter.new ≡ meter.old }
+    ensures refusal { OnlyNoMemory result }
+{
     let mut own = Meter::new();
-    let entries = side.entries.as_slice();
-    let made = draft
-        .group
-        .laid(alloc, &draft.writes, entries, ranks, &mut own)?;
+    let made = changed(alloc, indexes, change, ranks, draft, &mut own)?;
     meter.add(own.count());
     Ok(made)
 }
@@ -73,20 +148,22 @@ impl Laid {
     fn with<R: Ranks>(
         self,
         alloc: Global,
+        indexes: &Indexes,
         change: &Change,
         ranks: &R,
         draft: Draft,
         meter: &mut Meter,
     ) -> Result<Laid, Refusal>
         requires draft { IsDraftOf change.now draft.group draft }
-        requires room { (indexes : AllIndexes) × IsLaidBy (Some (R.rank ranks.now)) indexes change.now × (meter.old + most_repaired draft.windows.items draft.writes indexes < 2 ^ 128) }
-        ensures made { IfOk result (λ laid. (indexes : AllIndexes) (all rest : List AnyDraft) → IsLaidBy (Some (R.rank ranks.now)) indexes change.now → AreMadeSoFar indexes all ((rest ++ draft ∷ []) ++ self.left.items) self.made.groups → AreMadeSoFar indexes all (rest ++ laid.left.items) laid.made.groups) }
-        ensures left { IfOk result (λ laid. (indexes : AllIndexes) → IsLaidBy (Some (R.rank ranks.now)) indexes change.now → meter.new + most_drafted indexes laid.left.items ≤ meter.old + most_drafted indexes self.left.items + most_repaired draft.windows.items draft.writes indexes) }
-        ensures compared { (indexes : AllIndexes) → IsLaidBy (Some (R.rank ranks.now)) indexes change.now → meter.new ≤ meter.old + most_repaired draft.windows.items draft.writes indexes }
+        requires laid { IsLaidBy (Some (R.rank ranks.now)) indexes.now change.now }
+        requires room { meter.old + most_repaired draft.windows.items draft.writes indexes.now < 2 ^ 128 }
+        ensures made { IfOk result (λ laid. (all rest : List AnyDraft) → AreMadeSoFar indexes.now all ((rest ++ draft ∷ []) ++ self.left.items) self.made.groups → AreMadeSoFar indexes.now all (rest ++ laid.left.items) laid.made.groups) }
+        ensures left { IfOk result (λ laid. meter.new + most_drafted indexes.now laid.left.items ≤ meter.old + most_drafted indexes.now self.left.items + most_repaired draft.windows.items draft.writes indexes.now) }
+        ensures compared { meter.new ≤ meter.old + most_repaired draft.windows.items draft.writes indexes.now }
         ensures refusal { OnlyNoMemory result }
     {
         let Laid { made, mut left } = self;
-        if let Some(group) = laid_of(alloc, change, ranks, &draft, meter)? {
+        if let Some(group) = laid_of(alloc, indexes, change, ranks, &draft, meter)? {
             let made = made.with(alloc, draft.slot, group)?;
             return Ok(Laid { made, left });
         }
@@ -95,47 +172,51 @@ impl Laid {
     }
 }
 
-/// Lays the event that comes over the groups of the drafts, where it can be laid.
+/// Makes the groups of the drafts by laying, where it can be done.
 fn laid_each<R: Ranks>(
     alloc: Global,
+    indexes: &Indexes,
     change: &Change,
     ranks: &R,
     drafts: Vec<Draft>,
     meter: &mut Meter,
 ) -> Result<Laid, Refusal>
     requires drafts { AreDraftsOf change.now drafts.items }
-    requires room { (indexes : AllIndexes) × IsLaidBy (Some (R.rank ranks.now)) indexes change.now × (meter.old + most_drafted indexes drafts.items < 2 ^ 128) }
-    ensures made { IfOk result (λ laid. (indexes : AllIndexes) → IsLaidBy (Some (R.rank ranks.now)) indexes change.now → AreMadeSoFar indexes drafts.items laid.left.items laid.made.groups) }
-    ensures left { IfOk result (λ laid. (indexes : AllIndexes) → IsLaidBy (Some (R.rank ranks.now)) indexes change.now → meter.new + most_drafted indexes laid.left.items ≤ meter.old + most_drafted indexes drafts.items) }
-    ensures compared { (indexes : AllIndexes) → IsLaidBy (Some (R.rank ranks.now)) indexes change.now → meter.new ≤ meter.old + most_drafted indexes drafts.items }
+    requires laid { IsLaidBy (Some (R.rank ranks.now)) indexes.now change.now }
+    requires room { meter.old + most_drafted indexes.now drafts.items < 2 ^ 128 }
+    ensures made { IfOk result (λ laid. AreMadeSoFar indexes.now drafts.items laid.left.items laid.made.groups) }
+    ensures left { IfOk result (λ laid. meter.new + most_drafted indexes.now laid.left.items ≤ meter.old + most_drafted indexes.now drafts.items) }
+    ensures compared { meter.new ≤ meter.old + most_drafted indexes.now drafts.items }
     ensures refusal { OnlyNoMemory result }
 {
     let mut laid = Laid::none(Vec::new(alloc));
     let mut rest = drafts;
     'rest: while let Some(draft) = rest.pop() {
-        laid = laid.with(alloc, change, ranks, draft, meter)?;
+        laid = laid.with(alloc, indexes, change, ranks, draft, meter)?;
     }
     Ok(laid)
 }
 
-/// The groups of the drafts over which the event that comes is laid, where there are ranks; the other drafts are left.
-/// `NoMemory` where there is no room.
+/// The groups of the drafts, where there are ranks: the event that comes is laid over them, and the one that goes is taken
+/// out where it governs; the drafts of those over which it cannot be laid are left. `NoMemory` where there is no room.
 pub(crate) fn laid_over<R: Ranks>(
     alloc: Global,
+    indexes: &Indexes,
     change: &Change,
     ranks: Option<&R>,
     drafts: Vec<Draft>,
     meter: &mut Meter,
 ) -> Result<Laid, Refusal>
     requires drafts { AreDraftsOf change.now drafts.items }
-    requires room { (indexes : AllIndexes) × IsLaidBy (option_map R.rank (option_copied ranks)) indexes change.now × (meter.old + most_drafted indexes drafts.items < 2 ^ 128) }
-    ensures made { IfOk result (λ laid. (indexes : AllIndexes) → IsLaidBy (option_map R.rank (option_copied ranks.entry)) indexes change.now → AreMadeSoFar indexes drafts.items laid.left.items laid.made.groups) }
-    ensures left { IfOk result (λ laid. (indexes : AllIndexes) → IsLaidBy (option_map R.rank (option_copied ranks.entry)) indexes change.now → meter.new + most_drafted indexes laid.left.items ≤ meter.old + most_drafted indexes drafts.items) }
-    ensures compared { (indexes : AllIndexes) → IsLaidBy (option_map R.rank (option_copied ranks.entry)) indexes change.now → meter.new ≤ meter.old + most_drafted indexes drafts.items }
+    requires laid { IsLaidBy (option_map R.rank (option_copied ranks)) indexes.now change.now }
+    requires room { meter.old + most_drafted indexes.now drafts.items < 2 ^ 128 }
+    ensures made { IfOk result (λ laid. AreMadeSoFar indexes.now drafts.items laid.left.items laid.made.groups) }
+    ensures left { IfOk result (λ laid. meter.new + most_drafted indexes.now laid.left.items ≤ meter.old + most_drafted indexes.now drafts.items) }
+    ensures compared { meter.new ≤ meter.old + most_drafted indexes.now drafts.items }
     ensures refusal { OnlyNoMemory result }
 {
     match ranks {
-        Some(ranks) => laid_each(alloc, change, ranks, drafts, meter),
+        Some(ranks) => laid_each(alloc, indexes, change, ranks, drafts, meter),
         None => Ok(Laid::none(drafts)),
     }
 }

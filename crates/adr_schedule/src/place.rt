@@ -75,8 +75,8 @@ impl Schedule {
         let _ = &self.seats;
     }
 
-    /// One more place, last, with a group of no writes. `NoMemory` where there is no room for it. Cost: the table of
-    /// seats is copied; the groups are shared.
+    /// One more place, last, with a group of no writes. `NoMemory` where there is no room for it. Cost: what is written of
+    /// the table of seats is copied, 512 places or slots at a time; the rest and the groups are shared.
     pub fn with_place(&self, alloc: Global) -> Result<Schedule, Refusal>
         ensures place { IfOk result (λ after. HasPlace self.now after) }
         ensures right { IfOk result (λ after. StaysRight self.now after) }
@@ -91,7 +91,7 @@ impl Schedule {
     }
 
     /// Without the place: those after it move down, and a group that no place has any more goes. `NoMemory` where there
-    /// is no room for the copy. Cost: the table of seats is copied; the groups are shared.
+    /// is no room for the copy. Cost: the table of seats is made anew; the groups are shared.
     pub fn without_place(&self, alloc: Global, place: usize) -> Result<Schedule, Refusal>
         requires { place < length self.now.seats }
         ensures place { IfOk result (λ after. LacksPlace place self.now after) }
@@ -101,8 +101,7 @@ impl Schedule {
         let Some(slot) = self.seats.get().slot(place) else {
             unreachable!();
         };
-        let mut seats = self.seats.get().copy()?;
-        seats.remove(place);
+        let seats = self.seats.get().without(place)?;
         let groups = without_unused(alloc, &self.groups, &seats, slot)?;
         let seats = Shared::new(alloc, seats)?;
         Ok(Schedule { seats, groups })
@@ -171,7 +170,7 @@ impl Schedule {
     /// The schedule where the place has these writes, if nothing is to be built for them: it shares the group of the place
     /// `like` where that one has them, and keeps its own where that has. `NoMemory` where there is no room.
     ///
-    /// Cost: a copy of the table of seats.
+    /// Cost: a copy of what is written of the table of seats.
     pub fn shared(
         &self,
         alloc: Global,
@@ -205,7 +204,7 @@ impl Schedule {
     /// entries of each event on which the writes differ. The crew does that, one job a payload type.
     /// [`Schedule::shared`] may spare it. `NoMemory` where there is no room.
     ///
-    /// Cost: a copy of the table of seats, one of the windows, and that of the jobs.
+    /// Cost: a copy of what is written of the table of seats, one of the windows, and that of the jobs.
     pub fn rewritten<C: Fn(&Indexes, &[Job]) -> Result<Vec<Done>, Refusal>>(
         &self,
         alloc: Global,

@@ -147,7 +147,7 @@ struct Remade {
 
 impl Schedule {
     /// What becomes of the groups of the places that the change touches, each in its slot: the event that comes is laid
-    /// over those to which it only comes, and the crew does the jobs of the others.
+    /// over them, and the one that goes taken out; and the crew does the jobs of those where it cannot be laid.
     fn made_for<C: Fn(&Indexes, &[Job]) -> Result<Vec<Done>, Refusal>, R: Ranks>(
         &self,
         alloc: Global,
@@ -170,7 +170,7 @@ impl Schedule {
     {
         let drafted = drafts_of(alloc, self.seats.get(), &self.groups, places, change)?;
         let Drafted { list, slots } = drafted;
-        let laid = laid_over(alloc, change, ranks, list, meter)?;
+        let laid = laid_over(alloc, indexes, change, ranks, list, meter)?;
         let Laid { made, left } = laid;
         let groups = made_by(alloc, indexes, crew, made, left.as_slice(), meter)?;
         Ok(Remade { groups, slots })
@@ -198,13 +198,15 @@ impl Schedule {
     ///
     /// Members of one group among the places stay together, and each group is made once: in its slot where all its members
     /// are among the places, and so those of all others; else in a slot of its own, to which they move. Where there are
-    /// ranks, the event that comes is laid over the timelines of the groups that only gain it, which needs no look at the
-    /// index. The crew repairs the other groups, and those over which the entries cannot be laid, inside the entries of
-    /// the events, one job a payload type.
+    /// ranks, the event that comes is laid over the timelines of the groups, which needs no look at the index, and then the
+    /// windows of the one that goes are built anew in which it still governs. The crew repairs the groups over which the
+    /// entries cannot be laid, and all groups where there are no ranks, inside the entries of the events, one job a payload
+    /// type.
     ///
     /// Cost: for each place a look-up; where places move, some more, and a copy of the table of seats; for each group that
-    /// is laid and each type of the event a search of the timeline for each entry, a rank for each segment that is met,
-    /// and one splice; and that of the jobs of the others. `NoMemory` where there is no room.
+    /// is laid and each type of the events a search of the timeline for each entry, a rank for each segment that is met,
+    /// one splice, and a repair of the windows in which the event that goes governs; and that of the jobs of the others.
+    /// `NoMemory` where there is no room.
     pub fn shifted<C: Fn(&Indexes, &[Job]) -> Result<Vec<Done>, Refusal>, R: Ranks>(
         &self,
         alloc: Global,

@@ -11,6 +11,7 @@ ghost use Rattle.adr_script.specs.Waiting.{IsFresh};
 use crate::answering::{Session, answer_line};
 use crate::log::Given;
 use crate::{Fault, Logs, Machine, WriteLog};
+use memchr::memchr;
 use std::alloc::{AllocError, Global};
 use std::io::{Read, Write};
 use std::sync::Wait;
@@ -223,5 +224,5 @@ fn first_feed(bytes: &[u8]) -> Option<usize>
         × All (λ byte. byte ≢ 10) (take at bytes.now)) }
     ensures none { IfNone result (All (λ byte. byte ≢ 10) bytes.now) }
 {
-    bytes.iter().position(|byte| *byte == b'\n')
+    memchr(b'\n', bytes)
 }

@@ -1,2 +1,4 @@
 pub mod Members
 pub mod Among
+pub mod Chunks
+pub mod Crossing

@@ -4,18 +4,20 @@ ghost use Rattle.std.specs.List.{list_any, slice_get};
 ghost use Rattle.adr_refusal.specs.Answer.{OnlyNoMemory};
 ghost use Rattle.adr_refusal.specs.Copy.{IsCopyOf};
 ghost use Rattle.adr_seats.specs.Seats.{members_of, IsCountOf};
+ghost use Rattle.adr_seats.specs.Table.{numbers};
 
 use crate::counts::Counts;
+use crate::table::Table;
 use adr_refusal::Refusal;
 use std::alloc::Global;
 use std::marker::Model;
 
 /// Which slot each place has; many places may share one. Contracts see the list of the slots, place by place.
 ///
-/// A slot is a number below 2^32. The numbers of all slots up to the greatest that was ever named stay in memory, so
-/// name those that `free_slot` answers.
+/// A slot is a number below 2^31, and there are as many places at most. The numbers of all slots up to the greatest that
+/// was ever named stay in memory, so name those that `free_slot` answers.
 pub struct Seats {
-    slots: Vec<u32>,
+    slots: Table,
     counts: Counts,
 }
 
@@ -31,12 +33,13 @@ impl Drop for Seats {
 impl Model for Seats {
     ghost use Rattle.std.specs.Prelude.{List, ℕ};
     ghost use Rattle.adr_seats.specs.Seats.{IsCountOf};
+    ghost use Rattle.adr_seats.specs.Table.{numbers};
 
     ghost Value = { List ℕ };
 
-    ghost view = { λ s. s.slots.items };
+    ghost view = { λ s. numbers s.slots };
 
-    ghost invariant = { λ s. IsCountOf s.counts s.slots.items };
+    ghost invariant = { λ s. IsCountOf (numbers s.counts) (numbers s.slots) };
 }
 
 impl Seats {
@@ -45,7 +48,7 @@ impl Seats {
         ensures { result ≡ [] }
     {
         Seats {
-            slots: Vec::new(alloc),
+            slots: Table::new(alloc),
             counts: Counts::new(alloc),
         }
     }
@@ -63,7 +66,7 @@ impl Seats {
         ensures below { IfSome result (λ slot. slot < 2 ^ 32) }
     {
         match self.slots.get(place) {
-            Some(slot) => Some(u64::from(*slot)),
+            Some(slot) => Some(u64::from(slot)),
             None => None,
         }
     }
@@ -83,7 +86,7 @@ impl Seats {
     }
 
     /// A slot that no place has: the one that was left last, if any, else the one after all that were ever named.
-    /// `NoMemory` where each of 2^32 has a place. Cost: one look-up.
+    /// `NoMemory` where each of 2^31 has a place. Cost: one look-up.
     pub fn free_slot(&self) -> Result<u64, Refusal>
         ensures free { IfOk result (λ slot. list_any (λ s. s == slot) self.now ≡ false) }
         ensures below { IfOk result (λ slot. slot < 2 ^ 32) }
@@ -93,7 +96,7 @@ impl Seats {
         Ok(slot)
     }
 
-    /// Adds a place last, with the slot. `NoMemory` where there is no room, or the slot is not below 2^32.
+    /// Adds a place last, with the slot. `NoMemory` where there is no room, or the slot is not below 2^31.
     pub fn push(&mut self, slot: u64) -> Result<(), Refusal>
         ensures ok { OnOk result (self.new ≡ self.old ++ slot ∷ []) }
         ensures err { OnErr result (self.new ≡ self.old) }
@@ -103,7 +106,7 @@ impl Seats {
         push_slot(&mut self.slots, &mut self.counts, slot)
     }
 
-    /// Gives the place another slot. `NoMemory` where there is no room, or the slot is not below 2^32.
+    /// Gives the place another slot. `NoMemory` where there is no room, or the slot is not below 2^31.
     pub fn set(&mut self, place: usize, slot: u64) -> Result<(), Refusal>
         requires { place < length self.old }
         ensures ok { OnOk result (self.new ≡ set self.old place slot) }
@@ -114,22 +117,28 @@ impl Seats {
         set_slot(&mut self.slots, &mut self.counts, place, slot)
     }
 
-    /// Takes the place out, and closes the gap. It takes no memory. Cost: the places after it move down.
-    pub fn remove(&mut self, place: usize)
-        requires { place < length self.old }
-        ensures { self.new ≡ remove self.old place }
+    /// The slots without the place, whose gap is closed. Cost: all places.
+    pub fn without(&self, place: usize) -> Result<Seats, Refusal>
+        requires { place < length self.now }
+        ensures { IsCopyOf result (remove self.now place) }
     {
-        let slot = self.slots.remove(place);
-        self.counts.take(slot);
+        let Some(slot) = self.slots.get(place) else {
+            unreachable!();
+        };
+        let mut counts = self.counts.copy()?;
+        counts.own(slot)?;
+        counts.take(slot);
+        let slots = self.slots.without(place)?;
+        Ok(Seats { slots, counts })
     }
 
-    /// The same slots, in memory of their own. Cost: all places and slots.
+    /// The same slots. Cost: a pointer for each 512 places or slots, and the last of them; what is written later is copied
+    /// then, 512 numbers at a time.
     pub fn copy(&self) -> Result<Seats, Refusal>
         ensures { IsCopyOf result self.now }
     {
-        let alloc = *self.slots.allocator();
         Ok(Seats {
-            slots: Vec::from_slice(alloc, &self.slots)?,
+            slots: self.slots.copy()?,
             counts: self.counts.copy()?,
         })
     }
@@ -148,11 +157,11 @@ fn narrow(slot: u64) -> Result<u32, Refusal>
 }
 
 /// Adds a place last, with the slot.
-fn push_slot(slots: &mut Vec<u32>, counts: &mut Counts, slot: u32) -> Result<(), Refusal>
-    requires { IsCountOf counts.old slots.old.items }
-    ensures ok { OnOk result (slots.new.items ≡ slots.old.items ++ slot ∷ []) }
-    ensures err { OnErr result (slots.new.items ≡ slots.old.items) }
-    ensures counts { IsCountOf counts.new slots.new.items }
+fn push_slot(slots: &mut Table, counts: &mut Counts, slot: u32) -> Result<(), Refusal>
+    requires { IsCountOf (numbers counts.old) (numbers slots.old) }
+    ensures ok { OnOk result (numbers slots.new ≡ numbers slots.old ++ slot ∷ []) }
+    ensures err { OnErr result (numbers slots.new ≡ numbers slots.old) }
+    ensures counts { IsCountOf (numbers counts.new) (numbers slots.new) }
     ensures refusal { OnlyNoMemory result }
 {
     counts.reserve(slot)?;
@@ -162,22 +171,22 @@ fn push_slot(slots: &mut Vec<u32>, counts: &mut Counts, slot: u32) -> Result<(),
 }
 
 /// Gives the place another slot.
-fn set_slot(
-    slots: &mut Vec<u32>,
-    counts: &mut Counts,
-    place: usize,
-    slot: u32,
-) -> Result<(), Refusal>
-    requires within { place < length slots.old.items }
-    requires counts { IsCountOf counts.old slots.old.items }
-    ensures ok { OnOk result (slots.new.items ≡ set slots.old.items place slot) }
-    ensures err { OnErr result (slots.new.items ≡ slots.old.items) }
-    ensures counts { IsCountOf counts.new slots.new.items }
+fn set_slot(slots: &mut Table, counts: &mut Counts, place: usize, slot: u32) -> Result<(), Refusal>
+    requires within { place < length (numbers slots.old) }
+    requires counts { IsCountOf (numbers counts.old) (numbers slots.old) }
+    ensures ok { OnOk result (numbers slots.new ≡ set (numbers slots.old) place slot) }
+    ensures err { OnErr result (numbers slots.new ≡ numbers slots.old) }
+    ensures counts { IsCountOf (numbers counts.new) (numbers slots.new) }
     ensures refusal { OnlyNoMemory result }
 {
+    let Some(left) = slots.get(place) else {
+        unreachable!();
+    };
     counts.reserve(slot)?;
-    counts.take(slots[place]);
+    counts.own(left)?;
+    slots.own(place)?;
+    counts.take(left);
     counts.add(slot);
-    slots[place] = slot;
+    slots.put(place, slot);
     Ok(())
 }

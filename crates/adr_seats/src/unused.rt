@@ -1,31 +1,20 @@
-//! Slots that no place has, in a list that is chained through them.
+//! Slots that no place has.
 ghost use Rattle.adr_refusal.specs.Answer.{OnlyNoMemory};
 
 use adr_refusal::Refusal;
 use std::alloc::Global;
 
-/// No slot: the end of the list.
-const NONE: u32 = u32::MAX;
-
-/// The neighbours of a slot in the list.
-#[derive(Clone, Copy)]
-struct Links {
-    before: u32,
-    after: u32,
-}
-
-/// A list of slots from which any can be taken out in constant time. Who asks for the first slot sees for himself
-/// whether a place has it, so nothing is promised of what stands in the list.
+/// Slots, that which was put last on top. Who asks for it sees for himself whether a place has it, so nothing is promised
+/// of what they are.
 pub(crate) struct Unused {
-    links: Vec<Links>,
-    first: u32,
+    slots: Vec<u32>,
 }
 
 // A function of its own, so that callers that let a value go need not look into it.
 impl Drop for Unused {
     fn drop(self) {
-        let Unused { links, first: _ } = self;
-        drop(links);
+        let Unused { slots } = self;
+        drop(slots);
     }
 }
 
@@ -33,67 +22,52 @@ impl Unused {
     /// No slots.
     pub(crate) fn new(alloc: Global) -> Unused {
         Unused {
-            links: Vec::new(alloc),
-            first: NONE,
+            slots: Vec::new(alloc),
         }
     }
 
     /// The slot that was put last.
-    pub(crate) fn first(&self) -> u32 {
-        self.first
+    pub(crate) fn last(&self) -> Option<u32> {
+        self.slots.last().copied()
     }
 
-    /// Makes room for the slot, and puts all that come into the list.
-    pub(crate) fn reserve(&mut self, slot: u32) -> Result<(), Refusal>
+    /// Makes room for one slot more.
+    pub(crate) fn reserve(&mut self) -> Result<(), Refusal>
         ensures refusal { OnlyNoMemory result }
     {
-        let known = self.links.len();
-        for fresh in known..slot as usize + 1 {
-            self.links.push(Links {
-                before: NONE,
-                after: NONE,
-            })?;
-            self.put(fresh as u32);
-        }
+        self.slots.reserve(1)?;
         Ok(())
     }
 
-    /// Puts the slot first.
-    pub(crate) fn put(&mut self, slot: u32) {
-        let next = self.first;
-        if let Some(links) = self.links.get_mut(next as usize) {
-            links.before = slot;
+    /// Puts the slot on top, where no places are left in it. One for which no room was made may be left out.
+    pub(crate) fn put(&mut self, slot: u32, left: u32) {
+        if left == 0 {
+            let _ = self.slots.push(slot);
         }
-        if let Some(links) = self.links.get_mut(slot as usize) {
-            links.before = NONE;
-            links.after = next;
-        }
-        self.first = slot;
     }
 
-    /// Takes the slot out.
-    pub(crate) fn take(&mut self, slot: u32) {
-        if slot as usize >= self.links.len() {
+    /// Takes the slot out, where no places were in it. Cost: a look at those that were put after it.
+    pub(crate) fn take(&mut self, slot: u32, members: u32) {
+        if members != 0 {
             return;
         }
-        let Links { before, after } = self.links[slot as usize];
-        match self.links.get_mut(before as usize) {
-            Some(links) => links.after = after,
-            None => self.first = after,
-        }
-        if let Some(links) = self.links.get_mut(after as usize) {
-            links.before = before;
+        let mut place = self.slots.len();
+        while place > 0 {
+            place -= 1;
+            if self.slots[place] == slot {
+                self.slots.remove(place);
+                return;
+            }
         }
     }
 
-    /// An equal list.
+    /// The same slots.
     pub(crate) fn copy(&self) -> Result<Unused, Refusal>
         ensures refusal { OnlyNoMemory result }
     {
-        let alloc = *self.links.allocator();
+        let alloc = *self.slots.allocator();
         Ok(Unused {
-            links: Vec::from_slice(alloc, &self.links)?,
-            first: self.first,
+            slots: Vec::from_slice(alloc, &self.slots)?,
         })
     }
 }

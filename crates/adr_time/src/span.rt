@@ -1,5 +1,9 @@
 //! Spans: from a moment up to an end.
-ghost use Rattle.std.specs.Prelude.{◌≡◌, ◌↔◌, ◌&&◌, IsTrue, false};
+ghost use Rattle.std.specs.Prelude.{◌≡◌, ◌↔◌, ◌&&◌, ◌+ℤ◌, IsTrue, false, Ok, Err, if◌then◌else◌};
+ghost use Rattle.adr_refusal.specs.declared.refusal.Refusal.TheVariants.{TimeRange};
+ghost use Rattle.jiff_core.specs.Calendar.{IsWithin};
+ghost use Rattle.jiff.specs.Words.{IsTimestampNanos};
+ghost use Rattle.jiff_core.specs.Span.{invariant_nanos, month_magnitude};
 ghost use Rattle.adr_time.specs.Calendar.{is_in_range_sum, is_moment, sum_in_utc};
 ghost use Rattle.adr_time.specs.Ends.{NeedsOnlyItsSum, NeedsOnlyItsYearAndSum, end_after, is_on_calendar, moment_after};
 ghost use Rattle.adr_time.specs.Spans.{Covers, Meets, covers, meets};
@@ -139,8 +143,34 @@ pub fn meets(a: &Span, b: &Span) -> bool
     a.lasts() && b.lasts() && a.start.is_before(b.end) && b.start.is_before(a.end)
 }
 
+// The moment that many nanoseconds after 1970-01-01T00:00:00Z.
+fn moment_at(nanoseconds: i128) -> Result<Moment, Refusal>
+    ensures { result ≡ (if is_moment nanoseconds then Ok nanoseconds else Err TimeRange) }
+{
+    Moment::of(nanoseconds).ok_or(Refusal::TimeRange)
+}
+
+// The nanoseconds of a moment, and those of a span with no years and months, a day being 24 hours.
+fn nanoseconds_after(start: Moment, span: &jiff_core::Span) -> i128
+    ensures value { result ≡ start +ℤ invariant_nanos span.now }
+    ensures bound { IsWithin 5_000_000_000_000_000_000_000 result }
+    ensures in_range { IsTimestampNanos start }
+{
+    start.nanoseconds() + span.invariant_nanos()
+}
+
+// The moment that lies so many days, of 24 hours, and a time after another.
+fn after_days(start: Moment, span: &jiff_core::Span) -> Result<Moment, Refusal>
+    requires { month_magnitude span.now ≡ 0 }
+    ensures value { result ≡ moment_after start span.now }
+    ensures forward { span.now.negative ≡ false → is_in_range_sum start span.now ≡ is_moment (sum_in_utc start span.now) }
+    ensures either { is_in_range_sum start span.now ≡ (is_on_calendar start span.now && is_moment (sum_in_utc start span.now)) }
+{
+    moment_at(nanoseconds_after(start, span))
+}
+
 // The moment that lies a span after another, on the calendar of UTC.
-fn after(start: Moment, span: jiff::Span) -> Result<Moment, Refusal>
+fn after_months(start: Moment, span: jiff::Span) -> Result<Moment, Refusal>
     ensures value { result ≡ moment_after start span }
     ensures forward { span.negative ≡ false → is_in_range_sum start span ≡ is_moment (sum_in_utc start span) }
     ensures either { is_in_range_sum start span ≡ (is_on_calendar start span && is_moment (sum_in_utc start span)) }
@@ -150,6 +180,18 @@ fn after(start: Moment, span: jiff::Span) -> Result<Moment, Refusal>
         Ok(end) => Ok(Moment::of_timestamp(end.timestamp())),
         Err(_) => Err(Refusal::TimeRange),
     }
+}
+
+// The moment that lies a span after another. Only years and months need the calendar.
+fn after(start: Moment, span: &jiff_core::Span) -> Result<Moment, Refusal>
+    ensures value { result ≡ moment_after start span.now }
+    ensures forward { span.now.negative ≡ false → is_in_range_sum start span.now ≡ is_moment (sum_in_utc start span.now) }
+    ensures either { is_in_range_sum start span.now ≡ (is_on_calendar start span.now && is_moment (sum_in_utc start span.now)) }
+{
+    if span.years == 0 && span.months == 0 {
+        return after_days(start, span);
+    }
+    after_months(start, jiff::Span::from_plain(*span))
 }
 
 /// The end of what starts then and lasts that long: the sum on the calendar of UTC (ISO 8601,
@@ -164,7 +206,7 @@ pub fn end_of(start: Moment, length: &Length) -> Result<End, Refusal>
     ensures either { NeedsOnlyItsYearAndSum start length.now }
 {
     match length {
-        Length::Of(span) => Ok(End::At(after(start, jiff::Span::from_plain(*span))?)),
+        Length::Of(span) => Ok(End::At(after(start, span)?)),
         Length::Endless => Ok(End::Endless),
     }
 }

@@ -1,5 +1,6 @@
 pub mod BodyLemmas
 pub mod Crossing
+pub mod NameLengths
 pub mod NumbersLemmas
 pub mod OneCutLemmas
 pub mod PackedLemmas

@@ -8,6 +8,9 @@ use std::alloc::Global;
 use std::marker::Model;
 use std::{mem, slice};
 
+// How many elements there is room for once a list has a second one.
+const FIRST_ROOM: usize = 8;
+
 /// One element in place, as most lists of payloads and values have it, or any number in a vector.
 #[derive(Drop, Debug)]
 pub(crate) enum Items<T> {
@@ -28,7 +31,7 @@ impl<T: Drop> Items<T> {
             Items::Many(items) if !items.is_empty() => items.push(item)?,
             Items::Many(_) => *self = Items::One(item),
             Items::One(_) => {
-                let items = Vec::with_capacity(alloc, 4)?;
+                let items = Vec::with_capacity(alloc, FIRST_ROOM)?;
                 if let Items::One(first) = mem::replace(self, Items::Many(Vec::new(alloc))) {
                     *self = Items::Many(with_two(items, first, item));
                 }

@@ -98,12 +98,14 @@ impl Model for Name {
 }
 
 impl Name {
-    /// Whether a text has 1 to 128 characters, as `new` requires.
+    /// Whether a text has 1 to 128 characters, as `new` requires. They are counted in one of more bytes alone.
     pub fn fits(text: &str) -> bool
         ensures { result ≡ is_name text.now }
     {
-        let count = char_count(text);
-        1 <= count && count <= 128
+        if text.len() <= 128 {
+            return !text.is_empty();
+        }
+        char_count(text) <= 128
     }
 
     /// The name with these characters. `NoMemory` where there is no room for them.

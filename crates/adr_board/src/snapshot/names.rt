@@ -1,11 +1,14 @@
-//! The names of private types in edits.
-ghost use Rattle.std.specs.Prelude.{◌≡◌, ℕ, Ok};
+//! The names of private types in edits and books.
+ghost use Rattle.std.specs.Prelude.{◌≡◌, ℕ, [], Ok};
+ghost use Rattle.std.specs.List.{flat_map};
 ghost use Rattle.adr_object.specs.declared.object.Edit.{Edit as AnyEdit};
-ghost use Rattle.adr_model.specs.Book.{Book};
+ghost use Rattle.adr_model.specs.Book.{Book, empty};
 ghost use Rattle.adr_model.specs.Edits.{step_to};
 ghost use Rattle.adr_board.specs.Types.{edit_names, event_names, interval_names, object_names, payload_names, ArePrivate, HasPrivateNames};
 
+use adr_desk::Desk;
 use adr_object::{Edit, Event, Interval, Object, Payload};
+use adr_shared::SharedList;
 use adr_value::PayloadType;
 
 fn payload_has_private_names(payload: &Payload)
@@ -57,3 +60,28 @@ pub(crate) fn has_private_names(edit: &Edit)
 pub(crate) fn names_stay_private()
     ensures { (full : ℕ) (old new : Book) (edit : AnyEdit) → HasPrivateNames old → ArePrivate (edit_names edit) → step_to full old edit ≡ Ok new → HasPrivateNames new }
 {}
+
+// Each edit of a batch brings private types under names of their own alone.
+fn names_in(edits: &SharedList<Edit>)
+    ensures { ArePrivate (flat_map edit_names edits.now) }
+{
+    for place in 0..edits.len() {
+        let Some(edit) = edits.at(place) else {
+            unreachable!();
+        };
+        has_private_names(edit);
+    }
+}
+
+/// The law of the names in a new desk: one whose batches are all open has private types under names of their
+/// own, as its edits have.
+#[tactic(auto, using(crate::proofs::Named::first_batch_private))]
+pub(crate) fn names_of_first_batch(desk: &Desk)
+    requires base { desk.now.book.base ≡ empty }
+    requires closed { desk.now.book.closed ≡ [] }
+    ensures { HasPrivateNames desk.now.book.objects }
+{
+    let journal = desk.book().journal();
+    names_stay_private();
+    names_in(journal.pending());
+}

@@ -9,17 +9,15 @@ use Rattle.adr_board.proofs.board.start.Goals as goal
 
 pub new-requires-clause-rule : goal.new-requires-clause-rule
 new-requires-clause-rule g c =
-    let made = c.in_ok-last.ensures in
     let diary = c.args.board.diary in
-    let x = c.of-first.result in
-    let page = c.of-first.ensures.page in
-    let is = ap arc_value c.of-first.ensures.snapshot ∙ c.in_ok-shown.ensures.same in
-    let number = ap (λ s. s.number) is ∙ made.number in
-    let rule = ap (λ s. s.tie) is ∙ (made.tie ∙ c.requires.tie) in
-    let first = ap (λ s. s.book) is ∙ made.book in
+    let x = c.of-one.result in
+    let page = c.of-one.ensures.page in
+    let is = ap arc_value c.of-one.ensures.snapshot ∙ (c.in_ok-shown.ensures.same ∙ c.requires.first) in
+    let number = ap (λ s. s.number) is in
+    let first = ap (λ s. s.book) is in
     let place : diary.attempts ≡ 0 = omega (arith, diary.counted, ap length c.args.board.empty) in
-    let noted = c.book.ensures ∙ (ap (λ s. s.book) c.deref.ensures ∙ made.book) in
+    let noted = c.book.ensures ∙ ap (λ s. s.book) (c.deref.ensures ∙ c.requires.first) in
     let log = first_log c.in-Some.attempt.page.log diary.page.log opening_book _ c.in-Some.ensures.log c.args.board.empty noted in
     let history = ap (λ p. p.book) page ∙ (ap (λ p. p.book) c.again-page.ensures ∙ (c.in-Some.ensures.history ∙ c.requires.history)) in
-    starts _ _ x number rule first
-    (first_carried _ (showing x) number first history (ap (λ p. p.log) page ∙ (ap (λ p. p.log) c.again-page.ensures ∙ log)) (c.of-first.ensures.attempt ∙ place))
+    starts _ _ x number (ap (λ s. s.tie) is) first
+    (first_carried _ (showing x) number first history (ap (λ p. p.log) page ∙ (ap (λ p. p.log) c.again-page.ensures ∙ log)) (c.of-one.ensures.attempt ∙ place))

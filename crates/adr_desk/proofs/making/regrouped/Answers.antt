@@ -5,7 +5,9 @@ use Rattle.std.proofs.lemmas.Result.{on_ok_weaker}
 use Rattle.std.proofs.lemmas.Slice.Eq.{slice_eq-Decides}
 use Rattle.std.proofs.lemmas.Bool.Decides.{Decides-eqb}
 use Rattle.adr_model.specs.declared.entry.Rank.{Rank}
+use Rattle.adr_model.specs.declared.entry.Tie.{Tie}
 use Rattle.adr_model.specs.declared.timeline.Winner.{Winner}
+use Rattle.adr_model.specs.Book.{Book}
 use Rattle.adr_book.specs.Ledger.{Ledger}
 use Rattle.adr_group.specs.Repair.{most_possible}
 use Rattle.adr_schedule.specs.declared.change.Change.{Change}
@@ -16,21 +18,37 @@ use Rattle.adr_desk.specs.declared.ranks.NewestRanks.{NewestRanks}
 use Rattle.adr_desk.specs.Edited.{come_of, gone_of}
 use Rattle.adr_desk.specs.Ranks.{if_newest, newest_rank}
 use Rattle.adr_desk.proofs.Costs.{shifts_cost}
-use Rattle.adr_desk.proofs.Laid.{laid_by, map_if_newest, next_number}
+use Rattle.adr_desk.proofs.Laid.{gone_by, laid_by, map_if_newest}
 use Rattle.adr_desk.proofs.Made.{room_for_both, room_for_one, seated_after}
 use Rattle.adr_desk.proofs.Shifted.{same_places}
 use Rattle.adr_desk.proofs.Sides.{groups_of_side}
 use Rattle.adr_desk.proofs.making.regrouped.Goals as goal
 
+abbrev rank_in : NewestRanks → Winner → Rank
+rank_in ranks winner = newest_rank ranks.book.now.objects.events winner
+
+ranks_are : (tie : Tie) (book : Book) (newest : NewestRanks) (under : Option NewestRanks) → newest.book.now.objects ≡ book → under ≡ if_newest tie newest
+    → option_map rank_in under ≡ if_newest tie (newest_rank book.events)
+ranks_are tie book newest under of is = ap (option_map rank_in) is ∙ map_if_newest rank_in tie newest ∙ ap (λ (b : Book). if_newest tie (newest_rank b.events)) of
+
 pub shifted-requires-clause-laid : goal.shifted-requires-clause-laid
 shifted-requires-clause-laid g c =
     let accepted = c.args.accepted.now in
     let book = accepted.old.now.objects in
-    let come = come_of book accepted.edit.now in
-    let rank_in = λ (ranks : NewestRanks) (winner : Winner). newest_rank ranks.book.now.objects.events winner in
-    let ranks = ap (option_map rank_in) c.under-ranks.ensures ∙ map_if_newest rank_in accepted.tie c.of-newest.result ∙ ap (λ (b : Ledger). if_newest accepted.tie (newest_rank b.objects.events)) c.of-newest.ensures in
+    let edit = accepted.edit.now in
+    let ranks = ranks_are accepted.tie book c.of-newest.result _ (ap (λ (b : Ledger). b.objects) c.of-newest.ensures) c.under-ranks.ensures in
     subst (λ (o : Option (Winner → Rank)). IsLaidBy o c.args.indexes.now c.args.change.now) (sym ranks)
-    (laid_by accepted.tie book come c.args.indexes.now c.args.change.now c.requires.change.whole (next_number book accepted.edit.now) c.requires.indexed c.requires.change.come)
+    (laid_by book accepted.new.now.objects (gone_of book edit) (come_of book edit) c.requires.change.exchange accepted.tie c.args.indexes.now c.requires.indexed c.args.change.now c.requires.change.whole c.requires.change.gone c.requires.change.come)
+
+pub shifted-requires-2-clause-laid : goal.shifted-requires-2-clause-laid
+shifted-requires-2-clause-laid g c =
+    let accepted = c.args.accepted.now in
+    let book = accepted.old.now.objects in
+    let edit = accepted.edit.now in
+    let alone : Change = record { gone = c.in_ok-gone.gone; come = None } in
+    let ranks = ranks_are accepted.tie book c.of-newest.result _ (ap (λ (b : Ledger). b.objects) c.of-newest.ensures) c.under-ranks.ensures in
+    subst (λ (o : Option (Winner → Rank)). IsLaidBy o c.args.indexes.now alone) (sym ranks)
+    (gone_by book accepted.new.now.objects (gone_of book edit) (come_of book edit) c.requires.change.exchange accepted.tie c.args.indexes.now c.requires.indexed c.in_ok-gone.gone c.in_ok-gone.ensures.side)
 
 pub shifted-requires-clause-room : goal.shifted-requires-clause-room
 shifted-requires-clause-room g c =

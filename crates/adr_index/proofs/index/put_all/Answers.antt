@@ -1,12 +1,19 @@
 use Rattle.std.proofs.Common.{rules, ◌≡◌, ◌+◌, ◌-◌, ◌∷◌, length, drop, ◌∙◌, arith}
 use Rattle.std.proofs.lemmas.List.{length-drop}
 use Rattle.adr_index.specs.Chunks.{all_listed}
-use Rattle.adr_index.proofs.Mended.{still_kept}
+use Rattle.adr_index.proofs.Mended.{inside_new, stretched}
 use Rattle.adr_index.proofs.Runs.{inserted_rest, new_rest}
 use Rattle.adr_index.proofs.index.put_all.Goals as goal
 
-pub update-is_kept-requires-clause-tops : goal.update-is_kept-requires-clause-tops
-update-is_kept-requires-clause-tops c = λ kept. rw c.deref-in-Some.ensures.value (still_kept c.put_run-run.result.place c.loop-first.table.chunks.items c.put_run-run.new.self.chunks.items c.loop-first.tops c.put_run-run.ensures.changed (c.loop-first.invariant.tops kept))
+pub with-stretch-requires : goal.with-stretch-requires
+with-stretch-requires c =
+    let all : c.len.result ≡ length c.put_run-run.new.self.chunks.items = omega arith in
+    inside_new c.put_run-run.result.place c.loop-first.table.chunks.items c.put_run-run.new.self.chunks.items c.len.result all c.put_run-run.ensures.changed
+
+pub write_far-stretch-requires-clause-tops : goal.write_far-stretch-requires-clause-tops
+write_far-stretch-requires-clause-tops c =
+    let all : c.len.result ≡ length c.put_run-run.new.self.chunks.items = omega arith in
+    rw c.deref-in-Some.ensures.value (stretched c.put_run-run.result.place c.loop-first.table.chunks.items c.put_run-run.new.self.chunks.items c.loop-first.tops c.loop-first.stretch c.with-stretch.result c.len.result all c.put_run-run.ensures.changed c.with-stretch.ensures.one c.with-stretch.ensures.all c.loop-first.invariant.tops)
 
 pub loop-first-preserved : goal.loop-first-preserved
 loop-first-preserved c =
@@ -20,5 +27,5 @@ loop-first-preserved c =
       spare = omega (arith, c.put_run-run.ensures.spare, c.loop-first.invariant.spare, count, left);
       nodes = search rules;
       sum = omega (arith, c.put_run-run.ensures.sum, c.loop-first.invariant.sum);
-      tops = rw c.deref-in-Some.ensures.value at c.update-is_kept.ensures;
+      tops = rw c.deref-in-Some.ensures.value at c.write_far-stretch.ensures;
     }

@@ -1,7 +1,7 @@
-use Rattle.std.proofs.Common.{◌≡◌, ◌+◌, ◌≤◌, true, length}
+use Rattle.std.proofs.Common.{◌≡◌, ◌+◌, ◌≤◌, length}
 use Rattle.adr_index.specs.Chunks.{all_listed}
 use Rattle.adr_index.specs.Index.{inserted_all, AreNew}
-use Rattle.adr_index.specs.Tables.{HasTops, IsTable}
+use Rattle.adr_index.specs.Tables.{HasTopsBut, IsTable}
 use Rattle.adr_index.proofs.index.put_all.Given as goal
 
 abbrev pub invariant-loop-first : goal.invariant-loop-first
@@ -12,7 +12,7 @@ invariant-loop-first l = record {
   spare : l.fn.table.spare + length l.rest ≤ l.table.spare + length l.new;
   nodes : length l.tops ≡ length l.fn.tops;
   sum : length l.table.chunks.items + length l.table.pool.items ≤ length l.fn.table.chunks.items + length l.fn.table.pool.items;
-  tops : l.is_kept ≡ true → HasTops l.table.chunks.items l.tops;
+  tops : HasTopsBut l.stretch.from l.stretch.to l.table.chunks.items l.tops;
 }
 
 abbrev pub decreases-loop-first : goal.decreases-loop-first

@@ -7,4 +7,4 @@ pub returns : goal.returns
 returns c = record { levels = c.digits-levels.result; enough = search rules; tree = c.rebuild_chunks.ensures.tree }
 
 pub rebuild_chunks-requires-clause-rest : goal.rebuild_chunks-requires-clause-rest
-rebuild_chunks-requires-clause-rest c = all_but listed c.digits-levels.result 0 _ c.args.chunks.now c.args.tops.now (omega arith) (omega arith)
+rebuild_chunks-requires-clause-rest c = all_but listed 6 c.digits-levels.result 0 _ c.args.chunks.now c.args.tops.now (omega arith) (omega arith)

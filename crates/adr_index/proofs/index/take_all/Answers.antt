@@ -1,11 +1,28 @@
-use Rattle.std.proofs.Common.{rules, ◌≡◌, ◌∷◌, ◌∙◌, arith}
+use Rattle.std.proofs.Common.{rules, ◌≡◌, ◌∷◌, length, refl, ◌∙◌, arith}
 use Rattle.adr_index.specs.Chunks.{all_listed}
-use Rattle.adr_index.proofs.Mended.{still_kept}
+use Rattle.adr_index.proofs.Mended.{inside_new, stretched, tops_but}
 use Rattle.adr_index.proofs.Runs.{others_rest}
 use Rattle.adr_index.proofs.index.take_all.Goals as goal
 
-pub update-is_kept-requires-clause-tops : goal.update-is_kept-requires-clause-tops
-update-is_kept-requires-clause-tops c = λ kept. rw c.deref-in-Some.ensures.value (still_kept c.take-run.result.place c.loop-first.table.chunks.items c.take-run.new.self.chunks.items c.loop-first.tops c.take-run.ensures.changed (c.loop-first.invariant.tops kept))
+pub loop-first-init : goal.loop-first-init
+loop-first-init c = record {
+  table = c.requires.table;
+  entries = refl;
+  spare = omega arith;
+  nodes = refl;
+  sum = omega arith;
+  tops = tops_but c.none-stretch.result.from c.none-stretch.result.to c.args.table.now.chunks.items c.args.tops.now c.none-stretch.ensures c.requires.tops;
+}
+
+pub with-stretch-requires : goal.with-stretch-requires
+with-stretch-requires c =
+    let all : c.len.result ≡ length c.take-run.new.self.chunks.items = search rules in
+    inside_new c.take-run.result.place c.loop-first.table.chunks.items c.take-run.new.self.chunks.items c.len.result all c.take-run.ensures.changed
+
+pub write_far-stretch-requires-clause-tops : goal.write_far-stretch-requires-clause-tops
+write_far-stretch-requires-clause-tops c =
+    let all : c.len.result ≡ length c.take-run.new.self.chunks.items = search rules in
+    rw c.deref-in-Some.ensures.value (stretched c.take-run.result.place c.loop-first.table.chunks.items c.take-run.new.self.chunks.items c.loop-first.tops c.loop-first.stretch c.with-stretch.result c.len.result all c.take-run.ensures.changed c.with-stretch.ensures.one c.with-stretch.ensures.all c.loop-first.invariant.tops)
 
 pub loop-first-preserved : goal.loop-first-preserved
 loop-first-preserved c =
@@ -16,5 +33,5 @@ loop-first-preserved c =
       spare = omega (arith, c.take-run.ensures.spare, c.loop-first.invariant.spare);
       nodes = search rules;
       sum = omega (arith, c.take-run.ensures.sum, c.loop-first.invariant.sum);
-      tops = rw c.deref-in-Some.ensures.value at c.update-is_kept.ensures;
+      tops = rw c.deref-in-Some.ensures.value at c.write_far-stretch.ensures;
     }

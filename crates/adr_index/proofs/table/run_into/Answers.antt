@@ -2,7 +2,7 @@ use Rattle.std.proofs.Common.{◌≡◌, ◌<◌, true, false, [], ◌∷◌, le
 use Rattle.std.proofs.lemmas.List.{get_or_read, take_more}
 use Rattle.adr_model.specs.declared.entry.Entry.{Entry}
 use Rattle.adr_model.specs.Entries.{is_listed_before}
-use Rattle.adr_index.specs.Chunks.{EndsBefore, GoTogether}
+use Rattle.adr_index.specs.Chunks.{EndsBefore}
 use Rattle.adr_index.proofs.Ordered.{all_joined}
 use Rattle.adr_index.proofs.table.run_into.Goals as goal
 

@@ -37,7 +37,7 @@ returns-then-count-le-FEW-clause-looks t c =
 pub search_chunks-requires : goal.search_chunks-requires
 search_chunks-requires t c =
     let two : 1 < length c.args.chunks.now = c.if-count-lt2.false in
-    let more : 4 < length c.args.chunks.now = c.if-count-le-FEW.false in
+    let more : 6 < length c.args.chunks.now = c.if-count-le-FEW.false in
     let level : 0 < c.args.levels = level_some c.args.levels (length c.args.chunks.now) two c.requires.levels in
     let last : any_lasts (all_listed c.args.chunks.now) c.args.query.now.from ≡ true = sym c.any_chunk_reaches.ensures ∙ c.if-not-any_chunk_reaches.false in
     let whole = both_halves c.args.chunks.now c.split_at.result.0.now c.split_at.result.1.now (length c.args.chunks.now / 2) c.split_at.ensures.front c.split_at.ensures.back in
@@ -52,7 +52,7 @@ search_chunks-requires t c =
             (
               omega (arith, c.split_at.ensures.front_len, c.split_at-2.ensures.front_len),
               (
-                rw (c.split_at.ensures.front, c.split_at-2.ensures.front) ((tree_at listed c.args.levels c.args.chunks.now c.args.tops.now level two c.requires.tree).1 more).0,
+                rw (c.split_at.ensures.front, c.split_at-2.ensures.front) ((tree_at listed 6 c.args.levels c.args.chunks.now c.args.tops.now level two c.requires.tree).1 more).0,
                 (starts_left (all_listed c.split_at.result.0.now) (all_listed c.split_at.result.1.now) (rw whole at c.requires.order), omega (arith, cost, c.tick.ensures, c.requires.room)),
               ),
             ),
@@ -87,7 +87,7 @@ returns-then-branch-clause-looks t c =
 pub search_chunks-requires-2 : goal.search_chunks-requires-2
 search_chunks-requires-2 t c =
     let two : 1 < length c.args.chunks.now = c.if-count-lt2.false in
-    let more : 4 < length c.args.chunks.now = c.if-count-le-FEW.false in
+    let more : 6 < length c.args.chunks.now = c.if-count-le-FEW.false in
     let level : 0 < c.args.levels = level_some c.args.levels (length c.args.chunks.now) two c.requires.levels in
     let last : any_lasts (all_listed c.args.chunks.now) c.args.query.now.from ≡ true = sym c.any_chunk_reaches.ensures ∙ c.if-not-any_chunk_reaches.false in
     let whole = both_halves c.args.chunks.now c.split_at.result.0.now c.split_at.result.1.now (length c.args.chunks.now / 2) c.split_at.ensures.front c.split_at.ensures.back in
@@ -103,7 +103,7 @@ search_chunks-requires-2 t c =
             (
               omega (arith, c.split_at.ensures.back_len, c.split_at-3.ensures.back_len, c.requires.lengths),
               (
-                rw (c.split_at.ensures.back, c.split_at-3.ensures.back) ((tree_at listed c.args.levels c.args.chunks.now c.args.tops.now level two c.requires.tree).1 more).1,
+                rw (c.split_at.ensures.back, c.split_at-3.ensures.back) ((tree_at listed 6 c.args.levels c.args.chunks.now c.args.tops.now level two c.requires.tree).1 more).1,
                 (starts_right (all_listed c.split_at.result.0.now) (all_listed c.split_at.result.1.now) (rw whole at c.requires.order), omega (arith, cost, c.tick.ensures, c.requires.room, c.search_chunks.ensures.looks)),
               ),
             ),

@@ -11,6 +11,6 @@ invariant-loop-chunk l = record {
   late : any_late (all_listed (drop l.chunk-index l.chunks)) l.query ≡ any_late (all_listed l.chunks) l.query;
   order : IsByStart (all_listed (drop l.chunk-index l.chunks));
   chunks : AreChunks (drop l.chunk-index l.chunks);
-  depth : AllByRecursion (λ c. length (listed c) ≤ 2 ^ l.depth) (drop l.chunk-index l.chunks);
+  depth : AllByRecursion (λ c. 2 * length (listed c) ≤ 2 ^ l.depth) (drop l.chunk-index l.chunks);
   meter : l.meter + length (drop l.chunk-index l.chunks) + 2 * l.depth * reached (all_listed (drop l.chunk-index l.chunks)) l.query ≤ l.fn.meter + length l.chunks + 2 * l.depth * reached (all_listed l.chunks) l.query;
 }

@@ -10,7 +10,7 @@ pub returns-then-count-le-FEW-clause-tree : goal.returns-then-count-le-FEW-claus
 returns-then-count-le-FEW-clause-tree t c =
     let two : 1 < length c.args.entries.now = search rules in
     let inside : length c.args.entries.now / 2 - 1 < length c.args.greatest.now = omega (arith, c.requires.lengths) in
-    tree_few only c.args.levels c.args.entries.now _ (search rules) (λ _. rw (only_all c.args.entries.now, get_or-set_same c.args.greatest.now (length c.args.entries.now / 2 - 1) c.greatest_of-then-count-le-FEW.result None inside) c.greatest_of-then-count-le-FEW.ensures)
+    tree_few only 8 c.args.levels c.args.entries.now _ (search rules) (λ _. rw (only_all c.args.entries.now, get_or-set_same c.args.greatest.now (length c.args.entries.now / 2 - 1) c.greatest_of-then-count-le-FEW.result None inside) c.greatest_of-then-count-le-FEW.ensures)
 
 pub rebuild-left_greatest-requires : goal.rebuild-left_greatest-requires
 rebuild-left_greatest-requires t c =
@@ -30,7 +30,7 @@ returns-clause-tree t c =
     let level = level_some c.args.levels (length c.args.entries.now) two c.requires.levels in
     let front : length c.rebuild-left_greatest.new.greatest ≡ length c.args.entries.now / 2 - 1 = search rules in
     let here : length c.split_at_mut-here.result.0.now ≡ 1 = search rules in
-    tree_written only c.args.levels c.args.entries.now c.split_at.result.0.now c.split_at.result.1.now c.rebuild-left_greatest.new.greatest c.split_at_mut-here.result.0.now c.rebuild-right_greatest.new.greatest c.later.result c.rebuild-left_greatest.result c.rebuild-right_greatest.result level two c.split_at.ensures.front c.split_at.ensures.back front here c.later.ensures
+    tree_written only 8 c.args.levels c.args.entries.now c.split_at.result.0.now c.split_at.result.1.now c.rebuild-left_greatest.new.greatest c.split_at_mut-here.result.0.now c.rebuild-right_greatest.new.greatest c.later.result c.rebuild-left_greatest.result c.rebuild-right_greatest.result level two c.split_at.ensures.front c.split_at.ensures.back front here c.later.ensures
     (rw (only_all c.split_at.result.0.now) c.rebuild-left_greatest.ensures.greatest) (rw (only_all c.split_at.result.1.now) c.rebuild-right_greatest.ensures.greatest)
     c.rebuild-left_greatest.ensures.tree c.rebuild-right_greatest.ensures.tree
 

@@ -3,7 +3,7 @@ use Rattle.std.proofs.lemmas.List.{append-nil}
 use Rattle.adr_index.specs.Query.{any_late}
 use Rattle.adr_index.specs.Tree.{any_lasts}
 use Rattle.adr_index.specs.Tree.{only}
-use Rattle.adr_index.proofs.Grown.{few_levels, level_some, left_short, right_short, tree_at}
+use Rattle.adr_index.proofs.Grown.{few_spared, level_some, spare_left, spare_right, tree_at}
 use Rattle.adr_index.proofs.Searched.{none_last, none_late_last, found_left, looks_left, looks_both, looks_few, starts_left, starts_right}
 use Rattle.adr_index.proofs.tree.+search.Goals as goal
 
@@ -23,31 +23,31 @@ pub scan-requires-then-count-le-FEW-clause-room : goal.scan-requires-then-count-
 scan-requires-then-count-le-FEW-clause-room t c =
     let two : 1 < length c.args.entries.now = c.if-count-lt2.false in
     let last : any_lasts c.args.entries.now c.args.query.now.from ≡ true = sym c.any_reaches.ensures ∙ c.if-not-any_reaches.false in
-    let cost = looks_few c.args.levels (length c.args.entries.now) c.args.entries.now c.args.query.now last (few_levels c.args.levels (length c.args.entries.now) two (c.if-count-le-FEW.true) c.requires.levels) in
+    let cost = looks_few c.args.levels (length c.args.entries.now) c.args.entries.now c.args.query.now last (few_spared c.args.levels (length c.args.entries.now) two (c.if-count-le-FEW.true) c.requires.levels) in
     omega (arith, cost, c.tick.ensures, c.requires.room)
 
 pub returns-then-count-le-FEW-clause-looks : goal.returns-then-count-le-FEW-clause-looks
 returns-then-count-le-FEW-clause-looks t c =
     let two : 1 < length c.args.entries.now = c.if-count-lt2.false in
     let last : any_lasts c.args.entries.now c.args.query.now.from ≡ true = sym c.any_reaches.ensures ∙ c.if-not-any_reaches.false in
-    let cost = looks_few c.args.levels (length c.args.entries.now) c.args.entries.now c.args.query.now last (few_levels c.args.levels (length c.args.entries.now) two (c.if-count-le-FEW.true) c.requires.levels) in
+    let cost = looks_few c.args.levels (length c.args.entries.now) c.args.entries.now c.args.query.now last (few_spared c.args.levels (length c.args.entries.now) two (c.if-count-le-FEW.true) c.requires.levels) in
     omega (arith, cost, c.tick.ensures, c.scan-then-count-le-FEW.ensures.looks)
 
 pub search-requires : goal.search-requires
 search-requires t c =
     let two : 1 < length c.args.entries.now = c.if-count-lt2.false in
-    let more : 4 < length c.args.entries.now = c.if-count-le-FEW.false in
-    let level : 0 < c.args.levels = level_some c.args.levels (length c.args.entries.now) two c.requires.levels in
+    let more : 8 < length c.args.entries.now = c.if-count-le-FEW.false in
+    let level : 0 < c.args.levels = level_some c.args.levels (length c.args.entries.now) two (omega (arith, c.requires.levels)) in
     let last : any_lasts c.args.entries.now c.args.query.now.from ≡ true = sym c.any_reaches.ensures ∙ c.if-not-any_reaches.false in
     let whole = c.split_at.ensures.by_index.0 in
     let cost = looks_left c.args.entries.now c.split_at.result.0.now c.split_at.result.1.now c.args.query.now whole c.args.levels level last in (
       search rules,
       (
-        rw c.split_at.ensures.front (left_short only c.args.levels c.args.entries.now c.args.greatest.now level c.requires.levels),
+        omega (arith, c.split_at.ensures.front_len, spare_left c.args.levels (length c.args.entries.now) level more c.requires.levels),
         (
           omega (arith, c.split_at.ensures.front_len, c.split_at-2.ensures.front_len),
           (
-            rw (c.split_at.ensures.front, c.split_at-2.ensures.front) ((tree_at only c.args.levels c.args.entries.now c.args.greatest.now level two c.requires.tree).1 more).0,
+            rw (c.split_at.ensures.front, c.split_at-2.ensures.front) ((tree_at only 8 c.args.levels c.args.entries.now c.args.greatest.now level two c.requires.tree).1 more).0,
             (starts_left c.split_at.result.0.now c.split_at.result.1.now (rw whole at c.requires.order), omega (arith, cost, c.tick.ensures, c.requires.room)),
           ),
         ),
@@ -57,7 +57,7 @@ search-requires t c =
 pub returns-in_err-search-clause-looks : goal.returns-in_err-search-clause-looks
 returns-in_err-search-clause-looks t c =
     let two : 1 < length c.args.entries.now = c.if-count-lt2.false in
-    let level : 0 < c.args.levels = level_some c.args.levels (length c.args.entries.now) two c.requires.levels in
+    let level : 0 < c.args.levels = level_some c.args.levels (length c.args.entries.now) two (omega (arith, c.requires.levels)) in
     let last : any_lasts c.args.entries.now c.args.query.now.from ≡ true = sym c.any_reaches.ensures ∙ c.if-not-any_reaches.false in
     let cost = looks_left c.args.entries.now c.split_at.result.0.now c.split_at.result.1.now c.args.query.now c.split_at.ensures.by_index.0 c.args.levels level last in
     omega (arith, cost, c.tick.ensures, c.search.ensures.looks)
@@ -70,7 +70,7 @@ returns-then-branch-clause-found t c =
 pub returns-then-branch-clause-looks : goal.returns-then-branch-clause-looks
 returns-then-branch-clause-looks t c =
     let two : 1 < length c.args.entries.now = c.if-count-lt2.false in
-    let level : 0 < c.args.levels = level_some c.args.levels (length c.args.entries.now) two c.requires.levels in
+    let level : 0 < c.args.levels = level_some c.args.levels (length c.args.entries.now) two (omega (arith, c.requires.levels)) in
     let last : any_lasts c.args.entries.now c.args.query.now.from ≡ true = sym c.any_reaches.ensures ∙ c.if-not-any_reaches.false in
     let cost = looks_left c.args.entries.now c.split_at.result.0.now c.split_at.result.1.now c.args.query.now c.split_at.ensures.by_index.0 c.args.levels level last in
     omega (arith, cost, c.tick.ensures, c.search.ensures.looks)
@@ -78,19 +78,19 @@ returns-then-branch-clause-looks t c =
 pub search-requires-2 : goal.search-requires-2
 search-requires-2 t c =
     let two : 1 < length c.args.entries.now = c.if-count-lt2.false in
-    let more : 4 < length c.args.entries.now = c.if-count-le-FEW.false in
-    let level : 0 < c.args.levels = level_some c.args.levels (length c.args.entries.now) two c.requires.levels in
+    let more : 8 < length c.args.entries.now = c.if-count-le-FEW.false in
+    let level : 0 < c.args.levels = level_some c.args.levels (length c.args.entries.now) two (omega (arith, c.requires.levels)) in
     let last : any_lasts c.args.entries.now c.args.query.now.from ≡ true = sym c.any_reaches.ensures ∙ c.if-not-any_reaches.false in
     let whole = c.split_at.ensures.by_index.0 in
     let early : any_late c.split_at.result.0.now c.args.query.now ≡ false = sym c.in_ok-search.ensures.late ∙ c.if-branch.false in
     let cost = looks_both c.args.entries.now c.split_at.result.0.now c.split_at.result.1.now c.args.query.now whole c.args.levels level last early in (
       search rules,
       (
-        rw c.split_at.ensures.back (right_short only c.args.levels c.args.entries.now c.args.greatest.now level c.requires.levels),
+        omega (arith, c.split_at.ensures.back_len, spare_right c.args.levels (length c.args.entries.now) level more c.requires.levels),
         (
           omega (arith, c.split_at.ensures.back_len, c.split_at-3.ensures.back_len, c.requires.lengths),
           (
-            rw (c.split_at.ensures.back, c.split_at-3.ensures.back) ((tree_at only c.args.levels c.args.entries.now c.args.greatest.now level two c.requires.tree).1 more).1,
+            rw (c.split_at.ensures.back, c.split_at-3.ensures.back) ((tree_at only 8 c.args.levels c.args.entries.now c.args.greatest.now level two c.requires.tree).1 more).1,
             (starts_right c.split_at.result.0.now c.split_at.result.1.now (rw whole at c.requires.order), omega (arith, cost, c.tick.ensures, c.requires.room, c.search.ensures.looks)),
           ),
         ),
@@ -100,7 +100,7 @@ search-requires-2 t c =
 pub returns-clause-looks : goal.returns-clause-looks
 returns-clause-looks t c =
     let two : 1 < length c.args.entries.now = c.if-count-lt2.false in
-    let level : 0 < c.args.levels = level_some c.args.levels (length c.args.entries.now) two c.requires.levels in
+    let level : 0 < c.args.levels = level_some c.args.levels (length c.args.entries.now) two (omega (arith, c.requires.levels)) in
     let last : any_lasts c.args.entries.now c.args.query.now.from ≡ true = sym c.any_reaches.ensures ∙ c.if-not-any_reaches.false in
     let early : any_late c.split_at.result.0.now c.args.query.now ≡ false = sym c.in_ok-search.ensures.late ∙ c.if-branch.false in
     let cost = looks_both c.args.entries.now c.split_at.result.0.now c.split_at.result.1.now c.args.query.now c.split_at.ensures.by_index.0 c.args.levels level last early in

@@ -8,7 +8,7 @@ use Rattle.adr_index.proofs.index.Index.find.Goals as goal
 pub search_chunks-requires-clause-depth : goal.search_chunks-requires-clause-depth
 search_chunks-requires-clause-depth c =
     let below : length (all_listed c.self.inside.table.chunks.items) ≤ 2 ^ c.digits-depth.result = omega (arith, c.digits-depth.ensures.below, c.self.invariant.table.count) in
-    rw c.deref.ensures.value (chunks_short (2 ^ c.digits-depth.result) c.self.inside.table.chunks.items below)
+    rw c.deref.ensures.value (chunks_short c.digits-depth.result c.self.inside.table.chunks.items below)
 
 pub search_chunks-requires-clause-levels : goal.search_chunks-requires-clause-levels
 search_chunks-requires-clause-levels c =
@@ -16,7 +16,7 @@ search_chunks-requires-clause-levels c =
     rw c.deref.ensures.value (omega (arith, below, chunks_few c.self.inside.table.chunks.items c.self.invariant.table.chunks))
 
 pub search_chunks-requires-clause-tree : goal.search_chunks-requires-clause-tree
-search_chunks-requires-clause-tree c = rw (c.deref.ensures.value, c.deref-2.ensures.value) (tree_levels listed c.self.invariant.tops.levels c.digits-depth.result c.self.inside.table.chunks.items c.self.inside.tops.items c.self.invariant.tops.enough c.self.invariant.tops.tree)
+search_chunks-requires-clause-tree c = rw (c.deref.ensures.value, c.deref-2.ensures.value) (tree_levels listed 6 c.self.invariant.tops.levels c.digits-depth.result c.self.inside.table.chunks.items c.self.inside.tops.items c.self.invariant.tops.enough c.self.invariant.tops.tree)
 
 pub search_chunks-requires-clause-order : goal.search_chunks-requires-clause-order
 search_chunks-requires-clause-order c = rw c.deref.ensures.value (ordered_starts (all_listed c.self.inside.table.chunks.items) c.self.invariant.table.order)

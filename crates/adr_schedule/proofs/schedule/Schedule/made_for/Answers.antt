@@ -8,14 +8,14 @@ laid_over-requires-clause-room g c =
     let indexes = c.args.indexes.now in
     let least = c.in_ok-drafted.ensures.least indexes in
     let most = places_possible c.args.change.now indexes c.get.result.now c.self.inside.groups c.args.places.now in
-    (indexes, c.requires.laid, omega (arith, least, most, c.requires.room))
+    omega (arith, least, most, c.requires.room)
 
 pub returns-in_err-laid-clause-compared : goal.returns-in_err-laid-clause-compared
 returns-in_err-laid-clause-compared g c =
     let indexes = c.args.indexes.now in
     let least = c.in_ok-drafted.ensures.least indexes in
     let most = places_possible c.args.change.now indexes c.get.result.now c.self.inside.groups c.args.places.now in
-    let laid = c.laid_over.ensures.compared indexes c.requires.laid in
+    let laid = c.laid_over.ensures.compared in
     omega (arith, least, most, laid)
 
 pub made_by-requires-clause-room : goal.made_by-requires-clause-room
@@ -23,7 +23,7 @@ made_by-requires-clause-room g c =
     let indexes = c.args.indexes.now in
     let least = c.in_ok-drafted.ensures.least indexes in
     let most = places_possible c.args.change.now indexes c.get.result.now c.self.inside.groups c.args.places.now in
-    let laid = c.in_ok-laid.ensures.left indexes c.requires.laid in
+    let laid = c.in_ok-laid.ensures.left in
     let same = ap (most_drafted indexes) c.as_slice.ensures.value in
     omega (arith, same, least, most, laid, c.requires.room)
 
@@ -32,7 +32,7 @@ returns-in_err-groups-clause-compared g c =
     let indexes = c.args.indexes.now in
     let least = c.in_ok-drafted.ensures.least indexes in
     let most = places_possible c.args.change.now indexes c.get.result.now c.self.inside.groups c.args.places.now in
-    let laid = c.in_ok-laid.ensures.left indexes c.requires.laid in
+    let laid = c.in_ok-laid.ensures.left in
     let same = ap (most_drafted indexes) c.as_slice.ensures.value in
     omega (arith, same, least, most, laid, c.made_by.ensures.compared)
 
@@ -41,7 +41,7 @@ returns-clause-compared g c =
     let indexes = c.args.indexes.now in
     let least = c.in_ok-drafted.ensures.least indexes in
     let most = places_possible c.args.change.now indexes c.get.result.now c.self.inside.groups c.args.places.now in
-    let laid = c.in_ok-laid.ensures.left indexes c.requires.laid in
+    let laid = c.in_ok-laid.ensures.left in
     let same = ap (most_drafted indexes) c.as_slice.ensures.value in
     omega (arith, same, least, most, laid, c.made_by.ensures.compared)
 
@@ -53,4 +53,4 @@ returns-clause-made g c =
     rw (← c.self.view_is, ← c.get.ensures)
     (all_become c.args.change.now indexes c.requires.two c.args.places.now c.get.result.now c.self.inside.groups drafts made
     c.in_ok-drafted.ensures.drafts c.in_ok-drafted.ensures.seen
-    (c.in_ok-groups.ensures.made drafts (subst (λ ds. AreMadeSoFar indexes drafts ds c.in_ok-laid.laid.made.groups) (sym c.as_slice.ensures.value) (c.in_ok-laid.ensures.made indexes c.requires.laid))))
+    (c.in_ok-groups.ensures.made drafts (subst (λ ds. AreMadeSoFar indexes drafts ds c.in_ok-laid.laid.made.groups) (sym c.as_slice.ensures.value) c.in_ok-laid.ensures.made)))

@@ -9,16 +9,16 @@ invariant_of-result c =
     let s : Seating = record { seats = c.self.inside.seats; groups = c.self.inside.groups } in
     rw c.in_ok-seats-2.ensures
     (goes_seated s c.args.place c.in-Some.slot c.self.invariant (subst (λ xs. slice_get xs c.args.place ≡ Some c.in-Some.slot) c.get.ensures (sym c.in-Some.ensures.value))
-    c.remove.new.self c.in_ok-groups.groups (c.remove.ensures ∙ ap (λ xs. remove xs c.args.place) (c.in_ok-seats.ensures ∙ c.get-2.ensures)) c.in_ok-groups.ensures.ok)
+    c.in_ok-seats.seats c.in_ok-groups.groups (c.in_ok-seats.ensures ∙ ap (λ xs. remove xs c.args.place) c.get-2.ensures) c.in_ok-groups.ensures.ok)
 
 pub returns-clause-place : goal.returns-clause-place
 returns-clause-place c =
     let s : Seating = record { seats = c.self.inside.seats; groups = c.self.inside.groups } in
-    let after : Seating = record { seats = c.remove.new.self; groups = c.in_ok-groups.groups } in
+    let after : Seating = record { seats = c.in_ok-seats.seats; groups = c.in_ok-groups.groups } in
     rw c.in_ok-seats-2.ensures
     (subst (λ (x : Seating). LacksPlace c.args.place x after) c.self.view_is
     (goes_away s c.args.place c.in-Some.slot c.self.invariant (subst (λ xs. slice_get xs c.args.place ≡ Some c.in-Some.slot) c.get.ensures (sym c.in-Some.ensures.value))
-    c.remove.new.self c.in_ok-groups.groups (c.remove.ensures ∙ ap (λ xs. remove xs c.args.place) (c.in_ok-seats.ensures ∙ c.get-2.ensures)) c.in_ok-groups.ensures.ok))
+    c.in_ok-seats.seats c.in_ok-groups.groups (c.in_ok-seats.ensures ∙ ap (λ xs. remove xs c.args.place) c.get-2.ensures) c.in_ok-groups.ensures.ok))
 
 pub returns-clause-right : goal.returns-clause-right
 returns-clause-right c =
