@@ -62,8 +62,11 @@ impl Audiences {
         }
     }
 
-    /// What the resources of the store offer and what its events ask for. `NoMemory` where there is no room for it. Cost:
-    /// all resources and all events.
+    /// What the resources of the store offer and what its events ask for. Cost: all resources and all events.
+    ///
+    /// # Errors
+    ///
+    /// `NoMemory` where there is no room for it.
     pub fn of(alloc: Global, store: &Store) -> Result<Audiences, Refusal>
         ensures keys { IfOk result (AreKeysOf store.now) }
         ensures refusal { OnlyNoMemory result }
@@ -75,10 +78,13 @@ impl Audiences {
         })
     }
 
-    /// The places of the resources that an event of the program is for, in order of creation. `NoMemory` where there is
-    /// no room for them.
+    /// The places of the resources that an event of the program is for, in order of creation.
     ///
     /// Cost: a look-up for each value that is asked for, and a pass over the words of its set, a word for 64 places.
+    ///
+    /// # Errors
+    ///
+    /// `NoMemory` where there is no room for them.
     pub fn resources_for(&self, event: &Event, program: &Program) -> Result<Vec<usize>, Refusal>
         ensures places { (book : Book) → IsWhole book → AreKeysOf book self.now → IfOk result (λ places. places.items ≡ applying_places book event.now program.now) }
         ensures refusal { OnlyNoMemory result }
@@ -86,11 +92,14 @@ impl Audiences {
         places_for(&self.resources, self.alloc, event, program)
     }
 
-    /// The places of the events of the store that apply to the resource of the ven, in order of creation. `NoMemory`
-    /// where there is no room for them.
+    /// The places of the events of the store that apply to the resource of the ven, in order of creation.
     ///
     /// Cost: a look-up for each key of the resource, and a judgment for each event that asks for one of them, or for
     /// no key.
+    ///
+    /// # Errors
+    ///
+    /// `NoMemory` where there is no room for them.
     pub fn events_for(
         &self,
         store: &Store,
@@ -108,11 +117,15 @@ impl Audiences {
     }
 
     /// Follows an edit that is accepted: the rows become those of the book with the edit made. `store` has the objects
-    /// before the edit. Where there is no room for it, nothing changes.
+    /// before the edit.
     ///
-    /// Cost: a look-up for each key of the resource or event that the edit names, before and after, and the words of all
-    /// sets where one goes; of each of its resources for a ven that changes, and of each of its events for a program.
-    /// Programs and vens that come or go change no row.
+    /// Cost: a look-up for each key of the resource or event that the edit names, before and after, and the words of
+    /// all sets where one goes; of each of its resources for a ven that changes, and of each of its events for a
+    /// program. Programs and vens that come or go change no row.
+    ///
+    /// # Errors
+    ///
+    /// `NoMemory` where there is no room for the new rows; then the rows are as they were.
     pub fn follow(&mut self, store: &Store, edit: &Edit) -> Result<(), Refusal>
         requires keys { AreKeysOf store.now self.old }
         requires whole { IsWhole store.now }

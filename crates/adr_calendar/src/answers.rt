@@ -56,8 +56,12 @@ fn put_state_of<C: Calendar>(
     put_state(out, shown, state.until)
 }
 
-/// What governs the resource for the type at the moment, and until when. `UnknownResource` where the book has no such
-/// resource; `NoMemory`. Cost: that of the calendar's state.
+/// What governs the resource for the type at the moment, and until when. Cost: that of the calendar's state.
+///
+/// # Errors
+///
+/// `UnknownResource` where the book has no such resource; `NoMemory` where there is no room for the answer, in place of
+/// any.
 #[tactic(auto, using(crate::proofs::States::what_governs_is_there, crate::proofs::States::state_told_whole))]
 pub fn governor<C: Calendar>(
     calendar: &C,
@@ -94,8 +98,13 @@ fn text_of_state(
     Ok(out)
 }
 
-/// The answer to `at`: what governs the resource for the type at the moment, and until when. `UnknownResource` where
-/// the book has no such resource; `NoMemory`. Cost: that of the calendar's state.
+/// The answer to `at`: what governs the resource for the type at the moment, and until when. Cost: that of the
+/// calendar's state.
+///
+/// # Errors
+///
+/// `UnknownResource` where the book has no such resource; `NoMemory` where there is no room for the answer, in place of
+/// any.
 #[tactic(auto, unfolding(adr_model::specs::Answer::at))]
 pub fn at<C: Calendar>(
     alloc: Global,
@@ -213,8 +222,13 @@ fn text_of_list<C: Calendar>(
     Ok(out)
 }
 
-/// The answer to `list`: the segments of the window, each with what governs there. `BadWindow` where the window doesn't
-/// begin before it ends, then `UnknownResource`; `NoMemory`. Cost: that of the calendar's segments, and their bytes.
+/// The answer to `list`: the segments of the window, each with what governs there. Cost: that of the calendar's
+/// segments, and their bytes.
+///
+/// # Errors
+///
+/// `BadWindow` where the window doesn't begin before it ends, else `UnknownResource` where the book has no such
+/// resource; `NoMemory` where there is no room for the answer, in place of any.
 #[tactic(auto, unfolding(adr_model::specs::Queries::list))]
 pub fn list<C: Calendar>(
     alloc: Global,
@@ -304,8 +318,11 @@ fn text_of_roll<C: Calendar>(
     Ok(out)
 }
 
-/// The answer to `roll`: the state of each resource, in order of creation. `NoMemory`. Cost: that of `at` for each
-/// resource.
+/// The answer to `roll`: the state of each resource, in order of creation. Cost: that of `at` for each resource.
+///
+/// # Errors
+///
+/// `NoMemory` where there is no room for the answer.
 #[tactic(auto, unfolding(adr_model::specs::Queries::roll))]
 pub fn roll<C: Calendar>(
     alloc: Global,
@@ -352,8 +369,13 @@ fn text_of_types<C: Calendar>(alloc: Global, calendar: &C, id: &Id) -> Result<Ve
     Ok(out)
 }
 
-/// The answer to `types`: the payload types that govern the resource at some moment. `UnknownResource`; `NoMemory`.
-/// Cost: that of the calendar's types, and their bytes.
+/// The answer to `types`: the payload types that govern the resource at some moment. Cost: that of the calendar's
+/// types, and their bytes.
+///
+/// # Errors
+///
+/// `UnknownResource` where the book has no such resource; `NoMemory` where there is no room for the answer, in place of
+/// any.
 #[tactic(auto, unfolding(adr_model::specs::Queries::types))]
 pub fn types<C: Calendar>(alloc: Global, calendar: &C, id: &Id) -> Result<Vec<u8>, Refusal>
     ensures { Answers (result_map (λ v. v.items) result) (types (C.tie calendar.now) (C.objects calendar.now) id.now) }

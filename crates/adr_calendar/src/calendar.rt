@@ -13,7 +13,9 @@ use adr_value::{PayloadType, Refusal};
 /// What governs at a moment, and until when it stays so.
 #[derive(Clone, Copy)]
 pub struct State {
+    /// The interval that governs, or None where nothing does.
     pub governor: Option<Winner>,
+    /// The first moment at which something else governs, or nothing more; endless where it stays so.
     pub until: End,
 }
 
@@ -34,11 +36,19 @@ pub trait Calendar {
         ensures { result.now.objects ≡ objects self.now };
 
     /// What governs the resource for the type at the moment, and until when.
+    ///
+    /// # Errors
+    ///
+    /// `NoMemory` where there is no room for it.
     fn state(&self, id: &Id, payload_type: &PayloadType, moment: Moment) -> Result<State, Refusal>
         ensures ok { IfOk result (λ state. IsStateAt (tie self.now) (objects self.now) id.now payload_type.now moment state) }
         ensures memory { OnlyNoMemory result };
 
     /// The timeline of the window, from a moment to before another.
+    ///
+    /// # Errors
+    ///
+    /// `NoMemory` where there is no room for it.
     fn segments(
         &self,
         id: &Id,
@@ -50,6 +60,10 @@ pub trait Calendar {
         ensures memory { OnlyNoMemory result };
 
     /// The types that govern the resource at some moment, in the order in which they are listed.
+    ///
+    /// # Errors
+    ///
+    /// `NoMemory` where there is no room for them.
     fn types(&self, id: &Id) -> Result<Vec<PayloadType>, Refusal>
         ensures ok { IfOk result (λ v. v.items ≡ governing_types (tie self.now) (objects self.now) id.now) }
         ensures memory { OnlyNoMemory result };

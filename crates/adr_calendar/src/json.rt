@@ -62,6 +62,10 @@ fn put_elements(out: &mut Vec<u8>, values: &[Datum]) -> Result<(), Refusal>
 }
 
 /// Appends the values as a JSON array. A point is an object of its coordinates, as `{"x":1,"y":2.5}`.
+///
+/// # Errors
+///
+/// `NoMemory` where there is no room for it.
 pub fn put_json_array(out: &mut Vec<u8>, values: &[Datum]) -> Result<(), Refusal>
     ensures ok { OnOk result (out.new.items ≡ out.old.items ++ json_array values.now) }
     ensures memory { OnlyNoMemory result }

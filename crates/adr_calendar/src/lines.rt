@@ -17,12 +17,19 @@ use adr_value::{Datum, Refusal};
 /// What governs shows: the event's id, the interval's id, and the values of its first payload of the type.
 #[derive(Clone, Copy)]
 pub struct Shown<'a> {
+    /// The id of the event whose interval governs.
     pub event: &'a Id,
+    /// The id that the interval has in its event (OpenADR 3.0, interval).
     pub interval: i64,
+    /// The values, in order, of the interval's first payload of the type.
     pub values: &'a [Datum],
 }
 
-/// Appends `version 4`.
+/// Appends the version of a book, as `version 4`.
+///
+/// # Errors
+///
+/// `NoMemory` where there is no room for it.
 pub fn put_version(out: &mut Vec<u8>, version: u64) -> Result<(), Refusal>
     ensures ok { OnOk result (out.new.items ≡ out.old.items ++ (codes "version " ++ decimal version)) }
     ensures memory { OnlyNoMemory result }
@@ -43,6 +50,10 @@ fn put_event(out: &mut Vec<u8>, shown: Shown<'_>) -> Result<(), Refusal>
 }
 
 /// Appends what is shown and until when: `event e1 interval 0 until end values 10`, or `none until end`.
+///
+/// # Errors
+///
+/// `NoMemory` where there is no room for it.
 pub fn put_state(out: &mut Vec<u8>, shown: Option<Shown<'_>>, end: End) -> Result<(), Refusal>
     ensures ok { OnOk result (out.new.items ≡ out.old.items ++ state_text (option_map shown_view shown.entry) end) }
     ensures memory { OnlyNoMemory result }
@@ -73,6 +84,10 @@ fn put_moments(
 }
 
 /// Appends how the lines of an event name it: ` event e1 interval `, behind which an interval's id goes.
+///
+/// # Errors
+///
+/// `NoMemory` where there is no room for it.
 pub(crate) fn put_naming(out: &mut Vec<u8>, event: &Id) -> Result<(), Refusal>
     ensures ok { OnOk result (out.new.items ≡ out.old.items ++ naming_text event.now) }
     ensures memory { OnlyNoMemory result }
@@ -111,6 +126,10 @@ pub fn cut(to: Moment, end: End) -> Moment
 
 /// Appends the line of a segment, its line feed too, from how the lines of its event name it:
 /// `2024-01-01T00:00:00Z 2024-01-01T01:00:00Z event e1 interval 0 values 10`.
+///
+/// # Errors
+///
+/// `NoMemory` where there is no room for it.
 pub(crate) fn put_segment(
     out: &mut Vec<u8>,
     last: &mut LastMoment,
@@ -141,6 +160,10 @@ fn is_bare(text: &str) -> bool
 }
 
 /// Appends the name of a payload type: bare where each of its characters may stand bare, else in quotes.
+///
+/// # Errors
+///
+/// `NoMemory` where there is no room for it.
 pub fn put_type(out: &mut Vec<u8>, name: &str) -> Result<(), Refusal>
     ensures ok { OnOk result (out.new.items ≡ out.old.items ++ type_text name.now) }
     ensures memory { OnlyNoMemory result }

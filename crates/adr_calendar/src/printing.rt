@@ -13,7 +13,11 @@ use itoa::{Buffer, write_digits};
 /// Room for the digits of two numbers of 64 bits and a point.
 const ROOM: usize = 48;
 
-/// Appends bytes.
+/// Appends bytes as they are.
+///
+/// # Errors
+///
+/// `NoMemory` where there is no room for them.
 pub fn put(out: &mut Vec<u8>, text: &[u8]) -> Result<(), Refusal>
     ensures ok { OnOk result (out.new.items ≡ out.old.items ++ text.now) }
     ensures memory { OnlyNoMemory result }

@@ -71,7 +71,8 @@ impl Block {
     }
 }
 
-/// A set of places in blocks of 64. A block may cover what another does: a place is in the set where one of them has it.
+/// A set of places in blocks of 64. A block may cover what another does: a place is in the set where one of them has
+/// it.
 #[derive(Drop)]
 pub(crate) struct Blocks {
     blocks: Vec<Block>,

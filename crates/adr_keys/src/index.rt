@@ -77,7 +77,11 @@ impl Index {
         self.sets.add_to(key, group);
     }
 
-    /// Adds a row last. Where there is no room for it, nothing changes.
+    /// Adds a row last.
+    ///
+    /// # Errors
+    ///
+    /// `NoMemory` where there is no room for it; then the rows are as they were.
     pub fn push(&mut self, row: Row) -> Result<(), Refusal>
         ensures ok { OnOk result (self.new ≡ self.old ++ row ∷ []) }
         ensures err { OnErr result (self.new ≡ self.old) }
@@ -86,8 +90,11 @@ impl Index {
         add_row(&mut self.rows, &mut self.sets, self.alloc, row)
     }
 
-    /// Puts the row in the place of another. Where there is no room for it, nothing changes. Cost: a look-up for each
-    /// key of the two.
+    /// Puts the row in the place of another. Cost: a look-up for each key of the two.
+    ///
+    /// # Errors
+    ///
+    /// `NoMemory` where there is no room for it; then the rows are as they were.
     pub fn replace(&mut self, place: usize, mut row: Row) -> Result<(), Refusal>
         requires { place < length self.old }
         ensures ok { OnOk result (self.new ≡ set self.old place row) }
@@ -108,8 +115,11 @@ impl Index {
         drop_row(&mut self.rows, &mut self.sets, place);
     }
 
-    /// Puts the fresh rows in the places of the rows that they stand at. Where there is no room for one, nothing
-    /// changes. What is left in `fresh` is not told.
+    /// Puts the fresh rows in the places of the rows that they stand at. What is left in `fresh` is not told.
+    ///
+    /// # Errors
+    ///
+    /// `NoMemory` where there is no room for one; then the rows are as they were.
     pub fn renew(&mut self, fresh: &mut Vec<Option<Row>>) -> Result<(), Refusal>
         requires { length fresh.old.items ≡ length self.old }
         ensures ok { OnOk result (self.new ≡ renewed fresh.old.items self.old) }

@@ -34,6 +34,10 @@ impl Drop for Key {
 
 impl Key {
     /// A key equal to this one, which takes no growth, as `Text::copy`.
+    ///
+    /// # Errors
+    ///
+    /// `NoMemory` only where the count of the sharers of one of its texts is full.
     pub fn copy(&self) -> Result<Key, Refusal>
         ensures { IsCopyOf result self.now }
     {

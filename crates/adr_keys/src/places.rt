@@ -34,6 +34,10 @@ impl Model for Places {
 
 impl Places {
     /// A set that has each of the first places, and may have some after them.
+    ///
+    /// # Errors
+    ///
+    /// `NoMemory` where there is no room for its words, one for 64 places.
     pub fn first(alloc: Global, count: usize) -> Result<Places, Refusal>
         ensures full { IfOk result (λ set. (place : ℕ) → place < count → has set place ≡ true) }
         ensures refusal { OnlyNoMemory result }
@@ -44,6 +48,10 @@ impl Places {
     }
 
     /// An empty set with room for each of the first places.
+    ///
+    /// # Errors
+    ///
+    /// `NoMemory` where there is no room for its words, one for 64 places.
     pub fn with_room(alloc: Global, count: usize) -> Result<Places, Refusal>
         ensures empty { IfOk result (λ set. (place : ℕ) → has set place ≡ false) }
         ensures room { IfOk result (λ set. (place : ℕ) → place ≤ count → IsTrue (fits set place)) }
@@ -132,7 +140,11 @@ impl Places {
         count / 64 + 1
     }
 
-    /// The first places that the set has, in order. Cost: its words, and the places.
+    /// Which of the first `count` places the set has, in order. Cost: its words, and the places.
+    ///
+    /// # Errors
+    ///
+    /// `NoMemory` where there is no room for the list.
     pub fn list(&self, alloc: Global, count: usize) -> Result<Vec<usize>, Refusal>
         ensures ok { IfOk result (λ list. list.items ≡ filter (has self.now) (range_with_len 0 count)) }
         ensures refusal { OnlyNoMemory result }

@@ -15,9 +15,13 @@ use std::alloc::Global;
 /// intervalPeriod). One with its own period starts there; one without starts where the one before it ends, the
 /// first at the event's own start. It lasts its own duration, else the event's default one, else no time.
 ///
+/// One pass, with one growth.
+///
+/// # Errors
+///
 /// The earliest interval that has a fault decides the refusal: `NoStart` where the first has no start anywhere,
 /// `AfterEndless` where one without its own period follows an endless one, `TimeRange` where an end is out of
-/// range. `NoMemory` where there is no room for the list. One pass, with one growth.
+/// range. `NoMemory` where there is no room for the list.
 pub fn lay_out(alloc: Global, event: &Event) -> Result<Vec<Placed>, Refusal>
     ensures { Answers (result_map (λ placed. placed.items) result) (result_map (placed_from 0) (layout event.now)) }
 {

@@ -46,7 +46,12 @@ impl Faults {
         Faults { least: None }
     }
 
-    /// Adds a fault. `NoMemory` is none: it is handed back, for the caller's `?`, and nothing is noted.
+    /// Adds a fault, which counts only where none of a lesser number was noted.
+    ///
+    /// # Errors
+    ///
+    /// `NoMemory` where it is passed that, which is no fault: it is handed back, for the caller's `?`, and nothing is
+    /// noted.
     pub fn note(&mut self, refusal: Refusal) -> Result<(), Refusal>
         ensures noted { OnOk result (self.new ≡ min self.old (number_of refusal)) }
         ensures fault { OnOk result (number_of refusal ≢ 99) }
@@ -62,7 +67,11 @@ impl Faults {
         Ok(())
     }
 
-    /// The value where no fault was noted, else the least fault.
+    /// Ends the judging with the value, where no fault was noted.
+    ///
+    /// # Errors
+    ///
+    /// The fault of the least number of those that were noted.
     pub fn answer<T: Drop>(self, value: T) -> Result<T, Refusal>
         ensures value { IfOk result (λ v. (v ≡ value) × (self ≡ none)) }
         ensures refused { IfErr result (λ f. number_of f ≡ self) }
@@ -88,10 +97,15 @@ fn lesser(first: Refusal, second: Refusal) -> Refusal
     }
 }
 
-/// Both values, or the refusal of the lesser number; `NoMemory` goes before each other.
+/// Both values, where neither part is refused.
 ///
 /// If each part answers its value or the least of its own faults, the whole answers both values or the least
 /// of all the faults.
+///
+/// # Errors
+///
+/// The refusal of the one part that is refused, or of two the one of the lesser number; `NoMemory` goes before each
+/// other.
 pub fn both<A: Drop, B: Drop>(
     first: Result<A, Refusal>,
     second: Result<B, Refusal>,

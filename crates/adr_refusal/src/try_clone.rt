@@ -7,7 +7,11 @@ use crate::refusal::Refusal;
 ///
 /// It serves generic code, as `BoundedVec::copy`; elsewhere call the type's own `copy`.
 pub trait TryClone: Drop {
-    /// A value equal to this one. `NoMemory` where there is no room for it.
+    /// A value equal to this one.
+    ///
+    /// # Errors
+    ///
+    /// `NoMemory` where there is no room for it.
     fn try_clone(&self) -> Result<Self, Refusal>
         ensures { IsCopyOf result self.now };
 }

@@ -1,5 +1,6 @@
 #![tactic(auto)]
-//! Why it is enough to repair timelines inside the windows of an edit: laws of the definitions alone. Each function's clause is a law, and its body does nothing.
+//! Why it is enough to repair timelines inside the windows of an edit: laws of the definitions alone. Each function's
+//! clause is a law, and its body does nothing.
 //!
 //! An edit's windows are the spans of the events that it brings in, takes away or lets apply otherwise, each with
 //! a resource and a payload type.

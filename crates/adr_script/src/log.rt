@@ -15,7 +15,9 @@ const MAX_TRIES: u64 = 4_294_967_296;
 /// What one read gave.
 #[derive(Clone, Copy, PartialEq, Eq)]
 pub(crate) enum Given {
+    /// So many bytes, at least one, at the start of the piece.
     Bytes(usize),
+    /// The end of the input.
     End,
     /// The read was interrupted.
     Nothing,
@@ -24,7 +26,9 @@ pub(crate) enum Given {
 /// What a run's reads and its writes met.
 #[derive(Drop)]
 pub struct Logs {
+    /// What the reads met, of which `serve` makes at most 4,294,967,296.
     pub reads: ReadLog,
+    /// What the writes met.
     pub writes: WriteLog,
 }
 
@@ -65,6 +69,10 @@ impl ReadLog {
     }
 
     /// One read. An interrupted one is no fault.
+    ///
+    /// # Errors
+    ///
+    /// `Reading` where it failed, which is noted.
     pub(crate) fn read<R: Read>(&mut self, reader: &mut R, piece: &mut [u8]) -> Result<Given, Fault>
         requires made { reads_made self.old < 2 ^ 32 }
         requires piece { 0 < length piece.old }
@@ -120,6 +128,11 @@ impl WriteLog {
     }
 
     /// One write, which takes a byte or more at `Ok`. It is tried again while it is interrupted.
+    ///
+    /// # Errors
+    ///
+    /// `Writing` where it failed, took no byte, or was interrupted each of 4,294,967,296 times, which is noted. No byte
+    /// is written then.
     pub(crate) fn write<W: Write>(&mut self, writer: &mut W, bytes: &[u8]) -> Result<usize, Fault>
         requires { 0 < length bytes.now }
         ensures ok { IfOk result (λ n. (0 < n) × (n ≤ length bytes.now)

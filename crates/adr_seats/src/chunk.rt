@@ -37,6 +37,10 @@ impl Model for Chunk {
 
 impl Chunk {
     /// A chunk of these numbers, which may be written.
+    ///
+    /// # Errors
+    ///
+    /// `NoMemory` where there is no room for them.
     pub(crate) fn own(alloc: Global, numbers: &[u32]) -> Result<Chunk, Refusal>
         ensures { IsCopyOf result (true, numbers.now) }
     {
@@ -72,7 +76,12 @@ impl Chunk {
         self.own[place] = number;
     }
 
-    /// The same numbers, shared where these are.
+    /// A chunk of these numbers that others may share: it has the memory of shared ones, and a copy of those that may
+    /// be written.
+    ///
+    /// # Errors
+    ///
+    /// `NoMemory` where there is no room for the copy, or the count of the sharers is full.
     pub(crate) fn share(&self) -> Result<Chunk, Refusal>
         ensures { IsCopyOf result (false, self.now.1) }
     {

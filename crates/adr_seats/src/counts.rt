@@ -57,8 +57,11 @@ impl Counts {
         }
     }
 
-    /// A slot that no place has: the one that was left last, or the one after all that ever had one. `NoMemory` where
-    /// each of 2^31 has a place.
+    /// A slot that no place has: the one that was left last, or the one after all that ever had one.
+    ///
+    /// # Errors
+    ///
+    /// `NoMemory` where each of 2^31 was named, and none that was left is known.
     pub(crate) fn free(&self) -> Result<u64, Refusal>
         ensures free { IfOk result (λ slot. get_or (numbers self.now) slot 0 ≡ 0) }
         ensures below { IfOk result (λ slot. slot < 2 ^ 32) }
@@ -77,6 +80,10 @@ impl Counts {
     }
 
     /// Makes room for the number of the slot, which may be written then.
+    ///
+    /// # Errors
+    ///
+    /// `NoMemory` where there is no room for it, or the slot is not below 2^31.
     pub(crate) fn reserve(&mut self, slot: u32) -> Result<(), Refusal>
         ensures same { (s : ℕ) → get_or (numbers self.new) s 0 ≡ get_or (numbers self.old) s 0 }
         ensures room { OnOk result (slot < length (numbers self.new)) }
@@ -91,7 +98,12 @@ impl Counts {
         self.members.own(slot as usize)
     }
 
-    /// The number of the slot may be written.
+    /// The number of the slot may be written from now on.
+    ///
+    /// # Errors
+    ///
+    /// `NoMemory` where it is shared and there is no room for a chunk of its own, or none for one slot more in the list
+    /// of the unused.
     pub(crate) fn own(&mut self, slot: u32) -> Result<(), Refusal>
         ensures same { numbers self.new ≡ numbers self.old }
         ensures own { OnOk result (is_own self.new slot ≡ true) }
@@ -132,7 +144,11 @@ impl Counts {
         self.members.put(slot as usize, left);
     }
 
-    /// The same numbers. Full chunks of them are shared.
+    /// A copy of the numbers. Full chunks of them are shared.
+    ///
+    /// # Errors
+    ///
+    /// `NoMemory` where there is no room for it, or the count of a chunk's sharers is full.
     pub(crate) fn copy(&self) -> Result<Counts, Refusal>
         ensures same { IfOk result (λ copy. numbers copy ≡ numbers self.now) }
         ensures refusal { OnlyNoMemory result }

@@ -14,8 +14,8 @@ use std::marker::Model;
 
 /// Which slot each place has; many places may share one. Contracts see the list of the slots, place by place.
 ///
-/// A slot is a number below 2^31, and there are as many places at most. The numbers of all slots up to the greatest that
-/// was ever named stay in memory, so name those that `free_slot` answers.
+/// A slot is a number below 2^31, and there are as many places at most. The numbers of all slots up to the greatest
+/// that was ever named stay in memory, so name those that `free_slot` answers.
 pub struct Seats {
     slots: Table,
     counts: Counts,
@@ -86,7 +86,11 @@ impl Seats {
     }
 
     /// A slot that no place has: the one that was left last, if any, else the one after all that were ever named.
-    /// `NoMemory` where each of 2^31 has a place. Cost: one look-up.
+    /// Cost: one look-up.
+    ///
+    /// # Errors
+    ///
+    /// `NoMemory` where each of 2^31 was named, and none that was left is known.
     pub fn free_slot(&self) -> Result<u64, Refusal>
         ensures free { IfOk result (λ slot. list_any (λ s. s == slot) self.now ≡ false) }
         ensures below { IfOk result (λ slot. slot < 2 ^ 32) }
@@ -96,7 +100,11 @@ impl Seats {
         Ok(slot)
     }
 
-    /// Adds a place last, with the slot. `NoMemory` where there is no room, or the slot is not below 2^31.
+    /// Adds a place last, with the slot.
+    ///
+    /// # Errors
+    ///
+    /// `NoMemory` where there is no room, or the slot is not below 2^31; then each place has the slot it had.
     pub fn push(&mut self, slot: u64) -> Result<(), Refusal>
         ensures ok { OnOk result (self.new ≡ self.old ++ slot ∷ []) }
         ensures err { OnErr result (self.new ≡ self.old) }
@@ -106,7 +114,11 @@ impl Seats {
         push_slot(&mut self.slots, &mut self.counts, slot)
     }
 
-    /// Gives the place another slot. `NoMemory` where there is no room, or the slot is not below 2^31.
+    /// Gives the place another slot.
+    ///
+    /// # Errors
+    ///
+    /// `NoMemory` where there is no room, or the slot is not below 2^31; then each place has the slot it had.
     pub fn set(&mut self, place: usize, slot: u64) -> Result<(), Refusal>
         requires { place < length self.old }
         ensures ok { OnOk result (self.new ≡ set self.old place slot) }
@@ -118,6 +130,10 @@ impl Seats {
     }
 
     /// The slots without the place, whose gap is closed. Cost: all places.
+    ///
+    /// # Errors
+    ///
+    /// `NoMemory` where there is no room for them.
     pub fn without(&self, place: usize) -> Result<Seats, Refusal>
         requires { place < length self.now }
         ensures { IsCopyOf result (remove self.now place) }
@@ -132,8 +148,12 @@ impl Seats {
         Ok(Seats { slots, counts })
     }
 
-    /// The same slots. Cost: a pointer for each 512 places or slots, and the last of them; what is written later is copied
-    /// then, 512 numbers at a time.
+    /// A copy of the slots. Cost: a pointer for each 512 places or slots, and the last of them; what is written later
+    /// is copied then, 512 numbers at a time.
+    ///
+    /// # Errors
+    ///
+    /// `NoMemory` where there is no room for that, or the count of a chunk's sharers is full.
     pub fn copy(&self) -> Result<Seats, Refusal>
         ensures { IsCopyOf result self.now }
     {

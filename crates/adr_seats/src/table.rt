@@ -15,8 +15,8 @@ const WIDTH: usize = 512;
 /// How many numbers a table has at most.
 const MOST: usize = 1 << 31;
 
-/// A list of numbers: chunks that are full, which copies share, and a last one. What is written first becomes the table's
-/// own. Contracts see the chunks.
+/// A list of numbers: chunks that are full, which copies share, and a last one. What is written first becomes the
+/// table's own. Contracts see the chunks.
 pub(crate) struct Table {
     full: Vec<Chunk>,
     last: Vec<u32>,
@@ -81,6 +81,10 @@ impl Table {
     }
 
     /// Adds a number last.
+    ///
+    /// # Errors
+    ///
+    /// `NoMemory` where there is no room for it, or the table has 2^31 numbers; then it has the numbers it had.
     pub(crate) fn push(&mut self, number: u32) -> Result<(), Refusal>
         ensures ok { OnOk result (numbers self.new ≡ numbers self.old ++ number ∷ []) }
         ensures err { OnErr result (numbers self.new ≡ numbers self.old) }
@@ -136,6 +140,10 @@ impl Table {
     }
 
     /// The number at the place may be written from now on.
+    ///
+    /// # Errors
+    ///
+    /// `NoMemory` where its chunk is shared, and there is no room for one of its own.
     pub(crate) fn own(&mut self, place: usize) -> Result<(), Refusal>
         ensures same { numbers self.new ≡ numbers self.old }
         ensures own { OnOk result (is_own self.new place ≡ true) }
@@ -164,7 +172,11 @@ impl Table {
         }
     }
 
-    /// The same numbers, with room for more; full chunks are shared.
+    /// A copy of the numbers, with room for more; full chunks are shared.
+    ///
+    /// # Errors
+    ///
+    /// `NoMemory` where there is no room for it, or the count of a chunk's sharers is full.
     pub(crate) fn copy(&self) -> Result<Table, Refusal>
         ensures same { IfOk result (λ copy. numbers copy ≡ numbers self.now) }
         ensures refusal { OnlyNoMemory result }
@@ -189,6 +201,10 @@ impl Table {
     }
 
     /// The numbers but that at the place. Cost: all of them.
+    ///
+    /// # Errors
+    ///
+    /// `NoMemory` where there is no room for them.
     pub(crate) fn without(&self, place: usize) -> Result<Table, Refusal>
         requires { place < length (numbers self.now) }
         ensures numbers { IfOk result (λ table. numbers table ≡ remove (numbers self.now) place) }
@@ -200,7 +216,7 @@ impl Table {
     }
 }
 
-/// The same chunks, which share their numbers.
+/// Copies of the chunks, which share their numbers.
 fn shared(alloc: Global, chunks: &[Chunk]) -> Result<Vec<Chunk>, Refusal>
     ensures same { IfOk result (λ copies. joined copies.items ≡ joined chunks.now) }
     ensures full { AreFull chunks.now → IfOk result (λ copies. AreFull copies.items) }

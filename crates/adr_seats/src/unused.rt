@@ -4,8 +4,8 @@ ghost use Rattle.adr_refusal.specs.Answer.{OnlyNoMemory};
 use adr_refusal::Refusal;
 use std::alloc::Global;
 
-/// Slots, that which was put last on top. Who asks for it sees for himself whether a place has it, so nothing is promised
-/// of what they are.
+/// Slots, that which was put last on top. Who asks for it sees for himself whether a place has it, so nothing is
+/// promised of what they are.
 pub(crate) struct Unused {
     slots: Vec<u32>,
 }
@@ -32,6 +32,10 @@ impl Unused {
     }
 
     /// Makes room for one slot more.
+    ///
+    /// # Errors
+    ///
+    /// `NoMemory` where it isn't given.
     pub(crate) fn reserve(&mut self) -> Result<(), Refusal>
         ensures refusal { OnlyNoMemory result }
     {
@@ -61,7 +65,11 @@ impl Unused {
         }
     }
 
-    /// The same slots.
+    /// A copy of the slots, with memory of its own.
+    ///
+    /// # Errors
+    ///
+    /// `NoMemory` where there is no room for it.
     pub(crate) fn copy(&self) -> Result<Unused, Refusal>
         ensures refusal { OnlyNoMemory result }
     {

@@ -60,7 +60,12 @@ impl<T: TryClone> SharedList<T> {
         self.values.at(place)
     }
 
-    /// The list with one more value, which goes last. `NoMemory` where there is no room for it.
+    /// The list with one more value, which goes last.
+    ///
+    /// # Errors
+    ///
+    /// `NoMemory` where there is no room for it, and where a count of the map behind it is full, as
+    /// [`SharedMap::put`] says.
     pub fn with(&self, alloc: Global, value: T) -> Result<SharedList<T>, Refusal>
         ensures { IsCopyOf result (self.now ++ value ∷ []) }
     {
@@ -73,7 +78,11 @@ impl<T: TryClone> SharedList<T> {
         })
     }
 
-    /// The same list, which shares its memory, whatever its length.
+    /// A copy that shares this list's memory, whatever its length.
+    ///
+    /// # Errors
+    ///
+    /// `NoMemory` only where the count of its owners is full.
     pub fn copy(&self) -> Result<SharedList<T>, Refusal>
         ensures { IsCopyOf result self.now }
     {

@@ -84,8 +84,12 @@ impl<K: Key, V: TryClone> SharedMap<K, V> {
     }
 
     /// The map with this value at the key, in place of the key's old value if it has one. It makes the nodes of one
-    /// path anew, and at most two more to keep the paths short. `NoMemory` where there is no room for them, and where the
-    /// count of the entries or of a node's owners is full.
+    /// path anew, and at most two more to keep the paths short.
+    ///
+    /// # Errors
+    ///
+    /// `NoMemory` where there is no room for the nodes or a key's or a value's copy, and where the count of the entries
+    /// or of a node's owners is full.
     pub fn put(&self, alloc: Global, key: K, value: V) -> Result<SharedMap<K, V>, Refusal>
         ensures { IsCopyOf result (put (K.code key) value self.now) }
     {
@@ -95,7 +99,12 @@ impl<K: Key, V: TryClone> SharedMap<K, V> {
     }
 
     /// The map without the key, if it has it. It makes the nodes of one path anew, and at most two more for each to
-    /// keep the paths short. `NoMemory` as `put`.
+    /// keep the paths short.
+    ///
+    /// # Errors
+    ///
+    /// `NoMemory` where there is no room for the nodes or a key's or a value's copy, and where the count of a node's
+    /// owners is full.
     pub fn without(&self, alloc: Global, key: &K) -> Result<SharedMap<K, V>, Refusal>
         ensures { IsCopyOf result (without (K.code key.now) self.now) }
     {
@@ -104,7 +113,11 @@ impl<K: Key, V: TryClone> SharedMap<K, V> {
         })
     }
 
-    /// One more owner of the same map, whatever its size. `NoMemory` only where the count of its owners is full.
+    /// One more owner of the same map, whatever its size.
+    ///
+    /// # Errors
+    ///
+    /// `NoMemory` only where the count of its owners is full.
     pub fn copy(&self) -> Result<SharedMap<K, V>, Refusal>
         ensures { IsCopyOf result self.now }
     {
@@ -113,8 +126,8 @@ impl<K: Key, V: TryClone> SharedMap<K, V> {
         })
     }
 
-    /// How many nodes the longest path has, and so how many keys a look-up compares at most. The law of the height: it is
-    /// at most twice the logarithm of the number of entries, 29 at 16,384.
+    /// How many nodes the longest path has, and so how many keys a look-up compares at most. The law of the height: it
+    /// is at most twice the logarithm of the number of entries, 29 at 16,384.
     pub fn height(&self) -> u8
         ensures { 2 ^ (result / 2) ≤ length self.now + 1 }
     {

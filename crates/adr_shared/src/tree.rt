@@ -85,6 +85,10 @@ impl<K: Key, V: TryClone> Tree<K, V> {
     }
 
     /// One more owner of the same nodes.
+    ///
+    /// # Errors
+    ///
+    /// `NoMemory` only where the count of the root's owners is full.
     pub fn copy(&self) -> Result<Tree<K, V>, Refusal>
         ensures { IsCopyOf result self.now }
     {
@@ -175,7 +179,12 @@ impl<K: Key, V: TryClone> Tree<K, V> {
         }
     }
 
-    /// The tree with this value at the key.
+    /// The tree with this value at the key, in place of the key's old value if it has one.
+    ///
+    /// # Errors
+    ///
+    /// `NoMemory` where there is no room for the nodes of the path or what they copy, and where the count of the
+    /// entries or of a node's owners is full.
     pub fn put(&self, alloc: Global, key: K, value: V) -> Result<Tree<K, V>, Refusal>
         requires { IsAscending self.now.0 }
         ensures { IsEdited result (put (K.code key) value self.now.0) self.now.1 (self.now.1 + 1) }
@@ -193,7 +202,12 @@ impl<K: Key, V: TryClone> Tree<K, V> {
         }
     }
 
-    /// The tree without the key.
+    /// The tree without the key, if it has it.
+    ///
+    /// # Errors
+    ///
+    /// `NoMemory` where there is no room for the nodes of the path or what they copy, and where the count of a node's
+    /// owners is full.
     pub fn without(&self, alloc: Global, key: &K) -> Result<Tree<K, V>, Refusal>
         requires { IsAscending self.now.0 }
         ensures { IsEdited result (without (K.code key.now) self.now.0) (self.now.1 - 1) self.now.1 }
@@ -285,7 +299,7 @@ impl<K: Key, V: TryClone> Node<K, V> {
         fork(alloc, left, key, value, right)
     }
 
-    // The same with its own right side.
+    // As `fork`, with its own right side.
     fn fork_left(&self, alloc: Global, left: Tree<K, V>) -> Result<Tree<K, V>, Refusal>
         requires { DifferByAtMost 1 left.1 self.now.right.1 }
         ensures { IsCopyOf result (left.0 ++ (K.code self.now.key, self.now.value) ∷ self.now.right.0, max left.1 self.now.right.1 + 1) }
@@ -293,7 +307,7 @@ impl<K: Key, V: TryClone> Node<K, V> {
         self.fork(alloc, left, self.right.copy()?)
     }
 
-    // The same with its own left side.
+    // As `fork`, with its own left side.
     fn fork_right(&self, alloc: Global, right: Tree<K, V>) -> Result<Tree<K, V>, Refusal>
         requires { DifferByAtMost 1 self.now.left.1 right.1 }
         ensures { IsCopyOf result (self.now.left.0 ++ (K.code self.now.key, self.now.value) ∷ right.0, max self.now.left.1 right.1 + 1) }

@@ -195,11 +195,15 @@ fn after(start: Moment, span: &jiff_core::Span) -> Result<Moment, Refusal>
 }
 
 /// The end of what starts then and lasts that long: the sum on the calendar of UTC (ISO 8601,
-/// proleptic Gregorian), `TimeRange` outside the range of a `Moment`, and where the years of a
-/// negative length lead off the calendar before the rest is added.
+/// proleptic Gregorian).
 ///
 /// Years and months come first, and a month that has no such day takes its last; then weeks and
 /// days, of 24 hours each; then the rest.
+///
+/// # Errors
+///
+/// `TimeRange` where the sum is outside the range of a `Moment`, and where the years of a negative length lead off the
+/// calendar before the rest is added.
 pub fn end_of(start: Moment, length: &Length) -> Result<End, Refusal>
     ensures value { result ≡ end_after start length.now }
     ensures forward { NeedsOnlyItsSum start length.now }

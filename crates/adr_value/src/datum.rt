@@ -51,6 +51,10 @@ impl Datum {
     }
 
     /// A value equal to this one, which takes no growth, as `Text::copy`.
+    ///
+    /// # Errors
+    ///
+    /// `NoMemory` only for a text, where the count of its sharers is full.
     pub fn copy(&self) -> Result<Datum, Refusal>
         ensures { IsCopyOf result self.now }
     {
@@ -130,7 +134,11 @@ impl Shape {
 }
 
 impl PayloadType {
-    /// Ok where values have the shape of the type, else `BadShape`.
+    /// Judges the values of a payload of this type.
+    ///
+    /// # Errors
+    ///
+    /// `BadShape` where the values don't have the shape of the type.
     pub fn check(&self, values: &[Datum]) -> Result<(), Refusal>
         ensures { result ≡ (if has_shape (shape_of self.now) values.now then Ok tt else Err Refusal.BadShape) }
     {

@@ -1,5 +1,5 @@
-//! Exact decimals, the shield that keeps numbers exact through a reader of JSON, payload types and their values, and texts
-//! and lists whose contracts forget the memory behind them; and refusals, which every layer shares.
+//! Exact decimals, the shield that keeps numbers exact through a reader of JSON, payload types and their values, and
+//! texts and lists whose contracts forget the memory behind them; and refusals, which every layer shares.
 #![tactic(auto)]
 
 mod datum;

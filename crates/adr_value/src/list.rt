@@ -52,8 +52,8 @@ fn with_two<T: Drop>(mut items: Vec<T>, first: T, second: T) -> Vec<T>
     items
 }
 
-/// A list of at most `LIMIT` elements, which contracts see as its elements in order. A list of one takes no memory of its
-/// own.
+/// A list of at most `LIMIT` elements, which contracts see as its elements in order. A list of one takes no memory of
+/// its own.
 #[derive(Debug)]
 pub struct BoundedVec<T, const LIMIT: usize> {
     items: Items<T>,
@@ -107,8 +107,11 @@ impl<T: Drop, const LIMIT: usize> BoundedVec<T, LIMIT> {
         }
     }
 
-    /// Adds an element at the end: the first in place, and from the second on as a vector does. `NoMemory` where it can't
-    /// grow; then the list is as it was.
+    /// Adds an element at the end: the first in place, and from the second on as a vector does.
+    ///
+    /// # Errors
+    ///
+    /// `NoMemory` where the list can't grow; then it is as it was.
     pub fn push(&mut self, alloc: Global, item: T) -> Result<(), Refusal>
         requires { length self.old < LIMIT }
         ensures added { OnOk result (self.new ≡ self.old ++ item ∷ []) }
@@ -159,8 +162,12 @@ impl<T: Drop, const LIMIT: usize> BoundedVec<T, LIMIT> {
 }
 
 impl<T: TryClone, const LIMIT: usize> BoundedVec<T, LIMIT> {
-    /// A list equal to this one, with a copy of each element. `NoMemory` where there is no room for it: one
-    /// growth for a list of more than one element, and what the copies of the elements take.
+    /// A list equal to this one, with a copy of each element: one growth for a list of more than one element, and what
+    /// the copies of the elements take.
+    ///
+    /// # Errors
+    ///
+    /// `NoMemory` where there is no room for the list, or an element's copy is refused.
     pub fn copy(&self) -> Result<BoundedVec<T, LIMIT>, Refusal>
         ensures { IsCopyOf result self.now }
     {

@@ -70,7 +70,11 @@ impl PrivateName {
         self.name.as_str()
     }
 
-    /// The same name, which takes no growth, as `Text::copy`.
+    /// A copy that shares this name's memory, and takes no growth.
+    ///
+    /// # Errors
+    ///
+    /// `NoMemory` only where the count of its sharers is full.
     pub fn copy(&self) -> Result<PrivateName, Refusal>
         ensures { IsCopyOf result self.now }
     {
@@ -81,48 +85,85 @@ impl PrivateName {
 }
 
 /// The type of a payload: one of the 34 of the table, in the table's order, or a private one.
+///
+/// What each says is that of OpenADR 3.0 (Definition, event payload types); only `shape` is checked of the values. The
+/// units and the currency of an amount are those of the program's or the event's payload descriptors.
 #[derive(Debug)]
 pub enum PayloadType {
+    /// `SIMPLE`: the level of a basic demand response signal, 0 to 3, where 0 is none.
     Simple,
+    /// `PRICE`: the price of energy.
     Price,
+    /// `CHARGE_STATE_SETPOINT`: the state of charge that a storage is to have.
     ChargeStateSetpoint,
+    /// `DISPATCH_SETPOINT`: how much a resource is to consume.
     DispatchSetpoint,
+    /// `DISPATCH_SETPOINT_RELATIVE`: how much more a resource is to consume than now, or less if below zero.
     DispatchSetpointRelative,
+    /// `CONTROL_SETPOINT`: a setting whose meaning the resource knows.
     ControlSetpoint,
+    /// `EXPORT_PRICE`: the price of energy that is given to the grid.
     ExportPrice,
+    /// `GHG`: an estimate of the marginal emissions of greenhouse gases.
     Ghg,
+    /// `CURVE`: points of a curve, such as volts against reactive power.
     Curve,
+    /// `OLS`: the optimum load shape, each interval's part of the usage, 0 to 1.
     Ols,
+    /// `IMPORT_CAPACITY_SUBSCRIPTION`: how much power a customer subscribed to take from the grid.
     ImportCapacitySubscription,
+    /// `IMPORT_CAPACITY_RESERVATION`: how much power to take was granted beyond the subscription.
     ImportCapacityReservation,
+    /// `IMPORT_CAPACITY_RESERVATION_FEE`: what it costs to reserve more power to take.
     ImportCapacityReservationFee,
+    /// `IMPORT_CAPACITY_AVAILABLE`: how much more power to take may be reserved.
     ImportCapacityAvailable,
+    /// `IMPORT_CAPACITY_AVAILABLE_PRICE`: the price of the power to take that may be reserved.
     ImportCapacityAvailablePrice,
+    /// `EXPORT_CAPACITY_SUBSCRIPTION`: how much power a customer subscribed to give to the grid.
     ExportCapacitySubscription,
+    /// `EXPORT_CAPACITY_RESERVATION`: how much power to give was granted beyond the subscription.
     ExportCapacityReservation,
+    /// `EXPORT_CAPACITY_RESERVATION_FEE`: what it costs to reserve more power to give.
     ExportCapacityReservationFee,
+    /// `EXPORT_CAPACITY_AVAILABLE`: how much more power to give may be reserved.
     ExportCapacityAvailable,
+    /// `EXPORT_CAPACITY_AVAILABLE_PRICE`: the price of the power to give that may be reserved.
     ExportCapacityAvailablePrice,
+    /// `IMPORT_CAPACITY_LIMIT`: the most power that a site may take from the grid.
     ImportCapacityLimit,
+    /// `EXPORT_CAPACITY_LIMIT`: the most power that a site may give to the grid.
     ExportCapacityLimit,
+    /// `ALERT_GRID_EMERGENCY`: the grid may soon fail to supply some customers, told in words.
     AlertGridEmergency,
+    /// `ALERT_BLACK_START`: the grid is on its way back to normal operation.
     AlertBlackStart,
+    /// `ALERT_POSSIBLE_OUTAGE`: customers may lose the supply of the grid.
     AlertPossibleOutage,
+    /// `ALERT_FLEX_ALERT`: supply is scarce, and load is to move to other times.
     AlertFlexAlert,
+    /// `ALERT_FIRE`: there is a risk of fire, which may interrupt the supply.
     AlertFire,
+    /// `ALERT_FREEZING`: it is, or will be, so cold as to be of concern.
     AlertFreezing,
+    /// `ALERT_WIND`: there is, or will be, wind so strong as to be of concern.
     AlertWind,
+    /// `ALERT_TSUNAMI`: waves are expected that damage the coast.
     AlertTsunami,
+    /// `ALERT_AIR_QUALITY`: the air is, or will be, so bad as to be of concern.
     AlertAirQuality,
+    /// `ALERT_OTHER`: an alert of none of these kinds, told in words.
     AlertOther,
+    /// `CTA2045_REBOOT`: passed to a device of CTA-2045, which restarts: 0 soft, 1 hard.
     Cta2045Reboot,
+    /// `CTA2045_SET_OVERRIDE_STATUS`: passed to a device of CTA-2045: 0 for no override, 1 for one.
     Cta2045SetOverrideStatus,
     /// A type with a name that the table hasn't.
     Private(PrivateName),
 }
 
-/// The table of payload types, in three parts. `payload_table!(WHAT (ARGUMENTS))` makes the match of WHAT from its rows,
-/// `payload_table!(@PART [@WHAT (ARGUMENTS)])` that of the rows of a part.
+/// The table of payload types, in three parts. `payload_table!(WHAT (ARGUMENTS))` makes the match of WHAT from its
+/// rows, `payload_table!(@PART [@WHAT (ARGUMENTS)])` that of the rows of a part.
 macro_rules! payload_table {
     (@type_of ($text:expr) $([$($case:ident $code:literal $name:literal $shape:ident,)*])*) => {
         match $text {
@@ -233,8 +274,11 @@ impl Drop for PayloadType {
 impl PayloadType {
     ghost use Rattle.adr_value.specs.Payload.{name_of, code_of, of_code, shape_of};
 
-    /// The type of a name; case counts. `BadText` for a name that has not 1 to 128 characters, `NoMemory` where
-    /// there is no room for a private one.
+    /// The type of a name; case counts. A name that the table hasn't is that of a private type.
+    ///
+    /// # Errors
+    ///
+    /// `BadText` for a name that has not 1 to 128 characters; `NoMemory` where there is no room for a private one.
     pub fn type_of(alloc: Global, text: &str) -> Result<PayloadType, Refusal>
         ensures { Answers result (type_named text.now) }
     {
@@ -289,7 +333,11 @@ impl PayloadType {
         payload_table!(shape(self))
     }
 
-    /// The same type, which takes no growth, as `Text::copy`.
+    /// A type equal to this one, which takes no growth: a private name shares its memory.
+    ///
+    /// # Errors
+    ///
+    /// `NoMemory` only for a private type, where the count of its name's sharers is full.
     pub fn copy(&self) -> Result<PayloadType, Refusal>
         ensures { IsCopyOf result self.now }
     {

@@ -33,7 +33,11 @@ impl Model for Text {
 }
 
 impl Text {
-    /// The text with these characters. `NoMemory` where there is no room for them.
+    /// The text with these characters.
+    ///
+    /// # Errors
+    ///
+    /// `NoMemory` where there is no room for them.
     pub fn new(alloc: Global, text: &str) -> Result<Text, Refusal>
         ensures { IsCopyOf result text.now }
     {
@@ -49,7 +53,11 @@ impl Text {
         self.text.as_str()
     }
 
-    /// The same text, which takes no growth. `NoMemory` only where the count of its sharers is full.
+    /// A copy that shares this text's memory, and takes no growth.
+    ///
+    /// # Errors
+    ///
+    /// `NoMemory` only where the count of its sharers is full.
     pub fn copy(&self) -> Result<Text, Refusal>
         ensures { IsCopyOf result self.now }
     {
@@ -108,7 +116,11 @@ impl Name {
         char_count(text) <= 128
     }
 
-    /// The name with these characters. `NoMemory` where there is no room for them.
+    /// The name with these characters.
+    ///
+    /// # Errors
+    ///
+    /// `NoMemory` where there is no room for them.
     pub fn new(alloc: Global, text: &str) -> Result<Name, Refusal>
         requires { IsTrue (is_name text.now) }
         ensures { IsCopyOf result text.now }
@@ -126,7 +138,11 @@ impl Name {
         self.text.as_str()
     }
 
-    /// The same name, which takes no growth, as `Text::copy`.
+    /// A copy that shares this name's memory, and takes no growth.
+    ///
+    /// # Errors
+    ///
+    /// `NoMemory` only where the count of its sharers is full.
     pub fn copy(&self) -> Result<Name, Refusal>
         ensures { IsCopyOf result self.now }
     {
