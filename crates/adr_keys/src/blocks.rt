@@ -108,7 +108,7 @@ impl Blocks {
         Ok(set)
     }
 
-    /// The blocks.
+    /// The blocks, a bit for each of their places.
     pub(crate) fn as_slice(&self) -> &[Block]
         ensures { result.now ≡ self.now }
     {

@@ -34,7 +34,7 @@ impl Row {
         Row { keys }
     }
 
-    /// The keys.
+    /// The keys, in the order in which the row was given them.
     pub fn keys(&self) -> &[Key]
         ensures { result.now ≡ self.now }
     {

@@ -51,6 +51,10 @@ pub trait Machine {
     ///
     /// The line has at most 4,194,304 bytes and no line feed, and has lost one carriage return at
     /// its end. The room is to stay: `reply` may be cleared and grown, but not replaced by less.
+    ///
+    /// # Errors
+    ///
+    /// Each [`Unanswered`], and the machine is as it was then; `NoRuntime` only from one that may halt.
     fn answer<H: AllocGlobal + Threads + Wait>(
         &mut self,
         rt: &H,

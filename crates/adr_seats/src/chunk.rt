@@ -50,7 +50,7 @@ impl Chunk {
         })
     }
 
-    /// The numbers.
+    /// The numbers, shared or not.
     pub(crate) fn numbers(&self) -> &[u32]
         ensures { result.now ≡ self.now.1 }
     {

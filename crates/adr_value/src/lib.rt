@@ -4,6 +4,7 @@
 
 mod datum;
 mod decimal;
+/// How much of each kind a book, a journal and a board hold at most.
 pub mod limits;
 mod list;
 mod parts;

@@ -90,7 +90,7 @@ impl PrivateName {
 /// units and the currency of an amount are those of the program's or the event's payload descriptors.
 #[derive(Debug)]
 pub enum PayloadType {
-    /// `SIMPLE`: the level of a basic demand response signal, 0 to 3, where 0 is none.
+    /// `SIMPLE`: the level of a basic demand response signal, 0 to 3, where 0 is normal operation.
     Simple,
     /// `PRICE`: the price of energy.
     Price,
