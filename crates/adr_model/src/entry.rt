@@ -4,7 +4,9 @@ use adr_time::Span;
 /// Where an interval lies in time, and its place in its event.
 #[derive(Clone, Copy)]
 pub struct Placed {
+    /// From its start up to its end, which it doesn't cover; of no length where no duration is given.
     pub span: Span,
+    /// Where it stands in the event's list, counted from 0.
     pub place: u32,
 }
 
@@ -34,6 +36,8 @@ pub struct Rank {
 /// An interval that carries a payload type, as it competes for a timeline.
 #[derive(Clone, Copy)]
 pub struct Entry {
+    /// What decides between it and others; its `written` and `place` name the interval.
     pub rank: Rank,
+    /// The stretch of time in which it competes; one that covers nothing never governs.
     pub span: Span,
 }

@@ -70,8 +70,9 @@ pub fn books_are_within_limits()
     ensures after { BooksAreWithin }
 {}
 
-/// The law of how many entries compete. The limit counts an event's intervals, each with each of its payload types once;
-/// so of distinct types the event has no more entries than that, and of one type events have no more than all theirs.
+/// The law of how many entries compete. The limit counts an event's intervals, each with each of its payload types
+/// once; so of distinct types the event has no more entries than that, and of one type events have no more than all
+/// theirs.
 pub fn entries_are_counted()
     ensures types { TypesAreCounted }
     ensures entries { EntriesAreCounted }

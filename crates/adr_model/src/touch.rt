@@ -5,8 +5,11 @@ use adr_value::PayloadType;
 
 /// A stretch of time in which an edit may have changed what governs a resource and a payload type.
 pub struct Touch {
+    /// Which resource it is about.
     pub resource: Id,
+    /// For which payload type something else may govern.
     pub kind: PayloadType,
+    /// The span of an interval that went or came, which covers some moment.
     pub window: Span,
 }
 

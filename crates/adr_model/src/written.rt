@@ -3,7 +3,9 @@ use adr_object::Event;
 
 /// An event, and the number of the accepted edit that last wrote it.
 pub struct Written {
+    /// The event as that edit left it.
     pub event: Event,
+    /// The version that the edit made, at least 1; no two events of a book have one number.
     pub written: u64,
 }
 

@@ -58,7 +58,11 @@ impl Id {
         1 <= length && length <= 128 && are_id_bytes(text.as_bytes())
     }
 
-    /// The id that a word spells. `BadId` where it spells none, `NoMemory` where there is no room for it.
+    /// The id that a word spells.
+    ///
+    /// # Errors
+    ///
+    /// `BadId` where it spells none, `NoMemory` where there is no room for it.
     pub fn read(alloc: Global, text: &str) -> Result<Id, Refusal>
         ensures { Answers result (id_named text.now) }
     {
@@ -68,7 +72,11 @@ impl Id {
         Id::new(alloc, text)
     }
 
-    /// The id with these characters. `NoMemory` where there is no room for them.
+    /// The id with these characters.
+    ///
+    /// # Errors
+    ///
+    /// `NoMemory` where there is no room for them.
     pub fn new(alloc: Global, text: &str) -> Result<Id, Refusal>
         requires { IsTrue (is_id text.now) }
         ensures { IsCopyOf result text.now }
@@ -93,7 +101,11 @@ impl Id {
         self.text() == other.text()
     }
 
-    /// The same id, which takes no growth. `NoMemory` only where the count of its owners is full.
+    /// A copy that shares its characters, and takes no growth.
+    ///
+    /// # Errors
+    ///
+    /// `NoMemory`, only where the count of its owners is full.
     pub fn copy(&self) -> Result<Id, Refusal>
         ensures { IsCopyOf result self.now }
     {

@@ -12,26 +12,37 @@ use adr_value::{Refusal, TryClone};
 /// The kinds of object that a server holds.
 #[derive(Clone, Copy, Debug, PartialEq, Eq)]
 pub enum Kind {
+    /// What groups events, and has targets for all of them.
     Program,
+    /// Intervals in time for the resources that its targets match.
     Event,
+    /// A client of the server, which may have resources.
     Ven,
+    /// A device or site of a ven, which intervals govern.
     Resource,
 }
 
 /// An object of any kind. All its copies are one object, which stands in memory once.
 #[derive(Drop)]
 pub enum Object {
+    /// One that events name by its id.
     Program(Shared<Program>),
+    /// One that names its program by its id.
     Event(Shared<Event>),
+    /// One that resources name by its id.
     Ven(Shared<Ven>),
+    /// One that names its ven by its id.
     Resource(Shared<Resource>),
 }
 
 /// One change of what the server holds. A change puts a whole object in the place of the one with its id.
 #[derive(Drop)]
 pub enum Edit {
+    /// Adds an object whose id none of its kind has; it goes last among them.
     Create(Object),
+    /// Puts an object in the place of the one of its kind with its id.
     Change(Object),
+    /// Takes out the one of that kind with that id, which no other object may name.
     Remove(Kind, Id),
 }
 
@@ -60,7 +71,11 @@ impl Object {
         }
     }
 
-    /// The same object, which takes no growth. `NoMemory` only where the count of its owners is full.
+    /// A copy that is one object with this, and takes no growth.
+    ///
+    /// # Errors
+    ///
+    /// `NoMemory`, only where the count of its owners is full.
     pub fn copy(&self) -> Result<Object, Refusal>
         ensures { IsCopyOf result self.now }
     {
@@ -74,8 +89,11 @@ impl Object {
 }
 
 impl Edit {
-    /// The same edit, which shares its object or its id and takes no growth. `NoMemory` only where the count of their
-    /// owners is full.
+    /// A copy that shares the edit's object or its id, and takes no growth.
+    ///
+    /// # Errors
+    ///
+    /// `NoMemory`, only where the count of their owners is full.
     pub fn copy(&self) -> Result<Edit, Refusal>
         ensures { IsCopyOf result self.now }
     {

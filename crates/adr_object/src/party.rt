@@ -7,8 +7,11 @@ use adr_value::{BoundedVec, Name, Refusal, TryClone};
 
 /// What a group of events belongs to (OpenADR 3.0 Definition, program). Its targets bind all of its events.
 pub struct Program {
+    /// What edits and the program's events name it by.
     pub id: Id,
+    /// What targets of the type `PROGRAM_NAME` ask for.
     pub program_name: Name,
+    /// Which resources the program is for; an empty list is for all.
     pub targets: BoundedVec<Target, 64>,
 }
 
@@ -28,8 +31,11 @@ impl Drop for Program {
 
 /// A client of the server (OpenADR 3.0 Definition, ven). Its targets count for all of its resources.
 pub struct Ven {
+    /// What edits and the ven's resources name it by.
     pub id: Id,
+    /// What targets of the type `VEN_NAME` ask for.
     pub ven_name: Name,
+    /// What the targets of events and programs find its resources by, beside the names.
     pub targets: BoundedVec<Target, 64>,
 }
 
@@ -49,9 +55,13 @@ impl Drop for Ven {
 
 /// A device or site of a ven (OpenADR 3.0 Definition, resource).
 pub struct Resource {
+    /// What edits and queries name the resource by.
     pub id: Id,
+    /// What targets of the type `RESOURCE_NAME` ask for.
     pub resource_name: Name,
+    /// Which ven the resource belongs to, whose targets count for it too.
     pub ven_id: Id,
+    /// What the targets of events and programs find it by, beside the names.
     pub targets: BoundedVec<Target, 64>,
 }
 
@@ -72,7 +82,11 @@ impl Drop for Resource {
 }
 
 impl Program {
-    /// A program equal to this one. `NoMemory` where there is no room. Cost: a copy of all it has.
+    /// A program equal to this one. Cost: a copy of all it has.
+    ///
+    /// # Errors
+    ///
+    /// `NoMemory` where there is no room for it.
     pub fn copy(&self) -> Result<Program, Refusal>
         ensures { IsCopyOf result self.now }
     {
@@ -91,7 +105,11 @@ impl TryClone for Program {
 }
 
 impl Ven {
-    /// A ven equal to this one. `NoMemory` where there is no room. Cost: a copy of all it has.
+    /// A ven equal to this one. Cost: a copy of all it has.
+    ///
+    /// # Errors
+    ///
+    /// `NoMemory` where there is no room for it.
     pub fn copy(&self) -> Result<Ven, Refusal>
         ensures { IsCopyOf result self.now }
     {
@@ -110,7 +128,11 @@ impl TryClone for Ven {
 }
 
 impl Resource {
-    /// A resource equal to this one. `NoMemory` where there is no room. Cost: a copy of all it has.
+    /// A resource equal to this one. Cost: a copy of all it has.
+    ///
+    /// # Errors
+    ///
+    /// `NoMemory` where there is no room for it.
     pub fn copy(&self) -> Result<Resource, Refusal>
         ensures { IsCopyOf result self.now }
     {
