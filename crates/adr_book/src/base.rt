@@ -90,7 +90,7 @@ impl Base {
         (self.version() + MOST_EDITS).min(MOST_VERSION)
     }
 
-    /// The same base, which shares its objects. `NoMemory` only where the count of its owners is full.
+    /// A copy that shares its objects. `NoMemory` only where the count of its owners is full.
     pub(crate) fn copy(&self) -> Result<Base, Refusal>
         ensures { IsCopyOf result self.now }
     {

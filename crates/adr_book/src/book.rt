@@ -216,8 +216,12 @@ impl Book {
         &self.journal
     }
 
-    /// Makes an edit that `judge` accepts, and answers the version. `NoMemory` leaves all as it was. Cost: some paths
-    /// in trees; the edit's object is kept and not copied, and an event's entries are counted.
+    /// Makes an edit that `judge` accepts, and answers the version. Cost: some paths in trees; the edit's object is
+    /// kept and not copied, and an event's entries are counted.
+    ///
+    /// # Errors
+    ///
+    /// `NoMemory` where there is no room; then all is as it was.
     pub fn commit(&mut self, edit: Edit) -> Result<u64, Refusal>
         requires { IsOk (step_to (full_at self.old.base.version) self.old.objects edit) }
         ensures objects { OnOk result (step_to (full_at self.old.base.version) self.old.objects edit ≡ Ok self.new.objects) }
@@ -235,8 +239,11 @@ impl Book {
         Ok(self.objects.version())
     }
 
-    /// Closes the open batch of the journal, also an empty one. `NoMemory` leaves all as it was. Cost: a path in the tree
-    /// of the closed batches.
+    /// Closes the open batch of the journal, also an empty one. Cost: a path in the tree of the closed batches.
+    ///
+    /// # Errors
+    ///
+    /// `NoMemory` where there is no room for the batch; then all is as it was.
     pub fn seal(&mut self) -> Result<(), Refusal>
         ensures base { self.new.base ≡ self.old.base }
         ensures objects { self.new.objects ≡ self.old.objects }
@@ -250,9 +257,12 @@ impl Book {
     }
 
     /// Makes the objects of `at` the base, lets the closed batches go and answers the base's version. `at` has the
-    /// objects that the base and the closed batches lead to, as a copy made when the last of them was closed.
-    /// `NoMemory` leaves all as it was. Cost: the same whatever the book holds, and letting the old batches and what the
-    /// old base alone holds go.
+    /// objects that the base and the closed batches lead to, as a copy made when the last of them was closed. Cost: the
+    /// same whatever the book holds, and letting the old batches and what the old base alone holds go.
+    ///
+    /// # Errors
+    ///
+    /// `NoMemory` where there is no room for the base; then all is as it was.
     pub fn condense(&mut self, at: &Book) -> Result<u64, Refusal>
         requires { at.now.objects ≡ sealed_of self.old }
         ensures base { OnOk result (self.new.base ≡ at.now.objects) }
@@ -269,8 +279,11 @@ impl Book {
         Ok(self.base.version())
     }
 
-    /// A book equal to this one, which shares its base, objects and edits, whatever their number. `NoMemory` only where a
-    /// share is refused.
+    /// A book equal to this one, which shares its base, objects and edits, whatever their number.
+    ///
+    /// # Errors
+    ///
+    /// `NoMemory`, only where a share is refused.
     pub fn copy(&self) -> Result<Book, Refusal>
         ensures { IsCopyOf result self.now }
     {
@@ -283,10 +296,13 @@ impl Book {
     }
 }
 
-/// Whether the book accepts the edit, or the least of its faults: of a written event's layout `NoStart`,
-/// `AfterEndless` or `TimeRange`; `Exists`, `NotThere`; `NoProgram`, `NoVen`; `InUse`; `Full` where the edits since the
-/// base, the version, the objects of a created kind or the entries are at their limit. `NoMemory` where there is no room
-/// to lay out the event. Cost: the edit's size.
+/// Whether the book accepts the edit. Cost: the edit's size.
+///
+/// # Errors
+///
+/// The least of the edit's faults: of a written event's layout `NoStart`, `AfterEndless` or `TimeRange`; `Exists`,
+/// `NotThere`; `NoProgram`, `NoVen`; `InUse`; `Full` where the edits since the base, the version, the objects of a
+/// created kind or the entries are at their limit. `NoMemory` where there is no room to lay out the event.
 pub fn judge(book: &Book, edit: &Edit) -> Result<(), Refusal>
     ensures { Answers (result_map (λ _. made book.now.objects edit.now) result) (step_to (full_at book.now.base.version) book.now.objects edit.now) }
 {
@@ -294,7 +310,11 @@ pub fn judge(book: &Book, edit: &Edit) -> Result<(), Refusal>
     Ok(())
 }
 
-/// The edit where the book accepts it, with the layout that judging it computed; else what `judge` answers.
+/// The edit where the book accepts it, with the layout that judging it computed. Cost: the edit's size.
+///
+/// # Errors
+///
+/// As of [`judge`].
 pub fn judged(book: &Book, edit: Edit) -> Result<Judged, Refusal>
     ensures answer { Answers (result_map (λ _. made book.now.objects edit) result) (step_to (full_at book.now.base.version) book.now.objects edit) }
     ensures edit { IfOk result (λ judged. judged ≡ edit) }

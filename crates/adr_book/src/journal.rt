@@ -108,8 +108,8 @@ impl Journal {
         })
     }
 
-    /// Closes the open batch. `NoMemory` leaves all as it was. Cost: a path in the tree of the batches, whatever the batch
-    /// holds.
+    /// Closes the open batch. `NoMemory` leaves all as it was. Cost: a path in the tree of the batches, whatever the
+    /// batch holds.
     pub(crate) fn seal(&mut self, alloc: Global) -> Result<(), Refusal>
         ensures closed { OnOk result (self.new.closed ≡ self.old.closed ++ self.old.pending ∷ []) }
         ensures pending { OnOk result (self.new.pending ≡ []) }

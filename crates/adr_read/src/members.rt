@@ -68,7 +68,7 @@ pub(crate) trait Members: Sized + Drop {
     /// They are what that object has, in an edit at that moment.
     ghost are_of: { ℤ → Self → Data → Type 0 };
 
-    /// The same members, none of which was met yet.
+    /// Members of the names of these, none of which was met yet.
     fn anew(&self) -> Self
         ensures names { names result ≡ names self.now }
         ensures fresh { (moment : ℤ) → are_of moment result (object no_members) };

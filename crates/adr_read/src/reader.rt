@@ -41,7 +41,11 @@ impl BodyReader {
         }
     }
 
-    /// As `read_program`.
+    /// What `read_program` answers, in the memory that is kept where the body is at most 65,536 bytes long.
+    ///
+    /// # Errors
+    ///
+    /// Those of `read_program`.
     pub fn program(
         &mut self,
         alloc: Global,
@@ -57,7 +61,11 @@ impl BodyReader {
         }
     }
 
-    /// As `read_event`.
+    /// What `read_event` answers, in the memory that is kept where the body is at most 65,536 bytes long.
+    ///
+    /// # Errors
+    ///
+    /// Those of `read_event`.
     pub fn event(
         &mut self,
         alloc: Global,
@@ -73,7 +81,11 @@ impl BodyReader {
         }
     }
 
-    /// As `read_ven`.
+    /// What `read_ven` answers, in the memory that is kept where the body is at most 65,536 bytes long.
+    ///
+    /// # Errors
+    ///
+    /// Those of `read_ven`.
     pub fn ven(&mut self, alloc: Global, body: &[u8], id: &Id, now: Moment) -> Result<Ven, Refusal>
         ensures { Answers result (ven_named body.now id.now) }
     {
@@ -83,7 +95,11 @@ impl BodyReader {
         }
     }
 
-    /// As `read_resource`.
+    /// What `read_resource` answers, in the memory that is kept where the body is at most 65,536 bytes long.
+    ///
+    /// # Errors
+    ///
+    /// Those of `read_resource`.
     pub fn resource(
         &mut self,
         alloc: Global,

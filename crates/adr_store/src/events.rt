@@ -18,8 +18,8 @@ use adr_value::limits::{MOST_ENTRIES, MOST_EVENTS};
 use std::alloc::Global;
 use std::marker::Model;
 
-/// The events in order of creation, each with the number of the edit that last wrote it. No edit changes them: it answers
-/// new ones, which share with the old all but some paths.
+/// The events in order of creation, each with the number of the edit that last wrote it. No edit changes them: it
+/// answers new ones, which share with the old all but some paths.
 #[derive(Drop)]
 pub(crate) struct Events {
     table: Table<Kept>,
@@ -181,7 +181,7 @@ impl Events {
         })
     }
 
-    /// The same events, which share their memory.
+    /// A copy that shares their memory, whatever their number.
     pub(crate) fn copy(&self) -> Result<Events, Refusal>
         ensures { IsCopyOf result self.now }
     {

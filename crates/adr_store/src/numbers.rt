@@ -37,7 +37,11 @@ impl Numbers {
         }
     }
 
-    /// The numbers with one more event. `NoMemory` where there is no room for it.
+    /// The numbers with one more event.
+    ///
+    /// # Errors
+    ///
+    /// `NoMemory` where there is no room for it.
     pub fn with(&self, alloc: Global, event: &Kept) -> Result<Numbers, Refusal>
         requires bound { times self.now.named.counts event.now.event.program_id < 2 ^ 32 }
         requires entries { self.now.entries + entry_count event.now.event ≤ MOST_ENTRIES }
@@ -53,7 +57,11 @@ impl Numbers {
         })
     }
 
-    /// The numbers without an event. `NoMemory` where there is no room for them.
+    /// The numbers without an event.
+    ///
+    /// # Errors
+    ///
+    /// `NoMemory` where there is no room for them.
     pub fn without(&self, alloc: Global, event: &Kept) -> Result<Numbers, Refusal>
         requires named { 0 < times self.now.named.counts event.now.event.program_id }
         requires entries { entry_count event.now.event ≤ self.now.entries }
@@ -69,7 +77,11 @@ impl Numbers {
         })
     }
 
-    /// The same numbers, which share their memory.
+    /// A copy that shares their memory, whatever the number of events.
+    ///
+    /// # Errors
+    ///
+    /// `NoMemory`, only where the count of its owners is full.
     pub fn copy(&self) -> Result<Numbers, Refusal>
         ensures { IsCopyOf result self.now }
     {

@@ -130,7 +130,7 @@ impl Resources {
         })
     }
 
-    /// The same resources, which share their memory.
+    /// A copy that shares their memory, whatever their number.
     pub(crate) fn copy(&self) -> Result<Resources, Refusal>
         ensures { IsCopyOf result self.now }
     {

@@ -395,9 +395,13 @@ impl Store {
         }
     }
 
-    /// Makes an edit that the definition accepts, of objects that such edits left. `NoMemory` leaves all as it was. Cost:
-    /// at most five paths in trees, of some 15 nodes each at 16,384 objects, and of an event a count of its entries; the
-    /// edit's object is kept and not copied.
+    /// Makes an edit that the definition accepts, of objects that such edits left. Cost: at most five paths in trees,
+    /// of some 15 nodes each at 16,384 objects, and of an event a count of its entries; the edit's object is kept and
+    /// not copied.
+    ///
+    /// # Errors
+    ///
+    /// `NoMemory` where there is no room; then all is as it was.
     pub fn make(&mut self, edit: Edit) -> Result<(), Refusal>
         requires accepted { IsOk (step self.old edit) }
         requires whole { IsWhole self.old }
@@ -412,8 +416,11 @@ impl Store {
         }
     }
 
-    /// The same objects, which share their memory, whatever their number. `NoMemory` only where the count of the owners
-    /// is full.
+    /// A copy that shares the objects' memory, whatever their number.
+    ///
+    /// # Errors
+    ///
+    /// `NoMemory`, only where the count of the owners is full.
     pub fn copy(&self) -> Result<Store, Refusal>
         ensures { IsCopyOf result self.now }
     {

@@ -95,8 +95,11 @@ impl<T: Keyed + TryClone> Table<T> {
         }
     }
 
-    /// The table with one more value, which goes last. `NoMemory` where there is no room for it, and after
-    /// 18,446,744,073,709,551,615 values.
+    /// The table with one more value, which goes last.
+    ///
+    /// # Errors
+    ///
+    /// `NoMemory` where there is no room for it, and after 18,446,744,073,709,551,615 values.
     pub fn with_new(&self, value: T) -> Result<Table<T>, Refusal>
         requires { find_by T.key self.now (T.key value) ≡ None }
         ensures { IsCopyOf result (self.now ++ value ∷ []) }
@@ -113,7 +116,11 @@ impl<T: Keyed + TryClone> Table<T> {
         })
     }
 
-    /// The table with the value in the place of the one with its id. `NoMemory` where there is no room for it.
+    /// The table with the value in the place of the one with its id.
+    ///
+    /// # Errors
+    ///
+    /// `NoMemory` where there is no room for it.
     pub fn with_changed(&self, value: T) -> Result<Table<T>, Refusal>
         requires { IsSome (find_by T.key self.now (T.key value)) }
         ensures { IsCopyOf result (put_by T.key self.now value) }
@@ -129,8 +136,11 @@ impl<T: Keyed + TryClone> Table<T> {
         })
     }
 
-    /// The table without the value with the id; the values after it move up. `NoMemory` where there is no room for the
-    /// new paths.
+    /// The table without the value with the id; the values after it move up.
+    ///
+    /// # Errors
+    ///
+    /// `NoMemory` where there is no room for the new paths.
     pub fn without(&self, id: &Id) -> Result<Table<T>, Refusal>
         ensures { IsCopyOf result (without T.key self.now id.now) }
     {
@@ -145,7 +155,11 @@ impl<T: Keyed + TryClone> Table<T> {
         }
     }
 
-    /// The same table, which shares its memory, whatever its size.
+    /// A copy that shares its memory, whatever its size.
+    ///
+    /// # Errors
+    ///
+    /// `NoMemory`, only where the count of its owners is full.
     pub fn copy(&self) -> Result<Table<T>, Refusal>
         ensures { IsCopyOf result self.now }
     {

@@ -36,7 +36,11 @@ impl Tally {
         }
     }
 
-    /// The tally with the id added once more. `NoMemory` where there is no room for it.
+    /// The tally with the id added once more.
+    ///
+    /// # Errors
+    ///
+    /// `NoMemory` where there is no room for it.
     pub fn with(&self, alloc: Global, id: &Id) -> Result<Tally, Refusal>
         requires { times self.now.counts id.now < 2 ^ 32 }
         ensures counts { IfOk result (λ tally. (other : List ℕ) → times tally.counts other ≡ times self.now.counts other + one_if (bytes_eq other id.now)) }
@@ -48,7 +52,11 @@ impl Tally {
         })
     }
 
-    /// The tally with the id taken out once. `NoMemory` where there is no room for it.
+    /// The tally with the id taken out once.
+    ///
+    /// # Errors
+    ///
+    /// `NoMemory` where there is no room for it.
     pub fn without(&self, alloc: Global, id: &Id) -> Result<Tally, Refusal>
         requires { 0 < times self.now.counts id.now }
         ensures counts { IfOk result (λ tally. (other : List ℕ) → times tally.counts other + one_if (bytes_eq other id.now) ≡ times self.now.counts other) }
@@ -65,7 +73,11 @@ impl Tally {
         })
     }
 
-    /// The same tally, which shares its memory.
+    /// A copy that shares its memory, whatever the number of ids.
+    ///
+    /// # Errors
+    ///
+    /// `NoMemory`, only where the count of its owners is full.
     pub fn copy(&self) -> Result<Tally, Refusal>
         ensures { IsCopyOf result self.now }
     {
