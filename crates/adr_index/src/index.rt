@@ -31,8 +31,8 @@ use std::marker::Model;
 ///
 /// They lie in chunks of at most 64. An edit goes to one chunk for each entry, found by halving or behind the last one,
 /// and writes what the tree of greatest ends has from the first chunk that it changed to the last. Where a chunk is
-/// parted or emptied, all of the tree is written anew, a step for each chunk: n/48 of them where an index of n entries is
-/// filled at once. A chunk that loses entries is not put together with others.
+/// parted or emptied, all of the tree is written anew, a step for each chunk: n/48 of them where an index of n entries
+/// is filled at once. A chunk that loses entries is not put together with others.
 pub struct Index {
     table: Table,
     tops: Vec<Reach>,
@@ -86,8 +86,8 @@ fn write(chunks: &[Chunk], tops: &mut [Reach], stretch: Stretch)
     let _ = rebuild_chunks(levels, stretch.from, stretch.to, chunks, tops);
 }
 
-/// Writes the tree over the one chunk of the stretch, where the next one lies far behind it, and answers what is left to be
-/// written.
+/// Writes the tree over the one chunk of the stretch, where the next one lies far behind it, and answers what is left
+/// to be written.
 fn write_far(chunks: &[Chunk], tops: &mut [Reach], stretch: Stretch, is_far: bool) -> Stretch
     requires chunks { AreChunks chunks.now }
     requires lengths { length chunks.now ≤ length tops.old + 1 }
@@ -101,8 +101,8 @@ fn write_far(chunks: &[Chunk], tops: &mut [Reach], stretch: Stretch, is_far: boo
     Stretch::none()
 }
 
-/// Whether the entries lie so far apart, if they are in order, that the tree over the chunks is written sooner along the
-/// paths to theirs than from the first of these to the last.
+/// Whether the entries lie so far apart, if they are in order, that the tree over the chunks is written sooner along
+/// the paths to theirs than from the first of these to the last.
 fn are_far(chunks: &[Chunk], entries: &[Entry]) -> bool
     requires chunks { AreChunks chunks.now }
     requires order { IsOrdered (all_listed chunks.now) }
@@ -145,8 +145,8 @@ fn take_all(table: &mut Table, tops: &mut [Reach], old: &[Entry]) -> Stretch
     stretch
 }
 
-/// Adds the entries, those of one chunk together as far as it has room, and answers of which chunks the tree is still to
-/// be written, where it was so of some.
+/// Adds the entries, those of one chunk together as far as it has room, and answers of which chunks the tree is still
+/// to be written, where it was so of some.
 fn put_all(table: &mut Table, tops: &mut [Reach], new: &[Entry], changed: Stretch) -> Stretch
     requires table { IsTable table.old }
     requires spare { length new.now ≤ table.old.spare }
@@ -214,8 +214,11 @@ impl Index {
     }
 
     /// An index of the entries, which may lie in any order. Its chunks are full to three quarters, so that edits don't
-    /// part each at once. `NoMemory` where there is no room. Cost: that of sorting the entries, and some steps for
-    /// each.
+    /// part each at once. Cost: that of sorting the entries, and some steps for each.
+    ///
+    /// # Errors
+    ///
+    /// `NoMemory` where there is no room.
     pub fn of(alloc: Global, mut entries: Vec<Entry>) -> Result<Index, Refusal>
         requires { AreDistinct entries.items }
         ensures entries { IfOk result (λ index. IsPermutation entries.items index.entries) }
@@ -227,8 +230,11 @@ impl Index {
         Ok(index)
     }
 
-    /// An index of the same entries, with no room to spare. `NoMemory` where there is no room. Cost: a copy of all
-    /// chunks.
+    /// An index of these entries, with no room to spare. Cost: a copy of all chunks.
+    ///
+    /// # Errors
+    ///
+    /// `NoMemory` where there is no room.
     pub fn copy(&self) -> Result<Index, Refusal>
         ensures entries { IfOk result (λ index. index.entries ≡ self.now.entries) }
         ensures refused { OnlyNoMemory result }
@@ -254,10 +260,14 @@ impl Index {
         self.table.spare
     }
 
-    /// Makes room for that many more entries. `NoMemory` where it isn't there; then nothing is changed but that some of
-    /// it may be kept. A chunk parts once it has more than 64 entries, so it keeps an empty chunk of some 8 KiB ready
-    /// for each entry, or one for each 32 of them and for each chunk, where those are fewer; those that were not used
-    /// serve the next call. Cost: none where so much room is there; else the table of the chunks where it grows.
+    /// Makes room for that many more entries. A chunk parts once it has more than 64 entries, so it keeps an empty
+    /// chunk of some 8 KiB ready for each entry, or one for each 32 of them and for each chunk, where those are fewer;
+    /// those that were not used serve the next call. Cost: none where so much room is there; else the table of the
+    /// chunks where it grows.
+    ///
+    /// # Errors
+    ///
+    /// `NoMemory` where the room isn't there; then nothing is changed but that some of it may be kept.
     pub fn reserve(&mut self, more: usize) -> Result<(), Refusal>
         ensures entries { self.new.entries ≡ self.old.entries }
         ensures spare { OnOk result (more ≤ self.new.spare) }
@@ -289,9 +299,12 @@ impl Index {
         self.reserve(1)
     }
 
-    /// Adds an entry in its place. `NoMemory` where there is no room; then the list is as it was. With room to spare it
-    /// is never refused. Cost: some 64 steps in its chunk, and where that is parted a step for each chunk; with no room
-    /// to spare also an empty chunk, and a step for each chunk.
+    /// Adds an entry in its place. Cost: some 64 steps in its chunk, and where that is parted a step for each chunk;
+    /// with no room to spare also an empty chunk, and a step for each chunk.
+    ///
+    /// # Errors
+    ///
+    /// `NoMemory` where there is no room; then the list is as it was. With room to spare it is never refused.
     pub fn insert(&mut self, entry: Entry) -> Result<(), Refusal>
         requires { list_any (is_entry entry.rank.written entry.rank.place) self.old.entries ≡ false }
         ensures ok { OnOk result (self.new.entries ≡ inserted entry self.old.entries) }
@@ -375,8 +388,11 @@ impl Index {
         Ok(found)
     }
 
-    /// The entries that cover the moment, in order. `NoMemory` where there is no room for them. Cost: as much as
-    /// `covering_counted` says.
+    /// The entries that cover the moment, in order. Cost: as much as [`Index::covering_counted`] says.
+    ///
+    /// # Errors
+    ///
+    /// `NoMemory` where there is no room for them.
     pub fn covering(&self, at: Moment) -> Result<Vec<Entry>, Refusal>
         ensures found { IfOk result (λ found. found.items ≡ covering self.now.entries at) }
         ensures refused { OnlyNoMemory result }
@@ -386,8 +402,11 @@ impl Index {
         Ok(found)
     }
 
-    /// The entries whose span meets the window, in order. `NoMemory` where there is no room for them. Cost: as much
-    /// as `overlapping_counted` says.
+    /// The entries whose span meets the window, in order. Cost: as much as [`Index::overlapping_counted`] says.
+    ///
+    /// # Errors
+    ///
+    /// `NoMemory` where there is no room for them.
     pub fn overlapping(&self, window: Span) -> Result<Vec<Entry>, Refusal>
         ensures found { IfOk result (λ found. found.items ≡ meeting self.now.entries window) }
         ensures refused { OnlyNoMemory result }
@@ -400,8 +419,12 @@ impl Index {
         Ok(found)
     }
 
-    /// `covering`, with a tick for each look at a stored entry or a stored greatest end: with n entries of d binary
-    /// digits and m answered at most 4(d + 1)(m + 1).
+    /// What [`Index::covering`] answers, with a tick of the meter for each look at a stored entry or a stored greatest
+    /// end: where the number of entries has d binary digits and m are answered, at most 4(d + 1)(m + 1).
+    ///
+    /// # Errors
+    ///
+    /// `NoMemory` where there is no room for them.
     pub fn covering_counted(&self, at: Moment, meter: &mut Meter) -> Result<Vec<Entry>, Refusal>
         requires { meter.old + most_probes self.now.entries (length self.now.entries) < 2 ^ 128 }
         ensures found { IfOk result (λ found. found.items ≡ covering self.now.entries at) }
@@ -413,7 +436,12 @@ impl Index {
         Ok(found)
     }
 
-    /// `overlapping`, with a tick for each look, as many as `covering_counted` says.
+    /// What [`Index::overlapping`] answers, with a tick of the meter for each look, at most as many as
+    /// [`Index::covering_counted`] says.
+    ///
+    /// # Errors
+    ///
+    /// `NoMemory` where there is no room for them.
     pub fn overlapping_counted(
         &self,
         window: Span,

@@ -7,8 +7,8 @@ use adr_model::Entry;
 use adr_time::{End, Moment};
 use std::marker::Model;
 
-/// The greatest end of the entries that cover some moment, or that there is none, in 16 bytes, where an `Option<End>` takes
-/// 32. Contracts see that.
+/// The greatest end of the entries that cover some moment, or that there is none, in 16 bytes, where an `Option<End>`
+/// takes 32. Contracts see that.
 #[derive(Clone, Copy)]
 pub(crate) struct Reach {
     number: i128,

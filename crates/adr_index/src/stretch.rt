@@ -27,8 +27,8 @@ impl Stretch {
         Stretch { from: 0, to: count }
     }
 
-    /// The stretch and the place that was changed, and what lies between them. That of all so many chunks, where more was
-    /// changed than one place.
+    /// The stretch and the place that was changed, and what lies between them. That of all so many chunks, where more
+    /// was changed than one place.
     pub(crate) fn with(self, changed: Option<usize>, count: usize) -> Stretch
         requires { IfSome changed (λ place. place < count) }
         ensures one { IfSome changed (λ place. (result.from ≡ min self.from place) × (result.to ≡ max self.to (place + 1))) }

@@ -164,8 +164,8 @@ fn run_into(chunk: &Chunk, first: &Entry, later: &[Entry]) -> usize
 }
 
 /// Takes out what stands in the place of the first entry, and of those behind it that belong to the same chunk, and
-/// answers how many entries of the chunk that were. A chunk that it leaves empty goes to the pool. The chunk is searched
-/// for behind that at `near` first.
+/// answers how many entries of the chunk that were. A chunk that it leaves empty goes to the pool. The chunk is
+/// searched for behind that at `near` first.
 pub(crate) fn take_among(
     chunks: &mut Vec<Chunk>,
     pool: &mut Vec<Chunk>,
@@ -380,8 +380,8 @@ impl Table {
         is_found
     }
 
-    /// How many chunks there are to be, with those of the pool, for that many more entries to be sure of their room; None
-    /// where there can't be so many entries.
+    /// How many chunks there are to be, with those of the pool, for that many more entries to be sure of their room;
+    /// None where there can't be so many entries.
     pub(crate) fn places_for(&self, more: usize) -> Option<usize>
         requires { IsTable self.now }
         ensures all { IfSome result (λ places. length self.now.chunks.items + length self.now.pool.items ≤ places) }
@@ -510,7 +510,7 @@ fn find(chunks: &[Chunk], written: u64, place: u32) -> Option<Entry>
     None
 }
 
-/// The same among some.
+/// An entry of that written number and place among some.
 fn find_in(entries: &[Entry], written: u64, place: u32) -> Option<Entry>
     ensures some { IfSome result (λ entry. IsFound written place entry entries.now) }
     ensures none { IfNone result (list_any (is_entry written place) entries.now ≡ false) }

@@ -50,8 +50,8 @@ fn any_chunk_reaches(chunks: &[Chunk], tops: &[Reach], query: &Query) -> bool
     tops[chunks.len() / 2 - 1].is_past(query.from)
 }
 
-/// Adds the entries of the chunks that are asked for, as the search of a chunk does, which takes `depth` levels, one more than
-/// its entries need.
+/// Adds the entries of the chunks that are asked for, as the search of a chunk does, which takes `depth` levels, one
+/// more than its entries need.
 pub(crate) fn search_chunks(
     levels: u32,
     depth: u32,

@@ -20,7 +20,9 @@ use std::alloc::Global;
 
 /// An event's entries under one payload type, as they compete under the rule for ties.
 pub struct TypeEntries {
+    /// What the entries compete for; no two groups of a list have types of one name.
     pub payload_type: PayloadType,
+    /// An entry for each interval that carries the type, in the order in which they were added.
     pub entries: Vec<Entry>,
 }
 
@@ -218,10 +220,14 @@ fn add_intervals(
     Ok(())
 }
 
-/// The same as [`event_entries`] answers, of an event that is laid out already: its intervals lie at those places.
+/// What [`event_entries`] answers, of an event that is laid out already: its intervals lie at those places.
 ///
 /// Cost: the types of an interval's payloads are compared by name in pairs, and each with those of the groups so far.
-/// The groups have an entry for each interval and each of its types. `NoMemory` where there is no room for them.
+/// The groups have an entry for each interval and each of its types.
+///
+/// # Errors
+///
+/// `NoMemory` where there is no room for the groups.
 pub fn placed_entries(
     alloc: Global,
     tie: Tie,
@@ -242,8 +248,11 @@ pub fn placed_entries(
 /// Where the event that the edit of that number wrote competes under the rule for ties: for each of its payload
 /// types the entries of the intervals that carry it, in order, and none where its layout has a fault.
 ///
-/// Cost: the event is laid out once; for the rest see [`placed_entries`]. `NoMemory` where there is no room for the
-/// layout or the groups.
+/// Cost: the event is laid out once; for the rest see [`placed_entries`].
+///
+/// # Errors
+///
+/// `NoMemory` where there is no room for the layout or the groups.
 pub fn event_entries(
     alloc: Global,
     tie: Tie,

@@ -61,8 +61,12 @@ impl Indexes {
         Ok(())
     }
 
-    /// The entries of the groups, the index of each type filled at once. `NoMemory` where there is no room. Cost: that
-    /// of sorting the entries of each type, and some steps for each.
+    /// The entries of the groups, the index of each type filled at once. Cost: that of sorting the entries of each
+    /// type, and some steps for each.
+    ///
+    /// # Errors
+    ///
+    /// `NoMemory` where there is no room.
     pub fn of(alloc: Global, groups: Vec<TypeEntries>) -> Result<Indexes, Refusal>
         requires types { HaveOwnTypes groups.items }
         requires fresh { (k : AnyType) → AreNew (entries_under groups.items k) [] }
@@ -76,7 +80,11 @@ impl Indexes {
         Ok(indexes)
     }
 
-    /// The same entries under each type, in memory of their own. `NoMemory` where there is no room. Cost: all entries.
+    /// A copy that has these entries under each type, in memory of its own. Cost: all entries.
+    ///
+    /// # Errors
+    ///
+    /// `NoMemory` where there is no room.
     pub fn copy(&self, alloc: Global) -> Result<Indexes, Refusal>
         ensures entries { IfOk result (λ copy. (k : AnyType) → under copy k ≡ under self.now k) }
         ensures memory { OnlyNoMemory result }
@@ -143,8 +151,12 @@ impl Indexes {
     }
 
     /// Makes room for the entries that go and for those that come, so that they can be exchanged, and exchanged back.
-    /// `NoMemory` leaves all entries as they were. Cost: a look-up for each group of either and its type compared
-    /// with those of all, and the room of `Index::reserve` for each type that has not enough.
+    /// Cost: a look-up for each group of either and its type compared with those of all, and the room of
+    /// `Index::reserve` for each type that has not enough.
+    ///
+    /// # Errors
+    ///
+    /// `NoMemory` where there is no room; then all entries are as they were.
     pub fn reserve(
         &mut self,
         alloc: Global,

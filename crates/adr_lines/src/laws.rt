@@ -14,8 +14,8 @@ pub fn exchange_laws()
     ensures undone { IsUndone }
 {}
 
-/// Groups that have the entries of events of different numbers have none twice, so that `Indexes::of` may be called with
-/// them where each type stands once; and then the indexes hold the entries of those events, in whatever order they
+/// Groups that have the entries of events of different numbers have none twice, so that `Indexes::of` may be called
+/// with them where each type stands once; and then the indexes hold the entries of those events, in whatever order they
 /// were given. The body does nothing.
 pub fn filling_laws()
     ensures apart { (tie : Tie) → AreApart tie }

@@ -1,6 +1,6 @@
 #![tactic(auto)]
-//! The entries of an event under each of its payload types, and why timelines are repaired only where entries differ; and
-//! the entries of all events, in an index for each type.
+//! The entries of an event under each of its payload types, and why timelines are repaired only where entries differ;
+//! and the entries of all events, in an index for each type.
 
 mod counting;
 mod grouped;

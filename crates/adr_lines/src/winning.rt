@@ -1,4 +1,6 @@
-//! Why timelines need no repair but where their entries differ, and how what wins is found among the entries of all events: laws of the definitions, under either rule for ties. Each function's clause is a law, and its body does nothing.
+//! Why timelines need no repair but where their entries differ, and how what wins is found among the entries of all
+//! events: laws of the definitions, under either rule for ties. Each function's clause is a law, and its body does
+//! nothing.
 //!
 //! They speak of the writes of a timeline, that is of the numbers of the edits that wrote its events, and of no
 //! resource: timelines of one payload type whose writes are the same are the same.

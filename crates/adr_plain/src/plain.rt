@@ -70,11 +70,13 @@ impl Plain {
         }
     }
 
-    /// Makes an edit, and answers the version.
+    /// Makes an edit, and answers the version. Cost: the edit's size, and some paths in trees.
     ///
-    /// The least fault is answered: `NoStart`, `AfterEndless` or `TimeRange` from the earliest interval that has one,
-    /// `Exists`, `NotThere`, `NoProgram`, `NoVen`, `InUse`, `Full`. `NoMemory` may come in place of any answer. A
-    /// refusal changes nothing. Cost: the edit's size, and some paths in trees.
+    /// # Errors
+    ///
+    /// The least fault: `NoStart`, `AfterEndless` or `TimeRange` from the earliest interval that has one, `Exists`,
+    /// `NotThere`, `NoProgram`, `NoVen`, `InUse`, `Full`. `NoMemory` may come in place of any answer. A refusal changes
+    /// nothing.
     pub fn edit(&mut self, edit: Edit) -> Result<u64, Refusal>
         ensures ok { IfOk result (λ version. (step_to (full_at self.old.base) self.old.current edit ≡ Ok self.new.current) × (version ≡ self.new.current.version)) }
         ensures bound { IfOk result (λ version. version ≤ MOST_VERSION) }
@@ -87,8 +89,11 @@ impl Plain {
         Ok(self.book.version())
     }
 
-    /// Publishes the objects as they are. `Full` after 1,000,000 publications, `NoMemory` where there is no room for
-    /// a copy; a refusal changes nothing. Cost: a copy of the book, which shares all, and its seal.
+    /// Publishes the objects as they are. Cost: a copy of the book, which shares all, and its seal.
+    ///
+    /// # Errors
+    ///
+    /// `Full` after 1,000,000 publications, `NoMemory` where there is no room for a copy. A refusal changes nothing.
     pub fn publish(&mut self) -> Result<Published, Refusal>
         ensures ok { OnOk result ((self.old.number < MOST_PUBLICATIONS)
             × (self.new ≡ record self.old { published = self.old.current; number = self.old.number + 1 })) }
@@ -110,8 +115,12 @@ impl Plain {
         })
     }
 
-    /// Counts the accepted edits from the last publication on, and answers its version. `NoMemory` leaves all as it
-    /// was. Cost: a copy of the book, which shares all.
+    /// Counts the accepted edits from the last publication on, and answers its version. Cost: a copy of the book, which
+    /// shares all.
+    ///
+    /// # Errors
+    ///
+    /// `NoMemory` where there is no room; then all is as it was.
     #[tactic(auto, unfolding(adr_model::specs::Edits::after_from))]
     pub fn condense(&mut self) -> Result<u64, Refusal>
         ensures answer { IfOk result (λ version. version ≡ self.old.published.version) }
@@ -125,8 +134,12 @@ impl Plain {
     }
 
     /// The reply to `at`: what governs the resource for the type at the moment, in the last publication, and until
-    /// when. `UnknownResource` where the publication has no such resource; `NoMemory`. Cost: all events and intervals
-    /// are scanned, and those that apply once more for each end and start of an interval.
+    /// when. Cost: all events and intervals are scanned, and those that apply once more for each end and start of an
+    /// interval.
+    ///
+    /// # Errors
+    ///
+    /// `UnknownResource` where the publication has no such resource; `NoMemory` in place of any answer.
     pub fn at(
         &self,
         id: &Id,
@@ -138,9 +151,13 @@ impl Plain {
         adr_calendar::at(self.alloc, self, id, payload_type, moment)
     }
 
-    /// The reply to `list`: the segments of the window, each with what governs there. `BadWindow` where the window
-    /// doesn't begin before it ends, then `UnknownResource`; `NoMemory`. Cost: the entries of the type for the
-    /// resource, times their starts and ends.
+    /// The reply to `list`: the segments of the window, each with what governs there. Cost: the entries of the type for
+    /// the resource, times their starts and ends.
+    ///
+    /// # Errors
+    ///
+    /// `BadWindow` where the window doesn't begin before it ends, then `UnknownResource` where the publication has no
+    /// such resource; `NoMemory` in place of any answer.
     pub fn list(
         &self,
         id: &Id,
@@ -153,16 +170,24 @@ impl Plain {
         adr_calendar::list(self.alloc, self, id, payload_type, from, to)
     }
 
-    /// The reply to `roll`: the state of each resource, in order of creation. `NoMemory`. Cost: that of `at` for each
+    /// The reply to `roll`: the state of each resource, in order of creation. Cost: that of [`Plain::at`] for each
     /// resource.
+    ///
+    /// # Errors
+    ///
+    /// `NoMemory` where there is no room for the reply.
     pub fn roll(&self, payload_type: &PayloadType, moment: Moment) -> Result<Vec<u8>, Refusal>
         ensures { Answers (result_map (λ v. v.items) result) (roll self.now.tie self.now.published payload_type.now moment) }
     {
         adr_calendar::roll(self.alloc, self, payload_type, moment)
     }
 
-    /// The reply to `types`: the payload types that govern the resource at some moment. `UnknownResource`; `NoMemory`.
-    /// Cost: all events for each of the 34 types and each private one.
+    /// The reply to `types`: the payload types that govern the resource at some moment. Cost: all events for each of
+    /// the 34 types and each private one.
+    ///
+    /// # Errors
+    ///
+    /// `UnknownResource` where the publication has no such resource; `NoMemory` in place of any answer.
     pub fn types(&self, id: &Id) -> Result<Vec<u8>, Refusal>
         ensures { Answers (result_map (λ v. v.items) result) (types self.now.tie self.now.published id.now) }
     {

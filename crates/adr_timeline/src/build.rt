@@ -49,8 +49,8 @@ impl Workspace {
     }
 }
 
-/// Puts the segments of the winners inside the window, which lie among the entries near it, at the end of a line. Entries
-/// that come in turn, as one alone does, are put there straight away.
+/// Puts the segments of the winners inside the window, which lie among the entries near it, at the end of a line.
+/// Entries that come in turn, as one alone does, are put there straight away.
 #[tactic(auto, using(crate::proofs::Runs::run_taken))]
 fn join_window(
     line: &mut Line,

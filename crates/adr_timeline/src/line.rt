@@ -184,7 +184,7 @@ impl Line {
         Ok(())
     }
 
-    /// The same, all together where they fit into one chunk.
+    /// Puts pieces at the end, each as a segment of its own, and all together where they fit into one chunk.
     #[tactic(auto, using(crate::proofs::Chunks::extended_view))]
     fn add_all(&mut self, pieces: &[PackedSegment]) -> Result<(), AllocError>
         ensures { OnOk result (self.new ≡ self.old ++ pieces.now) }
@@ -208,7 +208,7 @@ impl Line {
         self.join_rest(rest)
     }
 
-    /// The same, together where the first goes on from nothing that is there.
+    /// Puts the segments of a canonical list at the end, together where the first goes on from nothing that is there.
     #[tactic(auto, using(crate::proofs::Chunks::joined_whole))]
     fn join_rest(&mut self, segments: &[PackedSegment]) -> Result<(), AllocError>
         requires { IsCanonical segments.now }
@@ -224,8 +224,8 @@ impl Line {
         }
     }
 
-    /// Whether a chunk of so many segments is large enough to be shared, and not larger than a chunk may be. A chunk that
-    /// is a quarter full at most is copied, so that small ones are put together.
+    /// Whether a chunk of so many segments is large enough to be shared, and not larger than a chunk may be. A chunk
+    /// that is a quarter full at most is copied, so that small ones are put together.
     fn is_shared(&self, count: usize) -> bool {
         let room = self.most.saturating_sub(self.unsealed.len());
         self.most / 4 < count && count <= self.most && (self.unsealed.is_empty() || room < count)

@@ -126,7 +126,8 @@ fn merged<R: StepList>(
     Ok(steps)
 }
 
-/// The steps of the lesser rank of what the chunks show and of entries that come in turn, which compete with nothing else.
+/// The steps of the lesser rank of what the chunks show and of entries that come in turn, which compete with nothing
+/// else.
 pub(crate) fn steps_over<R: Ranks>(
     alloc: Global,
     shown: &[Chunk],

@@ -9,8 +9,8 @@ use std::marker::Model;
 
 /// A segment as timelines store it: in 32 bytes, where a `Segment` takes 64. Contracts see the segment.
 ///
-/// Each of its instants is a number in two halves, which [`PackedSegment::start`] and [`PackedSegment::end`] put together
-/// in a few steps.
+/// Each of its instants is a number in two halves, which [`PackedSegment::start`] and [`PackedSegment::end`] put
+/// together in a few steps.
 #[derive(Clone, Copy)]
 pub struct PackedSegment {
     start_low: u64,

@@ -190,7 +190,8 @@ fn are_within(chunks: &[Chunk], from: &Option<Moment>, until: &End) -> bool
     is_from(from, first.first().start()) && is_over_by(last.segments(), *until)
 }
 
-/// Puts the parts of chunks at the end of a line, which shares those that are worth it where they lie inside as a whole.
+/// Puts the parts of chunks at the end of a line, which shares those that are worth it where they lie inside as a
+/// whole.
 #[tactic(auto, using(crate::proofs::Chunks::part_within))]
 fn join_whole(
     line: &mut Line,
@@ -220,8 +221,8 @@ fn count_over(chunks: &[Chunk], until: &End) -> usize
     }
 }
 
-/// Puts the parts of chunks at the end of a line: those between the first and the last that there is a part of lie inside as
-/// a whole, and are not looked into.
+/// Puts the parts of chunks at the end of a line: those between the first and the last that there is a part of lie
+/// inside as a whole, and are not looked into.
 fn join_chunks(
     line: &mut Line,
     chunks: &[Chunk],

@@ -38,7 +38,7 @@ fn first_open_in(segments: &[PackedSegment], at: Moment) -> Option<PackedSegment
     segments.get(ended).copied()
 }
 
-/// The same, of the first of some chunks.
+/// The first segment, of those of the first of some chunks, that has not ended by the moment.
 #[tactic(auto, using(crate::proofs::Chunks::canonical_first))]
 fn first_open_chunk(chunks: &[Chunk], at: Moment) -> Option<PackedSegment>
     requires { IsCanonical (listed chunks.now) }

@@ -166,8 +166,8 @@ fn rank_over_run(
     Ok(())
 }
 
-/// Puts the steps of the other list from a place up to a later one, merged with those from there on, at the end of others,
-/// and takes them off the other list.
+/// Puts the steps of the other list from a place up to a later one, merged with those from there on, at the end of
+/// others, and takes them off the other list.
 fn merge_from(
     steps: &mut Vec<Step>,
     other: &mut Vec<Step>,
@@ -220,8 +220,8 @@ fn rank(
     merge_from(steps, other, start, middle, meter)
 }
 
-/// Puts the steps of the least rank among the entries in the place of those that are there. Both lists have room for all
-/// of them before the first is put there, the second where there are halves to merge.
+/// Puts the steps of the least rank among the entries in the place of those that are there. Both lists have room for
+/// all of them before the first is put there, the second where there are halves to merge.
 #[tactic(auto, using(crate::proofs::Stepped::from_none))]
 pub(crate) fn rank_anew(
     steps: &mut Vec<Step>,

@@ -35,8 +35,9 @@ const MOST_IN_CHUNK: usize = 128;
 /// Which interval governs at each instant. Contracts see its segments, which are canonical: nonempty, in order and
 /// apart, and two that touch have different winners.
 ///
-/// The segments lie in chunks, which timelines share: a repair copies the table of the chunks, and the segments of those
-/// that its windows reach into, and of those beside them that are a quarter full at most or fit into the chunk before.
+/// The segments lie in chunks, which timelines share: a repair copies the table of the chunks, and the segments of
+/// those that its windows reach into, and of those beside them that are a quarter full at most or fit into the chunk
+/// before.
 pub struct Timeline {
     most: usize,
     chunks: Vec<Chunk>,
@@ -85,7 +86,7 @@ fn timeline_of(most: usize, line: Line) -> Result<Timeline, Refusal>
     Ok(Timeline { most, chunks })
 }
 
-/// The same chunks, in memory that is shared.
+/// A list of these chunks, which shares their segments.
 fn shared(alloc: Global, chunks: &[Chunk]) -> Result<Vec<Chunk>, AllocError>
     ensures { IfOk result (λ copies. copies.items ≡ chunks.now) }
 {
@@ -124,9 +125,13 @@ impl Timeline {
 
     /// The timeline of the least of the entries at each instant inside the window, and of nothing outside.
     ///
-    /// Ranks are compared by `before` alone, which counts each comparison. `NoMemory` where there is no room. Cost:
-    /// for k entries that meet the window at most about k log k steps, in two lists that are taken once, and about k
-    /// where each entry ends before the next one starts. They are copied where some entry does not meet it.
+    /// Ranks are compared by `before` alone, which counts each comparison. Cost: for k entries that meet the window at
+    /// most about k log k steps, in two lists that are taken once, and about k where each entry ends before the next
+    /// one starts. They are copied where some entry does not meet it.
+    ///
+    /// # Errors
+    ///
+    /// `NoMemory` where there is no room.
     pub fn build(
         alloc: Global,
         entries: &[Entry],
@@ -148,9 +153,13 @@ impl Timeline {
 
     /// The timeline of the least of the source's entries at each instant inside the windows, and of nothing outside:
     /// what an edit shows in its windows, in one pass. [`are_apart`](crate::are_apart) tests windows, and
-    /// [`first_run`](crate::first_run) finds some that are. `NoMemory` where there is no room. Cost: a
-    /// look-up for each eight windows that touch, and for each other one, and for each window that of
-    /// [`Timeline::build`] of the entries so found; what is built is not copied.
+    /// [`first_run`](crate::first_run) finds some that are. Cost: a look-up for each eight windows that touch, and for
+    /// each other one, and for each window that of [`Timeline::build`] of the entries so found; what is built is not
+    /// copied.
+    ///
+    /// # Errors
+    ///
+    /// `NoMemory` where there is no room.
     pub fn build_all<S: Source>(
         alloc: Global,
         source: &S,
@@ -188,8 +197,11 @@ impl Timeline {
         timeline_of(MOST_IN_CHUNK, line)
     }
 
-    /// An equal timeline, which shares the memory of the segments. `NoMemory` where there is no room. Cost: that of a
-    /// table of the chunks.
+    /// An equal timeline, which shares the memory of the segments. Cost: that of a table of the chunks.
+    ///
+    /// # Errors
+    ///
+    /// `NoMemory` where there is no room.
     pub fn copy(&self) -> Result<Timeline, Refusal>
         ensures same { IsCopyOf result self.now }
         ensures canonical { IsCanonical self.now }
@@ -224,8 +236,11 @@ impl Timeline {
         search::next_change(&self.chunks, at)
     }
 
-    /// What is shown inside the window, and nothing outside. `NoMemory` where there is no room. Cost: that of `splice_all`
-    /// with one window.
+    /// What is shown inside the window, and nothing outside. Cost: that of [`Timeline::splice_all`] with one window.
+    ///
+    /// # Errors
+    ///
+    /// `NoMemory` where there is no room.
     pub fn clip(&self, window: Span) -> Result<Timeline, Refusal>
         ensures canonical { IfOk result (λ timeline. IsCanonical timeline) }
         ensures shows { IfOk result (λ timeline. (t : ℤ) → shows timeline t ≡ (if covers window t then shows self.now t else None)) }
@@ -236,8 +251,12 @@ impl Timeline {
         timeline_of(self.most, line)
     }
 
-    /// What the inner timeline shows inside the window, and this one outside. `NoMemory` where there is no room. Cost:
-    /// as for [`Timeline::splice_all`] with one window.
+    /// What the inner timeline shows inside the window, and this one outside. Cost: as for [`Timeline::splice_all`]
+    /// with one window.
+    ///
+    /// # Errors
+    ///
+    /// `NoMemory` where there is no room.
     pub fn splice(&self, window: Span, inner: &Timeline) -> Result<Timeline, Refusal>
         ensures canonical { IfOk result (λ timeline. IsCanonical timeline) }
         ensures shows { IfOk result (λ timeline. (t : ℤ) → shows timeline t ≡ (if covers window t then shows inner.now t else shows self.now t)) }
@@ -249,9 +268,13 @@ impl Timeline {
     }
 
     /// What the inner timeline shows inside the windows, and this one outside: one repair for all windows of an edit.
-    /// [`are_apart`](crate::are_apart) tests windows. `NoMemory` where there is no room. Cost: that of a table of the
-    /// chunks, of three searches for each window, and of the segments of those chunks that the windows reach into; the other
-    /// chunks are shared, but for small ones beside those.
+    /// [`are_apart`](crate::are_apart) tests windows. Cost: that of a table of the chunks, of three searches for each
+    /// window, and of the segments of those chunks that the windows reach into; the other chunks are shared, but for
+    /// small ones beside those.
+    ///
+    /// # Errors
+    ///
+    /// `NoMemory` where there is no room.
     pub fn splice_all(&self, windows: &[Span], inner: &Timeline) -> Result<Timeline, Refusal>
         requires { IsTrue (are_apart windows.now) }
         ensures canonical { IfOk result (λ timeline. IsCanonical timeline) }
@@ -271,8 +294,11 @@ impl Timeline {
     }
 
     /// What entries that come in turn meet of this timeline: what it shows inside their spans, and nothing outside.
-    /// [`is_run`](crate::is_run) tests entries. `NoMemory` where there is no room. Cost: that of `splice_all` of what they
-    /// meet.
+    /// [`is_run`](crate::is_run) tests entries. Cost: that of [`Timeline::splice_all`] of what they meet.
+    ///
+    /// # Errors
+    ///
+    /// `NoMemory` where there is no room.
     pub fn met(&self, entries: &[Entry]) -> Result<Timeline, Refusal>
         requires { IsTrue (is_run entries.now) }
         ensures canonical { IfOk result (λ met. IsCanonical met) }
@@ -308,10 +334,14 @@ impl Timeline {
         timeline_of(self.most, line)
     }
 
-    /// The least, at each instant, of what this timeline shows and entries that come in turn, where it is known what they
-    /// meet: only that is looked at, and no more is compared than once for each of its segments and for each entry.
-    /// Ranks are compared by `before` alone, which counts each comparison. `NoMemory` where there is no room. Cost: some
-    /// steps for each of those, and that of `splice_all`.
+    /// The least, at each instant, of what this timeline shows and entries that come in turn, where it is known what
+    /// they meet: only that is looked at, and no more is compared than once for each of its segments and for each
+    /// entry. Ranks are compared by `before` alone, which counts each comparison. Cost: some steps for each of those,
+    /// and that of [`Timeline::splice_all`].
+    ///
+    /// # Errors
+    ///
+    /// `NoMemory` where there is no room.
     pub fn lay_run<R: Ranks>(
         &self,
         met: &Timeline,

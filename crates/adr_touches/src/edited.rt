@@ -152,8 +152,11 @@ impl<'a> Model for EditTouches<'a> {
 }
 
 impl<'a> EditTouches<'a> {
-    /// The touches of an edit that leads from the one book to the other. `NoMemory` where there is no room for the ids of
-    /// the objects that it concerns. Cost: a look at each resource and each event.
+    /// The touches of an edit that leads from the one book to the other. Cost: a look at each resource and each event.
+    ///
+    /// # Errors
+    ///
+    /// `NoMemory` where there is no room for the ids of the objects that it concerns.
     pub fn of(
         alloc: Global,
         old: &'a Book,
@@ -181,9 +184,12 @@ impl<'a> EditTouches<'a> {
         })
     }
 
-    /// The touches of the next resource that the edit concerns, which may be none; `None` after the last. `NoMemory` where
-    /// there is no room for them, and then they are still to come. Cost: a look at each event that the edit concerns, and
-    /// the layout of those that apply.
+    /// The touches of the next resource that the edit concerns, which may be none; `None` after the last. Cost: a look
+    /// at each event that the edit concerns, and the layout of those that apply.
+    ///
+    /// # Errors
+    ///
+    /// `NoMemory` where there is no room for them; then they are still to come.
     pub fn next_resource(&mut self) -> Result<Option<Vec<Touch>>, Refusal>
         ensures some { IfOk result (λ next. IfSome next (λ list. self.old ≡ list.items ∷ self.new)) }
         ensures none { IfOk result (λ next. IfNone next ((self.old ≡ []) × (self.new ≡ []))) }
@@ -227,9 +233,14 @@ fn list_concerned(
     Ok(touches)
 }
 
-/// The touches of an edit that leads from the one book to the other: each stretch of time in which what governs a resource
-/// and a payload type may have changed. They stand by resource, then by event, the old event before the new one, then by
-/// interval and type; one window may stand twice. `NoMemory` where there is no room for the list. Cost: each event that the edit concerns is held against each resource that it concerns.
+/// The touches of an edit that leads from the one book to the other: each stretch of time in which what governs a
+/// resource and a payload type may have changed. They stand by resource, then by event, the old event before the new
+/// one, then by interval and type; one window may stand twice. Cost: each event that the edit concerns is held against
+/// each resource that it concerns.
+///
+/// # Errors
+///
+/// `NoMemory` where there is no room for the list, or for the ids of the objects that the edit concerns.
 pub fn edit_touches(
     alloc: Global,
     old: &Book,

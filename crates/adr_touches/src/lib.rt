@@ -1,6 +1,6 @@
 #![tactic(auto)]
-//! Where an edit may have changed what governs, listed from what the edit concerns: `edit_touches` at once, `EditTouches`
-//! resource by resource.
+//! Where an edit may have changed what governs, listed from what the edit concerns: `edit_touches` at once,
+//! `EditTouches` resource by resource.
 
 mod concern;
 mod edited;

@@ -13,7 +13,9 @@ use adr_rule::{Scene, applies};
 /// An event that applies, and the number of the edit that wrote it.
 #[derive(Clone, Copy)]
 pub struct Applied<'a> {
+    /// The event as it stands in the book.
     pub event: &'a Event,
+    /// The version that the edit made which last wrote it; no other event of the book has it.
     pub written: u64,
 }
 
