@@ -62,7 +62,11 @@ impl Model for Group {
 }
 
 impl Group {
-    /// The group of no events, which is right of any. `NoMemory` where there is no room for it.
+    /// The group of no events, which is right of any.
+    ///
+    /// # Errors
+    ///
+    /// `NoMemory` where there is no room for it.
     pub fn new(alloc: Global) -> Result<Group, Refusal>
         ensures empty { IsCopyOf result (record { writes = []; lines = [] }) }
         ensures right { IfOk result (λ group. (tie : Tie) (events : List Written) → IsRightOf tie events group) }
@@ -113,8 +117,11 @@ impl Group {
         self.lines.line_laws();
     }
 
-    /// One more owner of the same writes and timelines, whatever their number. `NoMemory` only where the count of the
-    /// owners is full.
+    /// One more owner of the same writes and timelines, whatever their number.
+    ///
+    /// # Errors
+    ///
+    /// `NoMemory` only where the count of the owners is full.
     pub fn copy(&self) -> Result<Group, Refusal>
         ensures { IsCopyOf result self.now }
     {
@@ -129,9 +136,13 @@ impl Group {
     /// new one is right of them too. The same holds where events come and go, and the new ones are indexed: then the
     /// windows hold the entries of those that go and of those that come. Timelines of other types are shared.
     ///
-    /// Ranks are compared by `before` alone, which counts each comparison. `NoMemory` where there is no room. Cost: for
-    /// each window a search of the index and a timeline of the entries of those writes that meet it, and for each type
-    /// of a list one splice where its windows stand in order and apart, else one for each window.
+    /// Ranks are compared by `before` alone, which counts each comparison. Cost: for each window a search of the index
+    /// and a timeline of the entries of those writes that meet it, and for each type of a list one splice where its
+    /// windows stand in order and apart, else one for each window.
+    ///
+    /// # Errors
+    ///
+    /// `NoMemory` where there is no room.
     pub fn repaired(
         &self,
         alloc: Global,
@@ -155,10 +166,13 @@ impl Group {
         Ok(Group { writes, lines })
     }
 
-    /// The group of those writes, put together of this one and of what was built inside the windows: if each was built of
-    /// the events that are indexed, then the new one is right of them as `Group::repaired` makes it. It compares nothing.
-    /// `NoMemory` where there is no room. Cost: for each type one splice where its windows stand in order and apart, else
-    /// one for each window.
+    /// The group of those writes, put together of this one and of what was built inside the windows: if each was built
+    /// of the events that are indexed, then the new one is right of them as `Group::repaired` makes it. It compares
+    /// nothing. Cost: for each type one splice where its windows stand in order and apart, else one for each window.
+    ///
+    /// # Errors
+    ///
+    /// `NoMemory` where there is no room.
     pub fn with_built(
         &self,
         alloc: Global,
@@ -175,12 +189,16 @@ impl Group {
         Ok(Group { writes, lines })
     }
 
-    /// The group of those writes, which an event joins: its entries are laid over the timelines, and compete with what is
-    /// shown by the ranks of its winners. If this group is right of the events that are indexed, then the new one is. None
-    /// where under some type the entries don't come in turn, or meet more than twice as many segments as they are: then
-    /// nothing was compared. `NoMemory` where there is no room.
+    /// The group of those writes, which an event joins: its entries are laid over the timelines, and compete with what
+    /// is shown by the ranks of its winners. If this group is right of the events that are indexed, then the new one
+    /// is. None where under some type the entries don't come in turn, or meet more than twice as many segments as they
+    /// are: then nothing was compared.
     ///
     /// Cost: for each type a search of its timeline for each entry, a rank for each segment that is met, and one splice.
+    ///
+    /// # Errors
+    ///
+    /// `NoMemory` where there is no room.
     pub fn laid<R: Ranks>(
         &self,
         alloc: Global,
@@ -210,8 +228,12 @@ impl Group {
     /// its windows in which it governs. If the timelines of this group are right of the writes and that event, then the new
     /// ones are right of the writes alone: elsewhere what governs does so without it too.
     ///
-    /// `NoMemory` where there is no room. Cost: for each type of the event that of `Timeline::met`, and that of
-    /// `Group::repaired` in the windows in which it governs.
+    /// Cost: for each type of the event that of `Timeline::met`, and that of `Group::repaired` in the windows in which
+    /// it governs.
+    ///
+    /// # Errors
+    ///
+    /// `NoMemory` where there is no room.
     pub fn without(
         &self,
         alloc: Global,

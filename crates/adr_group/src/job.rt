@@ -17,7 +17,9 @@ use std::alloc::Global;
 
 /// One group's line of one payload type with its windows: what the writes show inside them is to be built.
 pub struct Job {
+    /// The writes of the group: what governs among them is built.
     pub writes: Shared<Writes>,
+    /// The payload type of the line, and the windows in which it is built.
     pub windows: Shared<TypeEntries>,
 }
 
@@ -32,7 +34,9 @@ impl Drop for Job {
 
 /// What a job built, and how often it compared.
 pub struct Done {
+    /// What governs inside the windows, and nothing outside of them.
     pub inner: Timeline,
+    /// How many times two ranks were compared.
     pub compared: u128,
 }
 
@@ -45,7 +49,11 @@ impl Drop for Done {
 }
 
 impl Job {
-    /// The job of those writes and windows, which it shares. `NoMemory` only where a count of owners is full.
+    /// The job of those writes and windows, which it shares.
+    ///
+    /// # Errors
+    ///
+    /// `NoMemory` only where a count of owners is full.
     pub fn new(writes: &Shared<Writes>, windows: &Shared<TypeEntries>) -> Result<Job, Refusal>
         ensures { IsCopyOf result (record { writes = writes.now; windows = windows.now }) }
     {
@@ -80,8 +88,12 @@ fn do_job(alloc: Global, indexes: &Indexes, job: &Job) -> Result<Done, Refusal>
     })
 }
 
-/// Does the jobs of one worker, one after the other: it passes the gate before each. `NoMemory` where there is no room
-/// for what they build. Cost: for each window a search of the index and a timeline of the entries that meet it.
+/// Does the jobs of one worker, one after the other: it passes the gate before each. Cost: for each window a search of
+/// the index and a timeline of the entries that meet it.
+///
+/// # Errors
+///
+/// `NoMemory` where there is no room for what they build.
 pub fn do_jobs<G: Gate>(
     alloc: Global,
     indexes: &Indexes,
@@ -159,8 +171,12 @@ fn share_each(alloc: Global, types: Vec<TypeEntries>) -> Result<Vec<Shared<TypeE
     Ok(shared)
 }
 
-/// The windows of both lists by type, each type once, to be shared by jobs. `NoMemory` where there is no room for them.
-/// Cost: a copy of the windows, and for each type a look at those before it.
+/// The windows of both lists by type, each type once, to be shared by jobs. Cost: a copy of the windows, and for each
+/// type a look at those before it.
+///
+/// # Errors
+///
+/// `NoMemory` where there is no room for them.
 pub fn shared_windows(
     alloc: Global,
     windows: &[TypeEntries],

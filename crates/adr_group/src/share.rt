@@ -75,9 +75,13 @@ fn do_first<R: Threads + Sync, G: Gate + Sync>(
 }
 
 /// Does the jobs by so many workers, 1 to 64, who share them out: of `n` jobs in order worker `i` of `w` has those from
-/// `floor(i n / w)` to before `floor((i + 1) n / w)`, and passes the gate before each. Worker 0 is the calling thread; jobs
-/// of a worker that can't be started are done by it too. Of fewer workers than one there is one, and of more than 64 there
-/// are 64. `NoMemory` where there is no room for what the jobs build.
+/// `floor(i n / w)` to before `floor((i + 1) n / w)`, and passes the gate before each. Worker 0 is the calling thread;
+/// jobs of a worker that can't be started are done by it too. Of fewer workers than one there is one, and of more than
+/// 64 there are 64.
+///
+/// # Errors
+///
+/// `NoMemory` where there is no room for what the jobs build.
 pub fn do_all<R: Threads + Sync, G: Gate + Sync>(
     rt: &R,
     alloc: Global,

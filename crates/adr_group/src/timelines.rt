@@ -114,8 +114,8 @@ impl Timelines {
         }
     }
 
-    /// The same timelines with this one as that of the type, or with none where it shows nothing; the others are
-    /// shared. `NoMemory` as `SharedMap::put`.
+    /// These timelines with this one as that of the type, or with none where it shows nothing; the others are shared.
+    /// `NoMemory` as `SharedMap::put`.
     pub(crate) fn with(
         &self,
         alloc: Global,
@@ -135,7 +135,7 @@ impl Timelines {
         Ok(Timelines { by_type })
     }
 
-    /// The same timelines, whatever their number. `NoMemory` as `SharedMap::copy`.
+    /// A copy that shares the timelines, whatever their number. `NoMemory` as `SharedMap::copy`.
     pub(crate) fn copy(&self) -> Result<Timelines, Refusal>
         ensures { IsCopyOf result self.now }
     {

@@ -108,7 +108,11 @@ impl Writes {
         self.numbers.as_slice() == other.numbers.as_slice()
     }
 
-    /// The same numbers, in memory of their own. `NoMemory` where there is no room for them.
+    /// A copy with the numbers in memory of its own.
+    ///
+    /// # Errors
+    ///
+    /// `NoMemory` where there is no room for them.
     pub fn copy(&self) -> Result<Writes, Refusal>
         ensures { IsCopyOf result self.now }
     {
@@ -118,8 +122,12 @@ impl Writes {
         })
     }
 
-    /// The numbers without the one that goes and with the one that comes, where there are such. `NoMemory` where there
-    /// is no room for them. Cost: one copy of the numbers.
+    /// The numbers without the one that goes and with the one that comes, where there are such. Cost: one copy of the
+    /// numbers.
+    ///
+    /// # Errors
+    ///
+    /// `NoMemory` where there is no room for them.
     pub fn changed(&self, gone: Option<u64>, come: Option<u64>) -> Result<Writes, Refusal>
         ensures numbers { IfOk result (λ writes. (n : ℕ) → has_number writes n ≡ changed_number gone come self.now n) }
         ensures memory { OnlyNoMemory result }

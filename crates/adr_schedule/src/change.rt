@@ -3,7 +3,9 @@ use adr_lines::TypeEntries;
 
 /// An event as it was written: the number of the edit that wrote it, and its entries under each of its payload types.
 pub struct Side {
+    /// Which edit wrote it: among the writes of a group it goes by this number.
     pub written: u64,
+    /// When its intervals hold, for each of its payload types.
     pub entries: Vec<TypeEntries>,
 }
 
@@ -20,7 +22,9 @@ impl Drop for Side {
 
 /// The event that goes and the one that comes, for the resources to which they apply.
 pub struct Change {
+    /// The event as it was; None where none was there before.
     pub gone: Option<Side>,
+    /// The event as it will be; None where it is removed.
     pub come: Option<Side>,
 }
 

@@ -40,8 +40,11 @@ fn seated_last(
 
 impl Schedule {
     /// The places with these slots in order, each of which has the group that stands there. A group whose slot no place
-    /// has is left out. `NoMemory` where there is no room. Cost: a look-up for each place, and one path of a tree for
-    /// each group.
+    /// has is left out. Cost: a look-up for each place, and one path of a tree for each group.
+    ///
+    /// # Errors
+    ///
+    /// `NoMemory` where there is no room.
     pub fn of(alloc: Global, slots: &[usize], groups: &[Group]) -> Result<Schedule, Refusal>
         requires { (place slot : ℕ) → slice_get slots.now place ≡ Some slot → slot < length groups.now }
         ensures count { IfOk result (λ schedule. length schedule.seats ≡ length slots.now) }

@@ -109,7 +109,8 @@ fn changed<R: Ranks>(
     }
 }
 
-/// The same; `NoMemory` where there is no room: then nothing is counted.
+/// The draft's group after the change, as `changed` answers it. `NoMemory` where there is no room: then nothing is
+/// counted.
 fn laid_of<R: Ranks>(
     alloc: Global,
     indexes: &Indexes,

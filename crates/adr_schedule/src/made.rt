@@ -79,7 +79,7 @@ impl Made {
         }
     }
 
-    /// The same with this group in the slot.
+    /// These groups with this one in the slot.
     pub(crate) fn with(&self, alloc: Global, slot: u64, group: Group) -> Result<Made, Refusal>
         ensures groups { IfOk result (λ made. made.groups ≡ put (slot ∷ []) group self.now.groups) }
         ensures refusal { OnlyNoMemory result }

@@ -75,8 +75,12 @@ impl Schedule {
         let _ = &self.seats;
     }
 
-    /// One more place, last, with a group of no writes. `NoMemory` where there is no room for it. Cost: what is written of
-    /// the table of seats is copied, 512 places or slots at a time; the rest and the groups are shared.
+    /// One more place, last, with a group of no writes. Cost: what is written of the table of seats is copied, 512
+    /// places or slots at a time; the rest and the groups are shared.
+    ///
+    /// # Errors
+    ///
+    /// `NoMemory` where there is no room for it.
     pub fn with_place(&self, alloc: Global) -> Result<Schedule, Refusal>
         ensures place { IfOk result (λ after. HasPlace self.now after) }
         ensures right { IfOk result (λ after. StaysRight self.now after) }
@@ -90,8 +94,12 @@ impl Schedule {
         Ok(Schedule { seats, groups })
     }
 
-    /// Without the place: those after it move down, and a group that no place has any more goes. `NoMemory` where there
-    /// is no room for the copy. Cost: the table of seats is made anew; the groups are shared.
+    /// Without the place: those after it move down, and a group that no place has any more goes. Cost: the table of
+    /// seats is made anew; the groups are shared.
+    ///
+    /// # Errors
+    ///
+    /// `NoMemory` where there is no room for the copy.
     pub fn without_place(&self, alloc: Global, place: usize) -> Result<Schedule, Refusal>
         requires { place < length self.now.seats }
         ensures place { IfOk result (λ after. LacksPlace place self.now after) }
@@ -167,10 +175,14 @@ impl Schedule {
         }
     }
 
-    /// The schedule where the place has these writes, if nothing is to be built for them: it shares the group of the place
-    /// `like` where that one has them, and keeps its own where that has. `NoMemory` where there is no room.
+    /// The schedule where the place has these writes, if nothing is to be built for them: it shares the group of the
+    /// place `like` where that one has them, and keeps its own where that has.
     ///
     /// Cost: a copy of what is written of the table of seats.
+    ///
+    /// # Errors
+    ///
+    /// `NoMemory` where there is no room.
     pub fn shared(
         &self,
         alloc: Global,
@@ -202,9 +214,13 @@ impl Schedule {
 
     /// Gives the place these writes: a group is made of the old one by repair inside the windows, which must hold the
     /// entries of each event on which the writes differ. The crew does that, one job a payload type.
-    /// [`Schedule::shared`] may spare it. `NoMemory` where there is no room.
+    /// [`Schedule::shared`] may spare it.
     ///
     /// Cost: a copy of what is written of the table of seats, one of the windows, and that of the jobs.
+    ///
+    /// # Errors
+    ///
+    /// `NoMemory` where there is no room.
     pub fn rewritten<C: Fn(&Indexes, &[Job]) -> Result<Vec<Done>, Refusal>>(
         &self,
         alloc: Global,

@@ -98,7 +98,11 @@ impl Resolution {
         group.timeline(payload_type)
     }
 
-    /// The same resolution, which shares all with this one, at no cost that grows. `NoMemory` where a share is refused.
+    /// A copy that shares all with this resolution, at no cost that grows.
+    ///
+    /// # Errors
+    ///
+    /// `NoMemory` where a share is refused.
     pub fn copy(&self) -> Result<Resolution, Refusal>
         ensures { IsCopyOf result self.now }
     {
@@ -109,7 +113,11 @@ impl Resolution {
         })
     }
 
-    /// Closes the open batch of the journal, also an empty one. `NoMemory` leaves all as it was.
+    /// Closes the open batch of the journal, also an empty one.
+    ///
+    /// # Errors
+    ///
+    /// `NoMemory` where there is no room for the batch; then all is as it was.
     pub fn seal(&mut self) -> Result<(), Refusal>
         ensures tie { self.new.tie ≡ self.old.tie }
         ensures base { self.new.book.base ≡ self.old.book.base }
@@ -123,7 +131,11 @@ impl Resolution {
     }
 
     /// Makes the objects of `at` the base, lets the closed batches go and answers the base's version: see
-    /// `Book::condense`. `NoMemory` leaves all as it was.
+    /// `Book::condense`.
+    ///
+    /// # Errors
+    ///
+    /// `NoMemory` where there is no room; then all is as it was.
     pub fn condense(&mut self, at: &Book) -> Result<u64, Refusal>
         requires { at.now.objects ≡ sealed_of self.old.book }
         ensures tie { self.new.tie ≡ self.old.tie }

@@ -43,7 +43,11 @@ impl Model for Schedule {
 }
 
 impl Schedule {
-    /// The schedule of no resources. `NoMemory` where there is no room for it.
+    /// The schedule of no resources.
+    ///
+    /// # Errors
+    ///
+    /// `NoMemory` where there is no room for it.
     pub fn new(alloc: Global) -> Result<Schedule, Refusal>
         ensures { IsCopyOf result (record { seats = []; groups = [] }) }
     {
@@ -69,7 +73,11 @@ impl Schedule {
         self.groups.get(&slot)
     }
 
-    /// The same schedule, which shares its seats and its groups, whatever their number.
+    /// A copy that shares the seats and the groups, whatever their number.
+    ///
+    /// # Errors
+    ///
+    /// `NoMemory` only where a count of owners is full.
     pub fn copy(&self) -> Result<Schedule, Refusal>
         ensures { IsCopyOf result self.now }
     {

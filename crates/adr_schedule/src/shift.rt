@@ -176,7 +176,7 @@ impl Schedule {
         Ok(Remade { groups, slots })
     }
 
-    /// The same seats with what was made for these slots in them.
+    /// The seats with what was made for these slots in them.
     fn exchanged(
         &self,
         alloc: Global,
@@ -203,9 +203,13 @@ impl Schedule {
     /// entries cannot be laid, and all groups where there are no ranks, inside the entries of the events, one job a payload
     /// type.
     ///
-    /// Cost: for each place a look-up; where places move, some more, and a copy of the table of seats; for each group that
-    /// is laid and each type of the events a search of the timeline for each entry, a rank for each segment that is met,
-    /// one splice, and a repair of the windows in which the event that goes governs; and that of the jobs of the others.
+    /// Cost: for each place a look-up; where places move, some more, and a copy of the table of seats; for each group
+    /// that is laid and each type of the events a search of the timeline for each entry, a rank for each segment that
+    /// is met, one splice, and a repair of the windows in which the event that goes governs; and that of the jobs of
+    /// the others.
+    ///
+    /// # Errors
+    ///
     /// `NoMemory` where there is no room.
     pub fn shifted<C: Fn(&Indexes, &[Job]) -> Result<Vec<Done>, Refusal>, R: Ranks>(
         &self,
