@@ -178,7 +178,7 @@ fn copy_unless(snapshot: &Snapshot, is_had: bool) -> Option<Result<Snapshot, Ref
     if is_had { None } else { Some(snapshot.copy()) }
 }
 
-// The same in place.
+// As `enter`, of a reader that stays in its place.
 fn glance<J: Naming>(reader: &mut RuledReader<J>, had: Option<u64>) -> Option<Sight>
     ensures sight { IfSome result (λ g. IsPrefix (known reader.old.place) (known reader.new.place) × (seen_by g.page.log ≡ known reader.new.place) × (g.page.book ≡ J.history) × IsSight (seen_by g.page.log) g.page.log g.number g.attempt) }
     ensures fresh { IfSome result (λ g. IfSome g.fresh (λ copy. IfOk copy (IsLastBy J.tie (known reader.new.place)) × OnlyNoMemory copy)) }
@@ -230,9 +230,12 @@ fn shared(own: &Arc<Snapshot>) -> Result<Arc<Snapshot>, Refusal>
 impl<J: Naming> Reader<J> {
     /// The last publication, under the board's rule for ties. It waits for nobody.
     ///
-    /// `NoMemory` where there is no room for a share of it; `NoRuntime` once the editor has closed the board. Cost: one
-    /// more share of the snapshot that the reader has, which takes no memory; at the first look at a publication a copy
-    /// of its snapshot, which shares all.
+    /// Cost: one more share of the snapshot that the reader has, which takes no memory; at the first look at a
+    /// publication a copy of its snapshot, which shares all.
+    ///
+    /// # Errors
+    ///
+    /// `NoMemory` where there is no room for a share of it; `NoRuntime` once the editor has closed the board.
     pub fn look(&mut self) -> Result<Arc<Snapshot>, Refusal>
         ensures last { IfOk result (λ s. IsLastBy J.tie self.new.seen (arc_value s)) }
         ensures grows { IfOk result (λ _. Grows self.old self.new) }
@@ -288,7 +291,7 @@ fn show<J: Naming, R: Wait>(
     }
 }
 
-// The same in place.
+// As `show`, of a writer that stays in its place.
 fn show_next<J: Naming, R: Wait>(
     writer: &mut RuledWriter<J>,
     rt: &R,
@@ -363,6 +366,11 @@ impl<J: Naming> Model for Editor<J> {
 
 impl<J: Naming> Editor<J> {
     /// Makes an edit, as the desk's `apply` does. Readers see it once it is published.
+    ///
+    /// # Errors
+    ///
+    /// Of the edit's faults the least, as the desk's `apply` names them; `NoMemory` in place of any. Then all is as it
+    /// was.
     pub fn apply(&mut self, edit: Edit) -> Result<Receipt, Refusal>
         ensures answer { Answers (result_map (λ _. made_book self.old.book.objects edit) result) (step_to (full_at self.old.book.base.version) self.old.book.objects edit) }
         ensures tie { self.new.tie ≡ self.old.tie }
@@ -383,6 +391,10 @@ impl<J: Naming> Editor<J> {
     /// and pass the gate before each of its jobs, as the desk's `apply_with` does. Under `Tie::Newest` an event is no
     /// job where it is laid over what groups show or taken out of it: the calling thread does so, past no gate. The
     /// answer is the same for every number of workers.
+    ///
+    /// # Errors
+    ///
+    /// As of [`Editor::apply`].
     pub fn apply_with<R: Threads + Sync, G: Gate + Sync>(
         &mut self,
         rt: &R,
@@ -444,9 +456,12 @@ impl<J: Naming> Editor<J> {
 
     /// Closes the open batch, and shows the desk to readers under the next number, also where nothing is new.
     ///
-    /// It waits for readers that are just taking a share of the publication before the last. `Full` after 1,000,000
-    /// publications, else `NoMemory`; both leave all as it was. Cost: a copy of the book and its timelines, which
-    /// shares all with the desk.
+    /// It waits for readers that are just taking a share of the publication before the last. Cost: a copy of the book
+    /// and its timelines, which shares all with the desk.
+    ///
+    /// # Errors
+    ///
+    /// `Full` after 1,000,000 publications, else `NoMemory`; both leave all as it was.
     pub fn publish<R: Wait>(&mut self, rt: &R) -> Result<Published, Refusal>
         ensures board { OnOk result (self.new ≡ with_published self.old) }
         ensures number { IfOk result (λ p. p.number ≡ length self.old.published) }
@@ -477,7 +492,11 @@ impl<J: Naming> Editor<J> {
 
     /// Counts the accepted edits from the last publication on, lets the closed batches go and answers that
     /// publication's version. Readers see nothing of it. Publications that stand share those batches, so their memory
-    /// comes back as later ones take their place. `NoMemory` leaves all as it was.
+    /// comes back as later ones take their place.
+    ///
+    /// # Errors
+    ///
+    /// `NoMemory` where there is no room; then all is as it was.
     pub fn condense(&mut self) -> Result<u64, Refusal>
         ensures version { IfOk result (λ version. version ≡ (last_of self.old.published).objects.version) }
         ensures base { OnOk result (self.new.book.base ≡ (last_of self.old.published).objects) }
@@ -509,6 +528,7 @@ impl<J: Naming> Editor<J> {
 /// A board that has not been opened yet. Its history has no name.
 #[derive(Drop)]
 pub struct NewBoard {
+    /// The history that the board begins, in which nothing is noted yet.
     pub diary: Diary,
     ghost empty: { diary.page.log ≡ [] },
 }
@@ -608,6 +628,8 @@ pub struct Board;
 impl Board {
     /// A board with publication 0 alone, which is the empty book, an empty desk, and so many readers, 1 to 64.
     ///
+    /// # Errors
+    ///
     /// `NoRuntime` where a reader's place is refused: then the board is ended again, which may wait, by the handle;
     /// else `NoMemory`.
     pub fn open<J: Naming, R: Wait>(
@@ -634,7 +656,11 @@ impl Board {
     }
 
     /// A board as [`Board::open`] makes it, over a desk that stays the editor's, whose book has no base and no closed
-    /// batch; it is refused as `open` is. Publication 0 is the empty book here too.
+    /// batch. Publication 0 is the empty book here too.
+    ///
+    /// # Errors
+    ///
+    /// As of [`Board::open`].
     pub fn over<J: Naming, R: Wait>(
         rt: &R,
         alloc: Global,

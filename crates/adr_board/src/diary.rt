@@ -23,6 +23,7 @@ impl Model for Publication {
 pub struct Entry {
     /// Whether readers were shown the publication. If not, an attempt begins, or one that was refused ends.
     pub shown: bool,
+    /// The book that the attempt is to publish, where it begins as where it ends.
     pub publication: Publication,
 }
 
@@ -140,7 +141,8 @@ impl Diary {
         }
     }
 
-    /// Begins an attempt to publish the book. The diary is as it was until that ends, by `end`. None after 2^62 attempts.
+    /// Begins an attempt to publish the book. The diary is as it was until that ends, by `end`. None after 2^62
+    /// attempts.
     pub fn begin(&self, book: &Book) -> Option<Attempt>
         ensures history { IfSome result (λ a. a.page.book ≡ self.now.page.book) }
         ensures log { IfSome result (λ a. a.page.log ≡ self.now.page.log ++ begun book.now ∷ []) }

@@ -1,9 +1,9 @@
 #![tactic(auto)]
 //! A desk whose publications many threads read while one thread goes on editing.
 //!
-//! The history of its publications, attempts and successes, exists in proofs alone. Snapshots that go to readers and tokens
-//! that the editor tells carry it, each up to some attempt. As of two of them one begins the other, what a reader was told
-//! can be compared with what it sees.
+//! The history of its publications, attempts and successes, exists in proofs alone. Snapshots that go to readers and
+//! tokens that the editor tells carry it, each up to some attempt. As of two of them one begins the other, what a
+//! reader was told can be compared with what it sees.
 
 mod board;
 mod diary;

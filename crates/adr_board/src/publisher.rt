@@ -104,7 +104,11 @@ fn opening_snapshot(alloc: Global, tie: Tie) -> Result<Arc<Snapshot>, Refusal>
 impl Publisher {
     ghost use Rattle.std.specs.Arc.{arc_value};
 
-    /// An empty desk, published as number 0. `NoMemory` where there is no room for it.
+    /// An empty desk, published as number 0.
+    ///
+    /// # Errors
+    ///
+    /// `NoMemory` where there is no room for it.
     #[tactic(auto, using(crate::proofs::Following::is_opening))]
     pub fn open(alloc: Global, tie: Tie) -> Result<Publisher, Refusal>
         ensures ok { IfOk result (λ p. p ≡ record { tie = tie; book = opening_book; last = opening_of tie }) }
@@ -113,8 +117,11 @@ impl Publisher {
         Publisher::over(alloc, Desk::new(alloc, tie)?)
     }
 
-    /// A desk of which nothing was published yet but number 0, the empty book. `NoMemory` where there is no room for
-    /// that.
+    /// A desk of which nothing was published yet but number 0, the empty book.
+    ///
+    /// # Errors
+    ///
+    /// `NoMemory` where there is no room for that.
     pub fn over(alloc: Global, desk: Desk) -> Result<Publisher, Refusal>
         requires base { desk.book.base ≡ empty }
         requires closed { desk.book.closed ≡ [] }
@@ -127,6 +134,11 @@ impl Publisher {
     }
 
     /// Makes an edit, as the desk's `apply` does.
+    ///
+    /// # Errors
+    ///
+    /// Of the edit's faults the least, as the desk's `apply` names them; `NoMemory` in place of any. Then all is as it
+    /// was.
     pub fn apply(&mut self, edit: Edit) -> Result<Receipt, Refusal>
         ensures answer { Answers (result_map (λ _. made_book self.old.book.objects edit) result) (step_to (full_at self.old.book.base.version) self.old.book.objects edit) }
         ensures tie { self.new.tie ≡ self.old.tie }
@@ -146,6 +158,10 @@ impl Publisher {
     }
 
     /// Makes an edit by several workers, as the desk's `apply_with` does.
+    ///
+    /// # Errors
+    ///
+    /// As of [`Publisher::apply`].
     pub fn apply_with<R: Threads + Sync, G: Gate + Sync>(
         &mut self,
         rt: &R,
@@ -170,8 +186,12 @@ impl Publisher {
         self.desk.apply_with(rt, workers, gate, edit)
     }
 
-    /// The desk as it is, sealed, under the next number. `Full` after 1,000,000 publications, else `NoMemory`. Cost: a
-    /// copy of the book and its timelines, which shares all with the desk.
+    /// The desk as it is, sealed, under the next number. Cost: a copy of the book and its timelines, which shares all
+    /// with the desk.
+    ///
+    /// # Errors
+    ///
+    /// `Full` after 1,000,000 publications, else `NoMemory`.
     pub fn prepare(&self) -> Result<Prepared, Refusal>
         ensures next { IfOk result (λ p. p ≡ next_of self.now) }
         ensures most { IfOk result (λ p. p.number ≤ MOST_PUBLICATIONS) }
@@ -203,7 +223,11 @@ impl Publisher {
     }
 
     /// Counts the accepted edits from the last publication on, lets the closed batches go and answers that
-    /// publication's version. `NoMemory` leaves all as it was.
+    /// publication's version.
+    ///
+    /// # Errors
+    ///
+    /// `NoMemory` where there is no room; then all is as it was.
     pub fn condense(&mut self) -> Result<u64, Refusal>
         ensures version { IfOk result (λ version. version ≡ self.old.last.book.objects.version) }
         ensures base { OnOk result (self.new.book.base ≡ self.old.last.book.objects) }

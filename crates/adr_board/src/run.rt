@@ -202,9 +202,13 @@ fn replay_as<J: Naming, R: Wait>(
 
 /// Takes the steps on a new board with so many readers, all on this thread, and answers what each of them shows.
 ///
-/// A refused edit and a publication past the last are shown; want of memory ends the run with nothing but `NoMemory`, and
-/// a look that is refused, or a board that can't be opened, with `NoRuntime`. It waits where `Editor::publish` does. Cost:
-/// that of the calls, and a look more for each look.
+/// A refused edit and a publication past the last are shown. It waits where `Editor::publish` does. Cost: that of the
+/// calls, and a look more for each look.
+///
+/// # Errors
+///
+/// Want of memory ends the run with nothing but `NoMemory`, and a look that is refused, or a board that can't be
+/// opened, with `NoRuntime`.
 pub fn replay<R: Wait>(
     rt: &R,
     alloc: Global,

@@ -11,8 +11,11 @@ use std::sync::Arc;
 /// A share of the last publication's snapshot, with the place of its attempt and the history up to that.
 #[derive(Drop)]
 pub struct Shown {
+    /// The last publication, which readers take shares of.
     pub snapshot: Arc<Snapshot>,
+    /// The place of its attempt among those of the history, from 0.
     pub attempt: u64,
+    /// The history up to that attempt.
     pub page: Page,
 }
 
@@ -33,8 +36,11 @@ impl Shown {
 
 /// What a copy shows, whoever shares it. No value of it is made.
 pub struct Showing {
+    /// The last publication.
     pub snapshot: Snapshot,
+    /// The place of its attempt among those of the history, from 0.
     pub attempt: u64,
+    /// The history up to that attempt.
     pub page: Page,
 }
 

@@ -67,7 +67,11 @@ impl Model for Snapshot {
 }
 
 impl Snapshot {
-    /// Publication number 0: the empty book. `NoMemory` where there is no room for it.
+    /// Publication number 0: the empty book.
+    ///
+    /// # Errors
+    ///
+    /// `NoMemory` where there is no room for it.
     pub fn first(alloc: Global, tie: Tie) -> Result<Snapshot, Refusal>
         ensures number { IfOk result (λ snapshot. snapshot.number ≡ 0) }
         ensures tie { IfOk result (λ snapshot. snapshot.tie ≡ tie) }
@@ -84,8 +88,8 @@ impl Snapshot {
         })
     }
 
-    /// The publication of that number, of a resolution that is sealed. `names_stay_private` shows the second condition of
-    /// the books that edits leave.
+    /// The publication of that number, of a resolution that is sealed. `names_stay_private` shows the second condition
+    /// of the books that edits leave.
     pub fn of(alloc: Global, number: u64, resolution: Resolution) -> Snapshot
         requires sealed { resolution.book.pending ≡ [] }
         requires names { HasPrivateNames resolution.book.objects }
@@ -182,7 +186,11 @@ impl Snapshot {
         let _journal = self.resolution.book().journal();
     }
 
-    /// The same publication, which shares all with this one, at no cost that grows. `NoMemory` where a share is refused.
+    /// A copy that shares all with this publication, at no cost that grows.
+    ///
+    /// # Errors
+    ///
+    /// `NoMemory` where a share is refused.
     pub fn copy(&self) -> Result<Snapshot, Refusal>
         ensures { IsCopyOf result self.now }
     {

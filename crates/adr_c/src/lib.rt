@@ -1,7 +1,7 @@
 //! The resolver for callers that are not Rattle: an editor and readers behind handles that the caller keeps.
 //!
-//! Each call answers 0, or the number of the refusal (1 to 29, 98 or 99), or a code from 100 on for what C alone can get
-//! wrong. A handle of zeros is closed, and may be passed to each call. A call that is refused changes nothing.
+//! Each call answers 0, or the number of the refusal (1 to 29, 98 or 99), or a code from 100 on for what C alone can
+//! get wrong. A handle of zeros is closed, and may be passed to each call. A call that is refused changes nothing.
 #![tactic(auto)]
 
 ghost use Rattle.std.specs.Prelude.{◌≡◌, option_map, Some, ⊤};
@@ -149,8 +149,8 @@ pub extern "C" fn kuvteleg_condense(alloc: Global, editor: &mut Editor, version:
     code
 }
 
-/// Answers a line of the script. The reply goes to `out` if there is room for it, and its length to `len`; it also stays
-/// with the handle for [`kuvteleg_reply`]. A refused line has no reply.
+/// Answers a line of the script. The reply goes to `out` if there is room for it, and its length to `len`; it also
+/// stays with the handle for [`kuvteleg_reply`]. A refused line has no reply.
 #[unsafe(no_mangle)]
 pub extern "C" fn kuvteleg_line(
     alloc: Global,

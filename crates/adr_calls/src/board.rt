@@ -16,8 +16,8 @@ use std::io;
 use std::sync::Wait;
 use std::thread::Threads;
 
-/// Opens a board empty, and over a desk; and then makes the calls of the lines on a new board under that rule for ties, and
-/// asks its last publication what they ask.
+/// Opens a board empty, and over a desk; and then makes the calls of the lines on a new board under that rule for ties,
+/// and asks its last publication what they ask.
 pub(crate) fn try_board<R: AllocGlobal + Print + Wait + Threads + Sync>(
     rt: &R,
     tie: Tie,

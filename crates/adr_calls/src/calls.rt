@@ -57,8 +57,8 @@ fn number(word: &str) -> usize {
     word.parse::<usize>().unwrap_or(0)
 }
 
-/// The call of the line: `seal`, `copy`, `load`, `condense`, `publish`, `look READER`, `tell READER`, an edit (`create program
-/// p1`), `judge` and an edit, or `by COUNT` and an edit for so many workers.
+/// The call of the line: `seal`, `copy`, `load`, `condense`, `publish`, `look READER`, `tell READER`, an edit (`create
+/// program p1`), `judge` and an edit, or `by COUNT` and an edit for so many workers.
 fn call_of(alloc: Global, line: &str) -> Result<Call, Refusal> {
     let (first, rest) = word(line);
     match first {

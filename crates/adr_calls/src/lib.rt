@@ -1,5 +1,5 @@
-//! Makes the calls of a book, a desk and a board that lines name, and tells what they answer: for stored runs, and for a
-//! test that refuses growths of memory from outside.
+//! Makes the calls of a book, a desk and a board that lines name, and tells what they answer: for stored runs, and for
+//! a test that refuses growths of memory from outside.
 #![tactic(auto)]
 
 ghost use Rattle.std.specs.Prelude.{◌<◌, ◌≤◌};
@@ -57,14 +57,18 @@ fn try_part<R: AllocGlobal + Print + Wait + Threads + Sync>(rt: &R, part: &str) 
     }
 }
 
-/// Makes the calls of a text of parts, with an empty line between two. The first word of a part is `book`, `desk`, `load`,
-/// `touches`, `receipts`, `replay` or `board`; what its other lines may be stands with each. Behind it a title may stand:
-/// it may begin with `latest-start`, the rule for ties of all but a book and receipts, and `one reader` in that of a
-/// replay says how many there are.
+/// Makes the calls of a text of parts, with an empty line between two. The first word of a part is `book`, `desk`,
+/// `load`, `touches`, `receipts`, `replay` or `board`; what its other lines may be stands with each. Behind it a title
+/// may stand: it may begin with `latest-start`, the rule for ties of all but a book and receipts, and `one reader` in
+/// that of a replay says how many there are.
 ///
-/// Before a call stands a line that names it, by which the test knows where to count growths. Where the call is refused for
-/// want of memory, what is there is compared with another that the same calls made, or with what was there before, and the
-/// call is made again.
+/// Before a call stands a line that names it, by which the test knows where to count growths. Where the call is refused
+/// for want of memory, what is there is compared with another that the same calls made, or with what was there before,
+/// and the call is made again.
+///
+/// # Errors
+///
+/// Those of the standard output; `OutOfMemory` where a refusal ends a part.
 pub fn try_parts<R: AllocGlobal + Print + Wait + Threads + Sync>(
     rt: &R,
     text: &str,

@@ -234,8 +234,8 @@ fn try_lines<R: AllocGlobal + Print + Threads + Sync>(
     Ok(())
 }
 
-/// Makes the edits of the lines on a new desk under each rule for ties. A line may begin with `tell` and a range: then a copy
-/// of the desk is edited, and the receipt is told; by one worker, two and 64 it must be the same.
+/// Makes the edits of the lines on a new desk under each rule for ties. A line may begin with `tell` and a range: then
+/// a copy of the desk is edited, and the receipt is told; by one worker, two and 64 it must be the same.
 pub(crate) fn tell_receipts<R: AllocGlobal + Print + Threads + Sync>(
     rt: &R,
     lines: &str,

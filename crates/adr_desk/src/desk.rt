@@ -70,7 +70,11 @@ impl Model for Desk {
 }
 
 impl Desk {
-    /// The desk of an empty book, under a rule for ties that stays. `NoMemory` where there is no room for it.
+    /// The desk of an empty book, under a rule for ties that stays.
+    ///
+    /// # Errors
+    ///
+    /// `NoMemory` where there is no room for it.
     pub fn new(alloc: Global, tie: Tie) -> Result<Desk, Refusal>
         ensures tie { IfOk result (λ desk. desk.tie ≡ tie) }
         ensures base { IfOk result (λ desk. desk.book.base ≡ empty) }
@@ -90,13 +94,16 @@ impl Desk {
 
     /// The desk of the edits, from an empty book, and for each edit in order the version after it or why it is refused:
     /// as `apply` makes and answers them one after the other on a new desk. A refused edit changes nothing. All
-    /// timelines are built once, at the end, by as many threads as there are processors. `NoMemory` for one edit or one
-    /// timeline refuses all.
+    /// timelines are built once, at the end, by as many threads as there are processors.
     ///
     /// Cost: that of judging and committing each edit; the keys of all resources and events, and for each resource a
     /// look for the events that apply to it; each event is laid out once for all and once for each group to which it
     /// applies, where its entries are indexed; and for each group and payload type a sort of the entries of its own
     /// events, and a pass over them.
+    ///
+    /// # Errors
+    ///
+    /// `NoMemory` where there is no room: for one edit or one timeline it refuses all.
     pub fn load<R: Threads + Sync>(
         rt: &R,
         alloc: Global,
@@ -125,8 +132,12 @@ impl Desk {
         Ok((desk, answers))
     }
 
-    /// A desk of its own with the same book and timelines, which it shares. `NoMemory` where there is no room. Cost:
-    /// the keys of all resources and events, and the entries of all events.
+    /// A desk of its own with the same book and timelines, which it shares. Cost: the keys of all resources and events,
+    /// and the entries of all events.
+    ///
+    /// # Errors
+    ///
+    /// `NoMemory` where there is no room.
     pub fn copy(&self) -> Result<Desk, Refusal>
         ensures { IsCopyOf result self.now }
     {
@@ -174,7 +185,11 @@ impl Desk {
     }
 
     /// A copy of the book with its timelines whose open batch is closed, which shares all with the desk: what a
-    /// publication shows. `NoMemory` where there is no room for the batch.
+    /// publication shows.
+    ///
+    /// # Errors
+    ///
+    /// `NoMemory` where there is no room for the batch.
     pub fn sealed(&self) -> Result<Resolution, Refusal>
         ensures tie { IfOk result (λ sealed. sealed.tie ≡ self.now.tie) }
         ensures base { IfOk result (λ sealed. sealed.book.base ≡ self.now.book.base) }
@@ -198,7 +213,11 @@ impl Desk {
         drop(mem::replace(&mut self.resolution, resolution));
     }
 
-    /// Closes the open batch of the journal, also an empty one. `NoMemory` leaves all as it was.
+    /// Closes the open batch of the journal, also an empty one.
+    ///
+    /// # Errors
+    ///
+    /// `NoMemory` where there is no room for the batch; then all is as it was.
     pub fn seal(&mut self) -> Result<(), Refusal>
         ensures tie { self.new.tie ≡ self.old.tie }
         ensures base { self.new.book.base ≡ self.old.book.base }
@@ -212,7 +231,11 @@ impl Desk {
     }
 
     /// Makes the objects of `at` the base, lets the closed batches go and answers the base's version: see
-    /// `Book::condense`. `NoMemory` leaves all as it was.
+    /// `Book::condense`.
+    ///
+    /// # Errors
+    ///
+    /// `NoMemory` where there is no room; then all is as it was.
     pub fn condense(&mut self, at: &Book) -> Result<u64, Refusal>
         requires { at.now.objects ≡ sealed_of self.old.book }
         ensures tie { self.new.tie ≡ self.old.tie }
@@ -268,7 +291,7 @@ impl Desk {
     }
 
     /// Makes an edit, repairs timelines where it touches them, and answers the version, where that was and how much was
-    /// compared; or the least of the edit's faults, and then all is as it was.
+    /// compared.
     ///
     /// Cost: of an event, the resources to which it applies, and for each group of them the entries that meet the
     /// event's; of a program that changes, a look at each event, and for those of the program that of the resources
@@ -281,6 +304,12 @@ impl Desk {
     ///
     /// Memory beside what is kept: the index of a payload type keeps empty chunks of some 7 KiB ready, one for each
     /// entry of an event, or one for each 32 of them and for each chunk that it has, where those are fewer.
+    ///
+    /// # Errors
+    ///
+    /// The least of the edit's faults: of a written event's layout `NoStart`, `AfterEndless` or `TimeRange`; `Exists`,
+    /// `NotThere`; `NoProgram`, `NoVen`; `InUse`; `Full` at a limit of the book or its journal. `NoMemory` may come in
+    /// place of any. Then all is as it was.
     pub fn apply(&mut self, edit: Edit) -> Result<Receipt, Refusal>
         ensures answer { Answers (result_map (λ _. made_book self.old.book.objects edit) result) (step_to (full_at self.old.book.base.version) self.old.book.objects edit) }
         ensures tie { self.new.tie ≡ self.old.tie }
@@ -305,6 +334,10 @@ impl Desk {
     /// Makes an edit as [`Desk::apply`] does, by several workers, 1 to 64, who share out the jobs of its repair: see
     /// `do_all` of adr_group. Each passes the gate before each of its jobs; an event that is laid over
     /// timelines, or taken out of them, leaves no job. The answer is the same for every number of workers.
+    ///
+    /// # Errors
+    ///
+    /// As of [`Desk::apply`].
     pub fn apply_with<R: Threads + Sync, G: Gate + Sync>(
         &mut self,
         rt: &R,
@@ -332,7 +365,7 @@ impl Desk {
         self.apply_by(&crowd, edit)
     }
 
-    /// The same by a crew.
+    /// Makes an edit as [`Desk::apply`] does, by a crew that does the jobs of its repair.
     fn apply_by<C: Fn(&Indexes, &[Job]) -> Result<Vec<Done>, Refusal>>(
         &mut self,
         crew: &C,

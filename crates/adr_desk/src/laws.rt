@@ -1,4 +1,5 @@
-//! What the repairs of an edit rest on: a law of the definitions. The function's clause is the law, and its body does nothing.
+//! What the repairs of an edit rest on: a law of the definitions. The function's clause is the law, and its body does
+//! nothing.
 ghost use Rattle.adr_model.specs.declared.entry.Tie.{Tie};
 ghost use Rattle.adr_desk.specs.Room.{EditsHaveRoom};
 

@@ -76,7 +76,8 @@ fn regrouped<C: Fn(&Indexes, &[Job]) -> Result<Vec<Done>, Refusal>>(
     }
 }
 
-/// The groups after an accepted edit of a program, a ven or a resource, and then the keys. A refused call leaves the keys.
+/// The groups after an accepted edit of a program, a ven or a resource, and then the keys. A refused call leaves the
+/// keys.
 fn followed<C: Fn(&Indexes, &[Job]) -> Result<Vec<Done>, Refusal>>(
     alloc: Global,
     crew: &C,
@@ -111,8 +112,8 @@ fn followed<C: Fn(&Indexes, &[Job]) -> Result<Vec<Done>, Refusal>>(
     Ok(after)
 }
 
-/// Makes an accepted edit of a program, a ven or a resource to the keys, and answers the groups after it. A refused call
-/// leaves the keys.
+/// Makes an accepted edit of a program, a ven or a resource to the keys, and answers the groups after it. A refused
+/// call leaves the keys.
 fn after_other<C: Fn(&Indexes, &[Job]) -> Result<Vec<Done>, Refusal>>(
     alloc: Global,
     crew: &C,

@@ -59,8 +59,8 @@ fn take_out(indexes: &mut Indexes, leaving: &[TypeEntries])
     indexes.exchange(leaving, &[]);
 }
 
-/// The groups where the one event goes and the other comes: first at the places to which the other comes, and then, where
-/// these are not the same, at those which the one leaves.
+/// The groups where the one event goes and the other comes: first at the places to which the other comes, and then,
+/// where these are not the same, at those which the one leaves.
 fn regrouped<C: Fn(&Indexes, &[Job]) -> Result<Vec<Done>, Refusal>>(
     alloc: Global,
     crew: &C,
@@ -174,8 +174,8 @@ fn exchanged<C: Fn(&Indexes, &[Job]) -> Result<Vec<Done>, Refusal>>(
     }
 }
 
-/// Makes an accepted edit of an event to the keys and the indexes, and answers the groups after it. A refused call leaves
-/// keys and indexes of the old book.
+/// Makes an accepted edit of an event to the keys and the indexes, and answers the groups after it. A refused call
+/// leaves keys and indexes of the old book.
 pub(crate) fn after_event<C: Fn(&Indexes, &[Job]) -> Result<Vec<Done>, Refusal>>(
     alloc: Global,
     crew: &C,

@@ -17,8 +17,8 @@ use std::marker::Model;
 /// Where an edit may have changed what governs: touches by resource, then by event, the old event before the new one,
 /// then by interval and type; one window may stand twice. Contracts see the list.
 ///
-/// It keeps the edit and the books before and after it, which share all that the edit left, and lists on demand: one edit
-/// may touch hundreds of thousands of windows.
+/// It keeps the edit and the books before and after it, which share all that the edit left, and lists on demand: one
+/// edit may touch hundreds of thousands of windows.
 pub struct Touched {
     old: Book,
     new: Book,
@@ -62,9 +62,13 @@ impl Touched {
         })
     }
 
-    /// The touches, listed. `NoMemory` where there is no room for the list. Cost: a look at each resource and event; of an
-    /// event that is written or removed, it is held against each resource; of a program that changes, each of its events
-    /// against each resource; of a ven, each of its resources against each event; of a resource, it against each event.
+    /// The touches, listed. Cost: a look at each resource and event; of an event that is written or removed, it is held
+    /// against each resource; of a program that changes, each of its events against each resource; of a ven, each of
+    /// its resources against each event; of a resource, it against each event.
+    ///
+    /// # Errors
+    ///
+    /// `NoMemory` where there is no room for the list.
     pub fn to_vec(&self, alloc: Global) -> Result<Vec<Touch>, Refusal>
         ensures list { IfOk result (λ list. list.items ≡ self.now) }
         ensures memory { OnlyNoMemory result }
@@ -72,8 +76,12 @@ impl Touched {
         edit_touches(alloc, &self.old, &self.new, &self.edit)
     }
 
-    /// The touches, to be listed resource by resource: one after the other these lists are that of `to_vec`, and no more
-    /// than one of them is held. `NoMemory` where there is no room for the ids of the objects that the edit concerns.
+    /// The touches, to be listed resource by resource: one after the other these lists are that of `to_vec`, and no
+    /// more than one of them is held.
+    ///
+    /// # Errors
+    ///
+    /// `NoMemory` where there is no room for the ids of the objects that the edit concerns.
     pub fn by_resource(&self, alloc: Global) -> Result<EditTouches<'_>, Refusal>
         ensures left { IfOk result (λ left. flat_map (λ list. list) left ≡ self.now) }
         ensures resources { IfOk result AreByResource }
@@ -82,7 +90,11 @@ impl Touched {
         EditTouches::of(alloc, &self.old, &self.new, &self.edit)
     }
 
-    /// The same touches, which share all with these. `NoMemory` only where a share is refused.
+    /// A copy that shares all with these touches.
+    ///
+    /// # Errors
+    ///
+    /// `NoMemory` only where a share is refused.
     pub fn copy(&self) -> Result<Touched, Refusal>
         ensures { IsCopyOf result self.now }
     {

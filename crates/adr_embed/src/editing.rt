@@ -35,6 +35,10 @@ impl Model for Editing {
 
 impl Editing {
     /// No objects, published as number 0, and no reply.
+    ///
+    /// # Errors
+    ///
+    /// `NoMemory` where there is no room for them.
     pub fn open(alloc: Global, tie: Tie) -> Result<Editing, Refusal>
         ensures ok { IfOk result (λ e. e ≡ record { kept = kept_start tie; reply = [] }) }
         ensures memory { OnlyNoMemory result }
@@ -117,7 +121,11 @@ impl Editing {
         steps::edit(&mut self.publisher, Edit::Remove(kind, id))
     }
 
-    /// Publishes the objects as they are. `Full` after 1,000,000 publications; `NoMemory`.
+    /// Publishes the objects as they are.
+    ///
+    /// # Errors
+    ///
+    /// `Full` after 1,000,000 publications; `NoMemory` where there is no room. Nothing is changed then.
     pub fn publish(&mut self) -> Result<Published, Refusal>
         ensures publication { IsPublication self.old.kept self.new.kept result }
         ensures reply { self.new.reply ≡ self.old.reply }
@@ -125,7 +133,11 @@ impl Editing {
         steps::publish(&mut self.publisher)
     }
 
-    /// Counts the accepted edits from the last publication on, and answers its version, or `NoMemory`.
+    /// Counts the accepted edits from the last publication on, and answers its version.
+    ///
+    /// # Errors
+    ///
+    /// `NoMemory` where there is no room. Nothing is changed then.
     pub fn condense(&mut self) -> Result<u64, Refusal>
         ensures condensed { IsCondensed self.old.kept self.new.kept result }
         ensures reply { self.new.reply ≡ self.old.reply }
@@ -140,7 +152,11 @@ impl Editing {
         &self.reply
     }
 
-    /// A reader of the last publication. `NoMemory`.
+    /// A reader of the last publication.
+    ///
+    /// # Errors
+    ///
+    /// `NoMemory` where there is no room for a share of it.
     pub fn look(&self, alloc: Global) -> Result<Reading, Refusal>
         ensures ok { IfOk result (λ r. r ≡ record { number = self.now.kept.number; tie = self.now.kept.tie; book = self.now.kept.published; reply = [] }) }
         ensures memory { OnlyNoMemory result }

@@ -1,6 +1,6 @@
 #![tactic(auto)]
-//! An editor that hands out its publications as shares, and waits for nobody: what a caller embeds that has threads and an
-//! exchange of its own.
+//! An editor that hands out its publications as shares, and waits for nobody: what a caller embeds that has threads and
+//! an exchange of its own.
 
 mod editing;
 mod governor;

@@ -16,8 +16,8 @@ use std::alloc::Global;
 use std::marker::Model;
 use std::sync::Arc;
 
-/// A publication, and the answer that was given last from it. Contracts see its number, its rule for ties and its objects,
-/// and the answer.
+/// A publication, and the answer that was given last from it. Contracts see its number, its rule for ties and its
+/// objects, and the answer.
 #[derive(Drop)]
 pub struct Reading {
     snapshot: Arc<Snapshot>,
@@ -95,7 +95,11 @@ impl Reading {
         })
     }
 
-    /// Another reader of the same publication, for another thread. `NoMemory`.
+    /// Another reader of the same publication, for another thread.
+    ///
+    /// # Errors
+    ///
+    /// `NoMemory` where there is no room for a share of it.
     pub fn share(&self, alloc: Global) -> Result<Reading, Refusal>
         ensures ok { IfOk result (λ r. r ≡ record self.now { reply = [] }) }
         ensures memory { OnlyNoMemory result }
@@ -119,13 +123,13 @@ impl Reading {
         Ok(())
     }
 
-    /// What governs the resource for the payload type at so many seconds since 1970-01-01T00:00:00Z and nanoseconds after
-    /// them, and keeps the bytes of the answer. Cost: a few look-ups in trees, and the bytes.
+    /// What governs the resource for the payload type at so many seconds since 1970-01-01T00:00:00Z and nanoseconds
+    /// after them, and keeps the bytes of the answer. Cost: a few look-ups in trees, and the bytes.
     ///
     /// # Errors
     ///
-    /// The least fault: `BadMoment`, `BadId`, `BadText` of the type, `UnknownResource`; `NoMemory` in place of any. There
-    /// is no answer then.
+    /// The least fault: `BadMoment`, `BadId`, `BadText` of the type, `UnknownResource`; `NoMemory` in place of any.
+    /// There is no answer then.
     pub fn governor(
         &mut self,
         alloc: Global,

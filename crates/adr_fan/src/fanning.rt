@@ -124,13 +124,14 @@ fn close<J: Naming, R: Wait>(rt: &R, desk: FanDesk<J>) {
 /// which answer it in threads of their own. Behind the replies to all lines stand those of each reader.
 ///
 /// `logs` are new, `Logs::new()`; what the reads and writes met is noted there, so that a fault of reading or writing
-/// comes only where a read or a write failed, or all the reads that there are were made. `readers` are 1 to 64, `gate` is
-/// what each passes before it answers, and `tie` says which of two intervals of one priority governs.
+/// comes only where a read or a write failed, or all the reads that there are were made. `readers` are 1 to 64, `gate`
+/// is what each passes before it answers, and `tie` says which of two intervals of one priority governs.
 ///
 /// # Errors
 ///
 /// `Reading` and `Writing` where the reader or writer failed or took no byte, `Reads` after 4,294,967,296 reads,
-/// `Runtime` where there was no memory to start with, a thread couldn't be started, or a reader's replies aren't in order.
+/// `Runtime` where there was no memory to start with, a thread couldn't be started, or a reader's replies aren't in
+/// order.
 pub fn fan<
     H: AllocGlobal + Threads + Wait + Clone + Drop + Send + 'static,
     I: Read,

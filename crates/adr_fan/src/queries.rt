@@ -111,7 +111,7 @@ impl Sent {
         self.number
     }
 
-    /// The same for one more reader, which takes no growth.
+    /// A copy for one more reader, which takes no growth.
     pub(crate) fn copy(&self) -> Result<Sent, Refusal>
         ensures { IsCopyOf result self.now }
     {

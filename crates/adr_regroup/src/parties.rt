@@ -24,8 +24,8 @@ use adr_schedule::Schedule;
 use adr_value::Refusal;
 use std::alloc::Global;
 
-/// The schedule where each of the places has the writes of the events that apply to its resource, after an edit that leaves
-/// the programs and the events.
+/// The schedule where each of the places has the writes of the events that apply to its resource, after an edit that
+/// leaves the programs and the events.
 fn reseated_in<C: Fn(&Indexes, &[Job]) -> Result<Vec<Done>, Refusal>>(
     alloc: Global,
     crew: &C,
@@ -58,7 +58,11 @@ fn reseated_in<C: Fn(&Indexes, &[Job]) -> Result<Vec<Done>, Refusal>>(
 /// apply to each of its resources: see `Schedule::rewritten`.
 ///
 /// Cost: where a ven changes a look at each resource, and for those of the ven a query of the keys and
-/// `Schedule::rewritten`. `NoMemory` where there is no room.
+/// `Schedule::rewritten`.
+///
+/// # Errors
+///
+/// `NoMemory` where there is no room.
 pub fn after_ven<C: Fn(&Indexes, &[Job]) -> Result<Vec<Done>, Refusal>>(
     alloc: Global,
     crew: &C,
@@ -119,9 +123,14 @@ fn without(alloc: Global, old: &Book, schedule: &Schedule, id: &Id) -> Result<Sc
     schedule.without_place(alloc, place)
 }
 
-/// The schedule after an edit of a resource: its place comes, goes, or gets the writes of the events that apply to it now.
+/// The schedule after an edit of a resource: its place comes, goes, or gets the writes of the events that apply to it
+/// now.
 ///
-/// Cost: a query of the keys and `Schedule::rewritten`. `NoMemory` where there is no room.
+/// Cost: a query of the keys and `Schedule::rewritten`.
+///
+/// # Errors
+///
+/// `NoMemory` where there is no room.
 pub fn after_resource<C: Fn(&Indexes, &[Job]) -> Result<Vec<Done>, Refusal>>(
     alloc: Global,
     crew: &C,

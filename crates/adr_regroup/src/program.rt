@@ -184,8 +184,8 @@ fn marked(alloc: Global, marks: &[bool]) -> Result<Vec<usize>, Refusal>
     Ok(places)
 }
 
-/// The schedule where each of the places has the writes of the events that apply to its resource, and the keys that tell
-/// them are made anew; with no places it is the same.
+/// The schedule where each of the places has the writes of the events that apply to its resource, and the keys that
+/// tell them are made anew; with no places it is the same.
 fn reseated<C: Fn(&Indexes, &[Job]) -> Result<Vec<Done>, Refusal>>(
     alloc: Global,
     crew: &C,
@@ -277,9 +277,12 @@ fn after_object<C: Fn(&Indexes, &[Job]) -> Result<Vec<Done>, Refusal>>(
 /// events apply to other resources: each resource to which one of them comes, or from which it goes, gets the writes of
 /// the events that apply to it now: see `Schedule::rewritten`.
 ///
-/// Cost: a look at each event, and for those of a program that changes two queries of the keys; where places differ, the
-/// keys of the new book, and for each such place a query of them and `Schedule::rewritten`. `NoMemory` where there is no
-/// room.
+/// Cost: a look at each event, and for those of a program that changes two queries of the keys; where places differ,
+/// the keys of the new book, and for each such place a query of them and `Schedule::rewritten`.
+///
+/// # Errors
+///
+/// `NoMemory` where there is no room.
 pub fn after_program<C: Fn(&Indexes, &[Job]) -> Result<Vec<Done>, Refusal>>(
     alloc: Global,
     crew: &C,

@@ -77,8 +77,8 @@ fn first_with(schedule: &Schedule, places: Range<usize>, writes: &Writes) -> Opt
     None
 }
 
-/// A place whose group has these writes, if the one that is like it does or one a little before the place or behind it. It
-/// may be any: a group is shared only where its writes are the same.
+/// A place whose group has these writes, if the one that is like it does or one a little before the place or behind it.
+/// It may be any: a group is shared only where its writes are the same.
 fn place_like(schedule: &Schedule, spot: Spot, writes: &Writes) -> Option<usize> {
     if let Some(near) = spot.like {
         if has_writes(schedule, near, writes) {
@@ -125,8 +125,8 @@ fn reseated<C: Fn(&Indexes, &[Job]) -> Result<Vec<Done>, Refusal>>(
     Ok(after)
 }
 
-/// The schedule where each of the places has the writes of the events that apply to its resource. A place shares the group
-/// of the last one that was seen to, or of one near it, where that has the same writes.
+/// The schedule where each of the places has the writes of the events that apply to its resource. A place shares the
+/// group of the last one that was seen to, or of one near it, where that has the same writes.
 pub(crate) fn reseated_all<C: Fn(&Indexes, &[Job]) -> Result<Vec<Done>, Refusal>>(
     alloc: Global,
     crew: &C,

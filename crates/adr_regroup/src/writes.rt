@@ -11,8 +11,12 @@ use adr_group::Writes;
 use adr_value::Refusal;
 use std::alloc::Global;
 
-/// The numbers of the writes of the events that apply to the resource at the place, by the keys of the book. `NoMemory`
-/// where there is no room for them. Cost: that of `Audiences::events_for`.
+/// The numbers of the writes of the events that apply to the resource at the place, by the keys of the book. Cost: that
+/// of `Audiences::events_for`.
+///
+/// # Errors
+///
+/// `NoMemory` where there is no room for them.
 pub fn writes_of(
     alloc: Global,
     book: &Book,

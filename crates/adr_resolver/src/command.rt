@@ -6,7 +6,9 @@ use adr_value::PayloadType;
 /// What a line of the script asks for.
 #[derive(Drop)]
 pub enum Command {
+    /// An object is created, changed or removed.
     Edit(Edit),
+    /// The objects as they are become the next publication, also where nothing is new.
     Publish,
     /// The last publication becomes the base of the journal.
     Condense,

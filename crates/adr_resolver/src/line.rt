@@ -26,7 +26,11 @@ fn moment_word(word: &[u8]) -> Result<Moment, Refusal>
     }
 }
 
-/// The id that a word is. `BadId` also for one that is no UTF-8; `NoMemory`.
+/// The id that a word is.
+///
+/// # Errors
+///
+/// `BadId` where it is none, also for one that is no UTF-8; `NoMemory` where there is no room for it.
 pub fn id_word(alloc: Global, word: &[u8]) -> Result<Id, Refusal>
     ensures { Answers result (id_word word.now) }
 {
@@ -36,7 +40,12 @@ pub fn id_word(alloc: Global, word: &[u8]) -> Result<Id, Refusal>
     }
 }
 
-/// The payload type that a word names. `BadText` also for one that is no UTF-8; `NoMemory`.
+/// The payload type that a word names.
+///
+/// # Errors
+///
+/// `BadText` for a name that has not 1 to 128 characters, also for one that is no UTF-8; `NoMemory` where there is no
+/// room for it.
 pub fn type_word(alloc: Global, word: &[u8]) -> Result<PayloadType, Refusal>
     ensures { Answers result (type_word word.now) }
 {
@@ -46,7 +55,11 @@ pub fn type_word(alloc: Global, word: &[u8]) -> Result<PayloadType, Refusal>
     }
 }
 
-/// The object of a body, at the moment of its edit: the least fault of the body, or `NoMemory`.
+/// The object of a body, at the moment of its edit.
+///
+/// # Errors
+///
+/// The least fault of the body, or `NoMemory`.
 pub fn object_of(
     alloc: Global,
     kind: Kind,
@@ -174,10 +187,13 @@ fn query_named(alloc: Global, line: &[u8]) -> Result<Command, Refusal>
 
 /// The command that a line is. The line has no line feed, and no carriage return at its end.
 ///
-/// Its least fault is answered: `LongLine` for more than 4,194,304 bytes, `BadLine` where it has no form of the
-/// script, `BadMoment`, `BadId`, `BadText` for a type that is no UTF-8 or has more than 128 characters, and those of
-/// the body (`BadNumber` to `TooMany`). `NoMemory` may come in place of any. Cost: a pass over the words of the
-/// line for each form until one fits, and that of reading the body.
+/// Cost: a pass over the words of the line for each form until one fits, and that of reading the body.
+///
+/// # Errors
+///
+/// The least fault of the line: `LongLine` for more than 4,194,304 bytes, `BadLine` where it has no form of the script,
+/// `BadMoment`, `BadId`, `BadText` for a type that is no UTF-8 or has more than 128 characters, and those of the body
+/// (`BadNumber` to `TooMany`). `NoMemory` may come in place of any.
 pub fn parse_line(alloc: Global, line: &[u8]) -> Result<Command, Refusal>
     ensures { Answers result (line_named line.now) }
 {
@@ -185,6 +201,10 @@ pub fn parse_line(alloc: Global, line: &[u8]) -> Result<Command, Refusal>
 }
 
 /// As `parse_line`, by a reader that may keep its memory for the bodies of the lines that follow.
+///
+/// # Errors
+///
+/// As of [`parse_line`].
 #[tactic(auto, unfolding(crate::specs::Line::line_named_by))]
 pub fn parse_line_by(
     alloc: Global,

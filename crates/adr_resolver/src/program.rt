@@ -21,10 +21,10 @@ use std::thread::Threads;
 ///
 /// What is written is the text of what is read: the machine of edits and publications run over the lines, each query
 /// answered from the objects that were published last. Any line may be refused for want of memory in its place, and
-/// then changes nothing. `logs` are new, `Logs::new()`; what the reads and writes met is noted there, so that a fault of
-/// reading or writing comes only where a read or a write failed, or all the reads that there are were made, and none of
-/// these is passed over. `workers`, 1 to 64, share out the repairs of each edit; how many there are changes nothing that
-/// is written. `tie` says which of two intervals of one priority governs.
+/// then changes nothing. `logs` are new, `Logs::new()`; what the reads and writes met is noted there, so that a fault
+/// of reading or writing comes only where a read or a write failed, or all the reads that there are were made, and none
+/// of these is passed over. `workers`, 1 to 64, share out the repairs of each edit; how many there are changes nothing
+/// that is written. `tie` says which of two intervals of one priority governs.
 ///
 /// # Errors
 ///
@@ -49,7 +49,7 @@ pub fn run<R: Read, W: Write>(
     run_on::<Brand, _, _, R, W>(rt, hands, NewBoard::new(), reader, writer, logs, tie)
 }
 
-/// The same by these hands on this board, which is ended before it answers.
+/// Reads a script to its end as [`run`] does, by these hands on this board, which is ended before it answers.
 fn run_on<J: Naming, C: Hands, H: AllocGlobal + Threads + Wait, R: Read, W: Write>(
     rt: &H,
     hands: C,
@@ -73,7 +73,7 @@ fn run_on<J: Naming, C: Hands, H: AllocGlobal + Threads + Wait, R: Read, W: Writ
     run_by(rt, edited, reader, writer, logs)
 }
 
-/// The same by this resolver, which is ended before it answers.
+/// Reads a script to its end as [`run`] does, by this resolver, which is ended before it answers.
 fn run_by<S: Resolver, H: AllocGlobal + Threads + Wait, R: Read, W: Write>(
     rt: &H,
     resolver: S,

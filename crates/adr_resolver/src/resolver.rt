@@ -56,7 +56,8 @@ pub trait Resolver {
     fn at(&self, id: &Id, payload_type: &PayloadType, moment: Moment) -> Result<Vec<u8>, Refusal>
         ensures { Answers (result_map (λ v. v.items) result) (at (kept self.now).tie (kept self.now).published id.now payload_type.now moment) };
 
-    /// The reply to `list`, with its line feeds. `BadWindow` where the window doesn't start before its end, and as `at`.
+    /// The reply to `list`, with its line feeds. `BadWindow` where the window doesn't start before its end, and as
+    /// `at`.
     fn list(
         &self,
         id: &Id,

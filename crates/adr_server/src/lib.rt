@@ -1,6 +1,6 @@
 #![tactic(auto)]
-//! A server of scripts by one name: its lines, its runs, its command line, and the laws of what it writes. It has no call
-//! of its own; who wants no command line takes `adr_resolver`, and `adr_fan` for many readers.
+//! A server of scripts by one name: its lines, its runs, its command line, and the laws of what it writes. It has no
+//! call of its own; who wants no command line takes `adr_resolver`, and `adr_fan` for many readers.
 
 pub use adr_fan::{Gate, NoGate, fan, reader_laws};
 pub use adr_options::{Job, job, lines_by_the_grammar};

@@ -3,9 +3,9 @@
 //!     create program ID      create ven ID      create resource ID VEN
 //!     create event ID PROGRAM START LENGTH PRIORITY PRICE VEN
 //!
-//! and the same with `change`, and `delete KIND ID`. A ven's name is its id, an event has one interval with one price; its
-//! priority and the ven that it is for may be `-`. Behind the id of any kind its body may stand instead, which begins with a
-//! brace.
+//! and the same with `change`, and `delete KIND ID`. A ven's name is its id, an event has one interval with one price;
+//! its priority and the ven that it is for may be `-`. Behind the id of any kind its body may stand instead, which
+//! begins with a brace.
 use crate::bodies;
 use adr_object::Edit;
 use adr_value::Refusal;
@@ -54,7 +54,11 @@ fn body(alloc: Global, kind: &str, id: &str, line: &str) -> Result<String, Alloc
     }
 }
 
-/// The edit of a line, or what refuses its body.
+/// The edit of a line.
+///
+/// # Errors
+///
+/// What refuses its id or its body; `NoMemory`.
 pub fn edit(alloc: Global, line: &str) -> Result<Edit, Refusal> {
     let (verb, line) = word(line);
     let (kind, line) = word(line);

@@ -1,5 +1,5 @@
-//! Whether two values are the same by all that their look-ups tell, which takes no memory: for what is made again after it
-//! was refused from outside.
+//! Whether two values are the same by all that their look-ups tell, which takes no memory: for what is made again after
+//! it was refused from outside.
 mod books;
 mod objects;
 mod timelines;

@@ -14,8 +14,8 @@ fn put(index: &mut Index, entry: Entry) -> Result<(), Refusal> {
     index.insert(entry)
 }
 
-/// The entry with that written number: of three, whose numbers are 4 to 6, or of many, from 10 on, each of which covers one
-/// instant of its own.
+/// The entry with that written number: of three, whose numbers are 4 to 6, or of many, from 10 on, each of which covers
+/// one instant of its own.
 fn written(number: u64) -> Entry {
     match number {
         4 => entry(5, 4, span(0, 10)),
@@ -136,8 +136,8 @@ fn reserved_room_is_there(rt: HostRuntime) {
     assert!(rt; keeps_room == Ok(true));
 }
 
-/// Whether one of 4,096 entries, each of which covers an instant of its own, is found by a moment and by a window, with few
-/// looks at each.
+/// Whether one of 4,096 entries, each of which covers an instant of its own, is found by a moment and by a window, with
+/// few looks at each.
 fn finds_one_of_many(index: &mut Index) -> Result<bool, Refusal> {
     for number in 10..4106u64 {
         put(index, written(number))?;

@@ -1,7 +1,8 @@
 #![tactic(auto)]
-//! Tests of what no script and no stored run shows. By what public functions answer: numbers, moments and bodies behind the
-//! shield, jobs, seats, the index and the timeline, copies of objects. Of whole runs: streams that give and take little and that
-//! fail, bytes that no transcript holds, readers in threads of their own. Of desks: workers that run at once.
+//! Tests of what no script and no stored run shows. By what public functions answer: numbers, moments and bodies behind
+//! the shield, jobs, seats, the index and the timeline, copies of objects. Of whole runs: streams that give and take
+//! little and that fail, bytes that no transcript holds, readers in threads of their own. Of desks: workers that run at
+//! once.
 
 #[cfg(test)]
 mod decimals;

@@ -40,7 +40,7 @@ BadMoment = -000000-01-01T00:00:00Z
 BadMoment = -009999-01-02T01:59:58Z
 BadMoment = 9999-12-30T22:00:01Z";
 
-/// The same for a start, in an edit at 5 nanoseconds.
+/// The nanoseconds of a start and how it is printed, in an edit at 5 nanoseconds, or the refusal, and the text of it.
 const STARTS: &str = "5 1970-01-01T00:00:00.000000005Z = 0000-00-00
 5 1970-01-01T00:00:00.000000005Z = 0000-00-00T00:00:00
 5 1970-01-01T00:00:00.000000005Z = 0000-00-00T00:00:00Z

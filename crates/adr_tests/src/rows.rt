@@ -31,8 +31,8 @@ fn holds(alloc: Global, asked: Asked, text: &str, wanted: &str) -> Result<bool, 
     }
 }
 
-/// Fails by the first row of a table that is answered otherwise than is wanted. A row is what is wanted and the text, as
-/// `WANTED = TEXT`, or both at once. A refusal is wanted by its name.
+/// Fails by the first row of a table that is answered otherwise than is wanted. A row is what is wanted and the text,
+/// as `WANTED = TEXT`, or both at once. A refusal is wanted by its name.
 pub(crate) fn check(alloc: Global, asked: Asked, table: &str) -> Result<(), Fail> {
     for row in table.lines() {
         let (wanted, text) = row.split_once(" = ").unwrap_or((row, row));

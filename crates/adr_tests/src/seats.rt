@@ -50,7 +50,8 @@ fn is_apart(seats: &Seats) -> Result<bool, Refusal> {
     )
 }
 
-/// Whether the slots that two places leave are taken in turn: the one that was left last, then the other, then a fresh one.
+/// Whether the slots that two places leave are taken in turn: the one that was left last, then the other, then a fresh
+/// one.
 fn takes_those_left(seats: &mut Seats) -> bool {
     if seats.len() != 4 {
         return false;

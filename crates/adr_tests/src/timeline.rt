@@ -158,9 +158,9 @@ fn the_least_entry_is_shown(rt: HostRuntime) -> Result<(), Fail> {
     Ok(())
 }
 
-/// Windows of a timeline from 0 up to 10 into which timelines of one entry are spliced in turn, behind its start, its end and
-/// its number, and the segments after each. The first entry parts the timeline, the second shows what was shown before and makes
-/// it whole, and the third follows with the same winner and makes the segment longer.
+/// Windows of a timeline from 0 up to 10 into which timelines of one entry are spliced in turn, behind its start, its
+/// end and its number, and the segments after each. The first entry parts the timeline, the second shows what was shown
+/// before and makes it whole, and the third follows with the same winner and makes the segment longer.
 const SPLICED: [(i128, i128, u64, &[Row]); 3] = [
     (4, 6, 5, &[(0, 4, 4), (4, 6, 5), (6, 10, 4)]),
     (4, 6, 4, &[(0, 10, 4)]),

@@ -35,9 +35,9 @@ create resource r1 {"resourceName":"R","venID":"v1"}
 create resource r2 {"resourceName":"Q","venID":"v1"}
 create event e1 {"programID":"p1","intervals":[{"id":0,"intervalPeriod":{"start":"2024-01-01T00:00:00Z","duration":"PT2H"},"payloads":[{"type":"PRICE","values":[10]},{"type":"X_LOAD","values":["a b",true,{"x":1,"y":2.50}]}]}],"targets":[{"type":"RESOURCE_NAME","values":["R"]}]}"#;
 
-/// Edits, how many of them go before one that has two jobs or more, and the rule for ties: changes of an event, of a ven, of
-/// a resource and of a program, and an event that comes. Under the rule of the newest an event that comes or changes is laid
-/// over what is shown, by the calling thread.
+/// Edits, how many of them go before one that has two jobs or more, and the rule for ties: changes of an event, of a
+/// ven, of a resource and of a program, and an event that comes. Under the rule of the newest an event that comes or
+/// changes is laid over what is shown, by the calling thread.
 const MEETINGS: [(&str, usize, Tie); 5] = [
     (EDITS, 7, Tie::LatestStart),
     (EDITS, 10, Tie::Newest),

@@ -24,8 +24,8 @@ pub(crate) struct Life {
     pub(crate) edits: u64,
 }
 
-/// For each place some edits and a publication, which lets the one go that stood there; and then a base, whose version it
-/// answers.
+/// For each place some edits and a publication, which lets the one go that stood there; and then a base, whose version
+/// it answers.
 fn live<J: Naming, R: Wait>(
     rt: &R,
     alloc: Global,
@@ -56,8 +56,8 @@ fn print_number<R: Print>(rt: &R, number: u64) -> io::Result<()> {
     println!(rt; "{number}")
 }
 
-/// The rounds of the life. After each stands a line with the last publication's number, for a measurement of time and memory
-/// from outside.
+/// The rounds of the life. After each stands a line with the last publication's number, for a measurement of time and
+/// memory from outside.
 fn live_with<J: Naming, R: Print + Wait>(
     rt: &R,
     alloc: Global,
@@ -89,8 +89,8 @@ fn live_on<J: Naming, R: Print + Wait>(
     lived
 }
 
-/// Opens a board with one reader and lets it live. Within is what printing answered. The lines are owned, as the history of
-/// a board can't be named at a call that is given a `&str`.
+/// Opens a board with one reader and lets it live. Within is what printing answered. The lines are owned, as the
+/// history of a board can't be named at a call that is given a `&str`.
 fn lived<J: Naming, R: AllocGlobal + Print + Wait>(
     rt: &R,
     board: NewBoard,

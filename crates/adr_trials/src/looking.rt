@@ -124,8 +124,8 @@ fn look_beside<J: Naming + Send, R: Clock + Threads + Wait + Sync>(
     }
 }
 
-/// How often so many readers look in a second, and how often their editor publishes meanwhile. The lines are owned, as the
-/// history of a board can't be named at a call that is given a `&str`.
+/// How often so many readers look in a second, and how often their editor publishes meanwhile. The lines are owned, as
+/// the history of a board can't be named at a call that is given a `&str`.
 fn looked<J: Naming + Send, R: AllocGlobal + Clock + Threads + Wait + Sync>(
     rt: &R,
     board: NewBoard,

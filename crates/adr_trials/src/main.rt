@@ -3,8 +3,9 @@
 //!
 //! With no word, what timelines compare, and then the calls that standard input says. With a word, what it names alone:
 //! `timelines` or `indexes`, and how long they take; or, with lines from standard input, `calls`, those that they say;
-//! `edits` of a desk, or its `load` with all at once; `looks READERS` of a board, `live THOUSANDS` or `hold PUBLICATIONS`,
-//! whose edits the lines are; and `newest` or `latest-start`, the plain machine's replies under that rule for ties.
+//! `edits` of a desk, or its `load` with all at once; `looks READERS` of a board, `live THOUSANDS` or `hold
+//! PUBLICATIONS`, whose edits the lines are; and `newest` or `latest-start`, the plain machine's replies under that
+//! rule for ties.
 #![tactic(auto)]
 
 mod boards;

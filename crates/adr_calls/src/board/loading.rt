@@ -96,8 +96,8 @@ fn tell_publication<J: Naming, R: AllocGlobal + Print + Wait>(
     Ok(())
 }
 
-/// Opens a board over the desk, publishes, and asks. The lines are owned, as the history of a board can't be named at a call
-/// that is given a `&str`.
+/// Opens a board over the desk, publishes, and asks. The lines are owned, as the history of a board can't be named at a
+/// call that is given a `&str`.
 fn on_board<J: Naming, R: AllocGlobal + Print + Wait>(
     rt: &R,
     board: NewBoard,
@@ -116,8 +116,9 @@ fn on_board<J: Naming, R: AllocGlobal + Print + Wait>(
     Ok(told)
 }
 
-/// Fills a desk at once with the edits of the lines, tells what each is answered and whether the desk is as if they had been
-/// made one after the other, opens a board over it, publishes, and asks the publication the questions of the other lines.
+/// Fills a desk at once with the edits of the lines, tells what each is answered and whether the desk is as if they had
+/// been made one after the other, opens a board over it, publishes, and asks the publication the questions of the other
+/// lines.
 pub(crate) fn try_load<R: AllocGlobal + Print + Wait + Threads + Sync>(
     rt: &R,
     tie: Tie,

@@ -117,8 +117,11 @@ struct Session<J: Naming> {
     seen: Option<Arc<Snapshot>>,
 }
 
-/// Makes the edit on the board, and answers the version. A refusal is that of `Editor::apply`: the least of the edit's
-/// faults, or `NoMemory`; then all is as it was.
+/// Makes the edit on the board, and answers the version.
+///
+/// # Errors
+///
+/// That of `Editor::apply`: the least of the edit's faults, or `NoMemory`; then all is as it was.
 pub fn make<J: Naming>(editor: &mut Editor<J>, edit: Edit) -> Result<u64, Refusal> {
     version_of(editor.apply(edit))
 }
@@ -136,8 +139,11 @@ fn apply_with<J: Naming, R: Threads + Sync>(
     }
 }
 
-/// Publishes, and answers the publication's number, from 1 on. A refusal is that of `Editor::publish`: `Full` after the last
-/// number, else `NoMemory`; then all is as it was.
+/// Publishes, and answers the publication's number, from 1 on.
+///
+/// # Errors
+///
+/// That of `Editor::publish`: `Full` after the last number, else `NoMemory`; then all is as it was.
 pub fn publish<J: Naming, R: Wait>(rt: &R, editor: &mut Editor<J>) -> Result<u64, Refusal> {
     match editor.publish(rt) {
         Ok(published) => Ok(published.number),
@@ -302,8 +308,8 @@ fn tell_end<R: Print>(rt: &R, seen: Result<u64, Refusal>) -> io::Result<()> {
     tell_ordinary(rt, seen)
 }
 
-/// Does what the lines say on the board, ends it, and tells what its readers see then. The lines are owned, as the history of a
-/// board can't be named at a call that is given a `&str`.
+/// Does what the lines say on the board, ends it, and tells what its readers see then. The lines are owned, as the
+/// history of a board can't be named at a call that is given a `&str`.
 fn on_board<J: Naming, R: AllocGlobal + Print + Wait + Threads + Sync>(
     rt: &R,
     board: NewBoard,

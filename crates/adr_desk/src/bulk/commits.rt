@@ -30,8 +30,8 @@ fn commit_one(book: &mut Book, edit: Edit) -> Result<Result<u64, Refusal>, Refus
 }
 
 /// The book of the edits, from an empty one, and for each edit in order the version after it or why it is refused, as
-/// `judge` and `Book::commit` answer them one after the other. A refused edit changes nothing. `NoMemory` for one of them
-/// refuses all.
+/// `judge` and `Book::commit` answer them one after the other. A refused edit changes nothing. `NoMemory` for one of
+/// them refuses all.
 pub(crate) fn commit_all(
     alloc: Global,
     edits: Vec<Edit>,

@@ -33,7 +33,12 @@ fn event_text(alloc: Global, verb: &str, line: &str) -> Result<String, Refusal> 
     event_line(alloc, words, intervals.as_str())
 }
 
-/// The edit of a line: `VERB event ID TARGETS PRIORITY START LENGTH TYPES ..` writes an event; any other line has a body.
+/// The edit of a line: `VERB event ID TARGETS PRIORITY START LENGTH TYPES ..` writes an event; any other line has a
+/// body.
+///
+/// # Errors
+///
+/// `BadLine` where a word is wanting; those of an id and of a body; `NoMemory`.
 pub fn any_edit(alloc: Global, line: &str) -> Result<Edit, Refusal> {
     match line.split_once(" event ") {
         Some((verb, event)) if verb != "delete" => {

@@ -1,7 +1,7 @@
 //! Objects and edits from the words of a line and from bodies.
 //!
-//! What owns objects is let go by `drop` before a function returns: at the end of its scope it would be taken apart, field
-//! by field, in the proof of each function that has it.
+//! What owns objects is let go by `drop` before a function returns: at the end of its scope it would be taken apart,
+//! field by field, in the proof of each function that has it.
 use adr_object::{Edit, Id, Kind, Object, Shared};
 use adr_read::{read_event, read_program, read_resource, read_ven};
 use adr_time::Moment;
@@ -9,11 +9,19 @@ use adr_value::Refusal;
 use std::alloc::Global;
 
 /// The first word of a line, and what follows it.
+///
+/// # Errors
+///
+/// `BadLine` where no space parts them.
 pub fn word(line: &str) -> Result<(&str, &str), Refusal> {
     line.split_once(' ').ok_or(Refusal::BadLine)
 }
 
 /// What was read or copied, where it may have several owners.
+///
+/// # Errors
+///
+/// That of the value; `NoMemory` where there is no room to share it.
 pub fn shared<T: Drop>(alloc: Global, value: Result<T, Refusal>) -> Result<Shared<T>, Refusal> {
     Shared::new(alloc, value?)
 }
@@ -41,6 +49,10 @@ fn read_object(alloc: Global, kind: &str, id: &Id, body: &[u8]) -> Result<Object
 }
 
 /// The object of a line `KIND ID JSON`.
+///
+/// # Errors
+///
+/// `BadLine` where a word is wanting; those of an id and of a body; `NoMemory`.
 pub fn object(alloc: Global, line: &str) -> Result<Object, Refusal> {
     let (kind, line) = word(line)?;
     let (id, body) = word(line)?;
@@ -68,6 +80,10 @@ fn removal(alloc: Global, line: &str) -> Result<Edit, Refusal> {
 }
 
 /// The edit of a line `VERB KIND ID JSON`.
+///
+/// # Errors
+///
+/// `BadLine` where a word is wanting; those of an id and of a body; `NoMemory`.
 pub fn edit(alloc: Global, line: &str) -> Result<Edit, Refusal> {
     let (verb, line) = word(line)?;
     match verb {
