@@ -24,7 +24,11 @@ pub trait Resolver {
     // What it shows of the machine.
     ghost kept: { Self → Kept };
 
-    /// Makes an edit and answers the version, or the least fault.
+    /// Makes an edit and answers the version.
+    ///
+    /// # Errors
+    ///
+    /// The least of the edit's faults; `NoMemory` in place of any. Nothing is changed then.
     fn edit(&mut self, edit: Edit) -> Result<u64, Refusal>
         ensures ok { IfOk result (λ version. (step_to (full_at (kept self.old).base) (kept self.old).current edit ≡ Ok (kept self.new).current)
             × (version ≡ (kept self.new).current.version)) }
@@ -33,8 +37,11 @@ pub trait Resolver {
         ensures refused { IfErr result (λ refusal. (refusal ≡ NoMemory) ⊎ (step_to (full_at (kept self.old).base) (kept self.old).current edit ≡ Err refusal)) }
         ensures unchanged { OnErr result (kept self.new ≡ kept self.old) };
 
-    /// Publishes the objects as they are. `Full` after 1,000,000 publications, else `NoMemory`. It may wait for readers
-    /// that are taking a share.
+    /// Publishes the objects as they are. It may wait for readers that are taking a share.
+    ///
+    /// # Errors
+    ///
+    /// `Full` after 1,000,000 publications, else `NoMemory`. Nothing is changed then.
     fn publish<H: Wait>(&mut self, rt: &H) -> Result<Published, Refusal>
         ensures ok { OnOk result (((kept self.old).number < MOST_PUBLICATIONS)
             × (kept self.new ≡ record (kept self.old) { published = (kept self.old).current; number = (kept self.old).number + 1 })) }
@@ -43,7 +50,11 @@ pub trait Resolver {
         ensures refused { IfErr result (λ refusal. (refusal ≡ NoMemory) ⊎ ((refusal ≡ Full) × (MOST_PUBLICATIONS ≤ (kept self.old).number))) }
         ensures unchanged { OnErr result (kept self.new ≡ kept self.old) };
 
-    /// Counts the accepted edits from the last publication on, and answers its version, or `NoMemory`.
+    /// Counts the accepted edits from the last publication on, and answers its version.
+    ///
+    /// # Errors
+    ///
+    /// `NoMemory` where there is no room. Nothing is changed then.
     fn condense(&mut self) -> Result<u64, Refusal>
         ensures answer { IfOk result (λ version. version ≡ (kept self.old).published.version) }
         ensures bound { IfOk result (λ version. version ≤ MOST_VERSION) }
@@ -51,13 +62,19 @@ pub trait Resolver {
         ensures memory { OnlyNoMemory result }
         ensures unchanged { OnErr result (kept self.new ≡ kept self.old) };
 
-    /// The reply to `at`, with its line feed. `UnknownResource` where the last publication has no such resource, else
-    /// `NoMemory`.
+    /// The reply to `at`, with its line feed.
+    ///
+    /// # Errors
+    ///
+    /// `UnknownResource` where the last publication has no such resource, else `NoMemory`.
     fn at(&self, id: &Id, payload_type: &PayloadType, moment: Moment) -> Result<Vec<u8>, Refusal>
         ensures { Answers (result_map (λ v. v.items) result) (at (kept self.now).tie (kept self.now).published id.now payload_type.now moment) };
 
-    /// The reply to `list`, with its line feeds. `BadWindow` where the window doesn't start before its end, and as
-    /// `at`.
+    /// The reply to `list`, with its line feeds.
+    ///
+    /// # Errors
+    ///
+    /// `BadWindow` where the window doesn't start before its end; else as of `at`.
     fn list(
         &self,
         id: &Id,
@@ -67,11 +84,19 @@ pub trait Resolver {
     ) -> Result<Vec<u8>, Refusal>
         ensures { Answers (result_map (λ v. v.items) result) (list (kept self.now).tie (kept self.now).published id.now payload_type.now from to) };
 
-    /// The reply to `roll`, with its line feeds, or `NoMemory`.
+    /// The reply to `roll`, with its line feeds.
+    ///
+    /// # Errors
+    ///
+    /// `NoMemory` where there is no room for the reply.
     fn roll(&self, payload_type: &PayloadType, moment: Moment) -> Result<Vec<u8>, Refusal>
         ensures { Answers (result_map (λ v. v.items) result) (roll (kept self.now).tie (kept self.now).published payload_type.now moment) };
 
-    /// The reply to `types`, with its line feeds. Refused as `at`.
+    /// The reply to `types`, with its line feeds.
+    ///
+    /// # Errors
+    ///
+    /// As of `at`.
     fn types(&self, id: &Id) -> Result<Vec<u8>, Refusal>
         ensures { Answers (result_map (λ v. v.items) result) (types (kept self.now).tie (kept self.now).published id.now) };
 
