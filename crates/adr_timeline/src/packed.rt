@@ -1,6 +1,7 @@
 //! Segments as they are stored, in half the memory.
 ghost use Rattle.std.specs.Prelude.{◌≡◌, ◌<◌, ◌^◌};
 ghost use Rattle.adr_value.specs.Packed.{word_of, high_of, low_of};
+ghost use Rattle.adr_time.specs.Spans.{is_before};
 ghost use Rattle.adr_timeline.specs.Packed.{end_of as end_of_number, IsEnd, IsMoment};
 
 use adr_model::{Segment, Winner};
@@ -129,6 +130,13 @@ impl PackedSegment {
         ensures { result ≡ self.now.end }
     {
         end_of(number(self.end_high, self.end_low))
+    }
+
+    /// Whether it ends after the moment: a comparison of two numbers, as that of no end comes after each moment's.
+    pub(crate) fn is_open(&self, at: Moment) -> bool
+        ensures { result ≡ is_before at self.now.end }
+    {
+        at.nanoseconds() < number(self.end_high, self.end_low)
     }
 
     /// Which interval governs it.

@@ -20,7 +20,7 @@ pub(crate) fn open_chunks<'a>(chunks: &'a [Chunk], at: Moment) -> &'a [Chunk]
     let ended = chunks.partition_point(
         |chunk: &Chunk| -> bool
             ensures { result ≡ not (lasts_past chunk.now at) }
-        { !at.is_before(chunk.last().end()) },
+        { !chunk.last().is_open(at) },
     );
     chunks.split_at(ended).1
 }
@@ -33,7 +33,7 @@ fn first_open_in(segments: &[PackedSegment], at: Moment) -> Option<PackedSegment
     let ended = segments.partition_point(
         |segment: &PackedSegment| -> bool
             ensures { result ≡ not (is_before at segment.now.end) }
-        { !at.is_before(segment.end()) },
+        { !segment.is_open(at) },
     );
     segments.get(ended).copied()
 }
@@ -66,10 +66,7 @@ pub(crate) fn governor(chunks: &[Chunk], at: Moment) -> Option<Winner>
     requires filled { AreFilled chunks.now }
     ensures { result ≡ shows (listed chunks.now) at }
 {
-    match first_open(chunks, at) {
-        Some(segment) if segment.start() <= at => Some(segment.winner()),
-        _ => None,
-    }
+    state(chunks, at).0
 }
 
 /// The first moment after this one where a segment starts or ends.
@@ -78,9 +75,19 @@ pub(crate) fn next_change(chunks: &[Chunk], at: Moment) -> End
     requires filled { AreFilled chunks.now }
     ensures { IsUntil (shows (listed chunks.now)) at result }
 {
+    state(chunks, at).1
+}
+
+/// The winner of the segment that covers the moment, and the first moment after it where a segment starts or ends.
+pub(crate) fn state(chunks: &[Chunk], at: Moment) -> (Option<Winner>, End)
+    requires canonical { IsCanonical (listed chunks.now) }
+    requires filled { AreFilled chunks.now }
+    ensures winner { result.0 ≡ shows (listed chunks.now) at }
+    ensures change { IsUntil (shows (listed chunks.now)) at result.1 }
+{
     match first_open(chunks, at) {
-        Some(segment) if segment.start() <= at => segment.end(),
-        Some(segment) => End::At(segment.start()),
-        None => End::Endless,
+        Some(segment) if segment.start() <= at => (Some(segment.winner()), segment.end()),
+        Some(segment) => (None, End::At(segment.start())),
+        None => (None, End::Endless),
     }
 }

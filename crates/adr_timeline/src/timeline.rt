@@ -236,6 +236,14 @@ impl Timeline {
         search::next_change(&self.chunks, at)
     }
 
+    /// [`Timeline::governor`] and [`Timeline::next_change`], by one search.
+    pub fn state(&self, at: Moment) -> (Option<Winner>, End)
+        ensures governor { result.0 ≡ shows self.now at }
+        ensures until { IsUntil (shows self.now) at result.1 }
+    {
+        search::state(&self.chunks, at)
+    }
+
     /// What is shown inside the window, and nothing outside. Cost: that of [`Timeline::splice_all`] with one window.
     ///
     /// # Errors

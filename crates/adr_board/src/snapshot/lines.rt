@@ -21,10 +21,10 @@ pub(crate) fn state_of(line: Option<&Timeline>, moment: Moment) -> State
     ensures changed { IsUntil (λ t. option_map_or (λ l. shows l t) (option_copied line.entry) None) moment result.until }
 {
     match line {
-        Some(line) => State {
-            governor: line.governor(moment),
-            until: line.next_change(moment),
-        },
+        Some(line) => {
+            let (governor, until) = line.state(moment);
+            State { governor, until }
+        }
         None => State {
             governor: None,
             until: End::Endless,
