@@ -13,7 +13,6 @@ use Rattle.adr_model.specs.declared.entry.Entry.{Entry}
 use Rattle.adr_model.specs.declared.entry.Rank.{Rank}
 use Rattle.adr_model.specs.declared.timeline.Winner.{Winner}
 use Rattle.adr_model.specs.declared.timeline.Segment.{Segment}
-use Rattle.adr_model.specs.Governor.{winner_at}
 use Rattle.adr_model.specs.Timeline.{shows, span_of, IsCanonical}
 use Rattle.adr_timeline.specs.declared.step.Step.{Step}
 use Rattle.adr_timeline.specs.Parts.{part, joined_all}
@@ -65,36 +64,33 @@ module _ (rank : Winner → Rank) where
   map_length [] = refl
   map_length (s ∷ ss) = omega (arith, map_length ss)
 
-  pub record AreShown (ss : List Segment) (steps : List Step) : Type 0 where
-    pub order : IsInOrder steps
-    pub few : length steps ≤ 2 * length ss
-    pub up : rises steps ≤ length ss
-    pub ranks : (t : ℤ) → rank_from None steps t ≡ option_map rank (shows ss t)
+  pub record AreShown (ss : List Segment) (entries : List Entry) : Type 0 where
+    pub in_turn : is_run entries ≡ true
+    pub count : length entries ≡ length ss
+    pub ranks : (t : ℤ) → rank_at entries t ≡ option_map rank (shows ss t)
 
-  -- the steps of what is shown have its ranks
-  pub shown_ranked : (ss : List Segment) (none steps : List Step) → IsCanonical ss → none ≡ [] → steps ≡ none ++ steps_in_turn (map (shown_entry rank) ss) → AreShown ss steps
-  shown_ranked ss none steps c n h =
+  -- the entries of what is shown have its ranks
+  pub shown_ranked : (ss : List Segment) (none entries : List Entry) → IsCanonical ss → none ≡ [] → entries ≡ none ++ map (shown_entry rank) ss → AreShown ss entries
+  shown_ranked ss none entries c n h =
       let l = canonical_linked ss c in
-      let made = run_ranked (map (shown_entry rank) ss) (shown_run ss l) in
       rw (h, n) (record {
-        order = made.0;
-        few = omega (arith, made.1, map_length ss);
-        up = omega (arith, run_rises (map (shown_entry rank) ss), map_length ss);
-        ranks = λ t. made.2 t ∙ (rank_shown ss t l ∙ ap (option_map rank) (sym (shows_is ss t)));
+        in_turn = shown_run ss l;
+        count = map_length ss;
+        ranks = λ t. rank_shown ss t l ∙ ap (option_map rank) (sym (shows_is ss t));
       })
 
-  turn_append : (xs ys : List Segment) → steps_in_turn (map (shown_entry rank) (xs ++ ys)) ≡ steps_in_turn (map (shown_entry rank) xs) ++ steps_in_turn (map (shown_entry rank) ys)
-  turn_append [] ys = refl
-  turn_append (x ∷ xs) ys = ap (λ (ss : List Step). steps_of (shown_entry rank x) ++ ss) (turn_append xs ys) ∙ sym (append_assoc (steps_of (shown_entry rank x)) (steps_in_turn (map (shown_entry rank) xs)) (steps_in_turn (map (shown_entry rank) ys)))
+  -- the entries of a chunk more
+  pub chunk_more : (entries new : List Entry) (chunk rest : List Segment) → new ≡ entries ++ map (shown_entry rank) chunk → new ++ map (shown_entry rank) rest ≡ entries ++ map (shown_entry rank) (chunk ++ rest)
+  chunk_more entries new chunk rest h = rw (h, both chunk) (append_assoc entries (map (shown_entry rank) chunk) (map (shown_entry rank) rest))
+    where
+      both : (xs : List Segment) → map (shown_entry rank) (xs ++ rest) ≡ map (shown_entry rank) xs ++ map (shown_entry rank) rest
+      both [] = refl
+      both (x ∷ xs) = ap (λ (es : List Entry). shown_entry rank x ∷ es) (both xs)
 
-  -- the steps of a chunk more
-  pub chunk_more : (steps new : List Step) (chunk rest : List Segment) → new ≡ steps ++ steps_in_turn (map (shown_entry rank) chunk) → new ++ steps_in_turn (map (shown_entry rank) rest) ≡ steps ++ steps_in_turn (map (shown_entry rank) (chunk ++ rest))
-  chunk_more steps new chunk rest h = rw (h, turn_append chunk rest) (append_assoc steps (steps_in_turn (map (shown_entry rank) chunk)) (steps_in_turn (map (shown_entry rank) rest)))
-
-  pub chunks_more : (cs : List (List Segment)) (i : ℕ) (chunk : List Segment) (steps new whole : List Step) → i < length cs → chunk ≡ get_or cs i chunk → new ≡ steps ++ steps_in_turn (map (shown_entry rank) chunk) → steps ++ steps_in_turn (map (shown_entry rank) (listed (drop i cs))) ≡ whole → new ++ steps_in_turn (map (shown_entry rank) (listed (drop (i + 1) cs))) ≡ whole
-  chunks_more cs i chunk steps new whole lt is h so_far =
+  pub chunks_more : (cs : List (List Segment)) (i : ℕ) (chunk : List Segment) (entries new whole : List Entry) → i < length cs → chunk ≡ get_or cs i chunk → new ≡ entries ++ map (shown_entry rank) chunk → entries ++ map (shown_entry rank) (listed (drop i cs)) ≡ whole → new ++ map (shown_entry rank) (listed (drop (i + 1) cs)) ≡ whole
+  chunks_more cs i chunk entries new whole lt is h so_far =
       let here : drop i cs ≡ chunk ∷ drop (i + 1) cs = drop_more cs i chunk lt ∙ ap (λ (c : List Segment). c ∷ drop (i + 1) cs) (sym is) in
-      chunk_more steps new chunk (listed (drop (i + 1) cs)) h ∙ (rw here at so_far)
+      chunk_more entries new chunk (listed (drop (i + 1) cs)) h ∙ (rw here at so_far)
 
 -- ---- the hull of entries
 
@@ -152,38 +148,24 @@ run_apart (e ∷ es) h =
 -- ---- what is laid over
 
 -- inside the window
-pub inside_shows : (rank : Winner → Rank) (es : List Entry) (old new : List Segment) (steps : List Step) (w : Span) → IsInOrder steps → ((t : ℤ) → rank_from None steps t ≡ lesser (option_map rank (shows old t)) (rank_at es t)) → new ≡ joined_all [] (part (Some w.start) w.end (pieces steps)) → (t : ℤ) → shows new t ≡ (if covers w t then option_map winner_of_rank (lesser (option_map rank (shows old t)) (rank_at es t)) else None)
-inside_shows rank es old new steps w o r n t =
+pub inside_shows : (shown es : List Entry) (new : List Segment) (steps : List Step) (w : Span) → IsInOrder steps → ((t : ℤ) → rank_from None steps t ≡ lesser (rank_at shown t) (rank_at es t)) → new ≡ joined_all [] (part (Some w.start) w.end (pieces steps)) → (t : ℤ) → shows new t ≡ (if covers w t then option_map winner_of_rank (lesser (rank_at shown t) (rank_at es t)) else None)
+inside_shows shown es new steps w o r n t =
     let made = clip_made (pieces steps) new w (pieces_spread steps o) n in
     made.shown t ∙ ap (λ (v : Option Winner). if covers w t then v else None) (pieces_show steps t o ∙ ap (option_map winner_of_rank) (r t))
 
-module _ (rank : Winner → Rank) (names : (w : Winner) → winner_of_rank (rank w) ≡ w) where
-  named : (o : Option Winner) → option_map winner_of_rank (option_map rank o) ≡ o
-  named None = refl
-  named (Some w) = ap (λ (v : Winner). Some v) (names w)
+-- what is laid over what is shown goes into it where the entries cover
+pub run_shows : (shown es : List Entry) (w : Span) (windows : List Span) (old laid new : List Segment) → hull es ≡ Some w → windows ≡ spans_of es
+    → ((t : ℤ) → shows laid t ≡ (if covers w t then option_map winner_of_rank (lesser (rank_at shown t) (rank_at es t)) else None))
+    → ((t : ℤ) → shows new t ≡ (if any_covers windows t then shows laid t else shows old t))
+    → (t : ℤ) → shows new t ≡ (if any_covers (spans_of es) t then option_map winner_of_rank (lesser (rank_at shown t) (rank_at es t)) else shows old t)
+run_shows shown es w windows old laid new h s l n t = by (any_covers (spans_of es) t) refl (rw s at (n t))
+  where
+    by : (c : Bool) → any_covers (spans_of es) t ≡ c → shows new t ≡ (if c then shows laid t else shows old t)
+        → shows new t ≡ (if c then option_map winner_of_rank (lesser (rank_at shown t) (rank_at es t)) else shows old t)
+    by true c there = there ∙ (rw (hull_covers es w t h c) at (l t))
+    by false c there = there
 
-  -- where no entry covers, what was shown is
-  kept : (o : Option Winner) (r : Option Rank) → r ≡ None → o ≡ option_map winner_of_rank (lesser (option_map rank o) r)
-  kept o r h = rw h (sym (ap (option_map winner_of_rank) (lesser_none (option_map rank o)) ∙ named o))
-
-  -- what is laid over what the entries meet goes into what is shown
-  pub run_shows : (es : List Entry) (w : Span) (windows : List Span) (old met laid new : List Segment) → hull es ≡ Some w → windows ≡ spans_of es → IsMetBy es old met
-      → ((t : ℤ) → shows laid t ≡ (if covers w t then option_map winner_of_rank (lesser (option_map rank (shows met t)) (rank_at es t)) else None))
-      → ((t : ℤ) → shows new t ≡ (if any_covers windows t then shows laid t else shows old t))
-      → (t : ℤ) → shows new t ≡ option_map winner_of_rank (lesser (option_map rank (shows old t)) (rank_at es t))
-  run_shows es w windows old met laid new h s m l n t = by (any_covers (spans_of es) t) refl (m t) (rw s at (n t))
-    where
-      by : (c : Bool) → any_covers (spans_of es) t ≡ c → shows met t ≡ (if c then shows old t else None) → shows new t ≡ (if c then shows laid t else shows old t)
-          → shows new t ≡ option_map winner_of_rank (lesser (option_map rank (shows old t)) (rank_at es t))
-      by true c here there =
-          there
-          ∙ ((rw (hull_covers es w t h c) at (l t))
-          ∙ ap (λ (o : Option Winner). option_map winner_of_rank (lesser (option_map rank o) (rank_at es t))) here)
-      by false c here there = there ∙ kept (shows old t) (rank_at es t) (rank_uncovered es t c)
-
--- with other entries, whose least is shown
-pub wins : (rank : Winner → Rank) (others es : List Entry) (old new : List Segment) (t : ℤ) → shows new t ≡ option_map winner_of_rank (lesser (option_map rank (shows old t)) (rank_at es t)) → option_map rank (shows old t) ≡ rank_at others t → shows new t ≡ winner_at (others ++ es) t
-wins rank others es old new t h o =
-    h
-    ∙ (ap (λ (r : Option Rank). option_map winner_of_rank (lesser r (rank_at es t))) o
-    ∙ (ap (option_map winner_of_rank) (sym (rank_append others es t)) ∙ winner_rank (others ++ es) t))
+-- where there is no hull no entry covers
+pub no_hull : (es : List Entry) (old new : List Segment) (shown : ℤ → Option Winner) → hull es ≡ None → new ≡ old → (t : ℤ) → shows new t ≡ (if any_covers (spans_of es) t then shown t else shows old t)
+no_hull [] old new shown h same t = ap (λ (ss : List Segment). shows ss t) same
+no_hull (e ∷ es) old new shown h same t = absurd (cc)

@@ -1,15 +1,15 @@
-//! What is shown and the entries of a new event, as steps that are merged.
-ghost use Rattle.std.specs.Prelude.{◌≡◌, ◌+◌, ◌*◌, ◌<◌, ◌≤◌, ◌^◌, ◌++◌, ℤ, IfOk, IsTrue, OnOk, None, map, length};
+//! What is shown, as entries, and those of a new event, as steps that are merged.
+ghost use Rattle.std.specs.Prelude.{◌≡◌, ◌+◌, ◌<◌, ◌≤◌, ◌^◌, ◌++◌, ℤ, IfOk, IsTrue, OnOk, None, map, length};
 ghost use Rattle.std.specs.Option.{option_map};
 ghost use Rattle.adr_model.specs.Timeline.{shows, IsCanonical};
 ghost use Rattle.adr_timeline.specs.Chunks.{listed};
 ghost use Rattle.adr_timeline.specs.Overlay.{hull, shown_entry, spans_of as where_they_lie};
-ghost use Rattle.adr_timeline.specs.Steps.{IsInOrder, IsMergeOf, is_run, lesser, rank_at, rank_from, rises, steps_in_turn};
+ghost use Rattle.adr_timeline.specs.Steps.{IsInOrder, IsMergeOf, is_run, lesser, rank_at, rank_from, rises};
 
 use crate::chunk::Chunk;
 use crate::list::{StepList, StepsInTurn};
 use crate::packed::PackedSegment;
-use crate::step::{Step, add_steps_of, merge};
+use crate::step::{Step, add_run, merge};
 use adr_model::{Entry, Rank, Winner};
 use adr_rule::Meter;
 use adr_time::Span;
@@ -55,56 +55,54 @@ pub(crate) fn spans_of(alloc: Global, entries: &[Entry]) -> Result<Vec<Span>, Al
     Ok(spans)
 }
 
-/// Puts the steps of the segments, by the ranks of their winners, at the end of others.
+/// Puts the segments, as entries by the ranks of their winners, at the end of others.
 fn add_shown<R: Ranks>(
-    steps: &mut Vec<Step>,
+    entries: &mut Vec<Entry>,
     segments: &[PackedSegment],
     ranks: &R,
 ) -> Result<(), AllocError>
-    ensures { OnOk result (steps.new.items ≡ steps.old.items ++ steps_in_turn (map (shown_entry (R.rank ranks.now)) segments.now)) }
+    ensures { OnOk result (entries.new.items ≡ entries.old.items ++ map (shown_entry (R.rank ranks.now)) segments.now) }
 {
     for segment in segments {
-        let entry = Entry {
+        entries.push(Entry {
             rank: ranks.rank(segment.winner()),
             span: Span {
                 start: segment.start(),
                 end: segment.end(),
             },
-        };
-        add_steps_of(steps, &entry)?;
+        })?;
     }
     Ok(())
 }
 
-/// Puts the steps of the segments of chunks at the end of others.
+/// Puts the segments of chunks, as such entries, at the end of others.
 fn add_chunks<R: Ranks>(
-    steps: &mut Vec<Step>,
+    entries: &mut Vec<Entry>,
     chunks: &[Chunk],
     ranks: &R,
 ) -> Result<(), AllocError>
-    ensures { OnOk result (steps.new.items ≡ steps.old.items ++ steps_in_turn (map (shown_entry (R.rank ranks.now)) (listed chunks.now))) }
+    ensures { OnOk result (entries.new.items ≡ entries.old.items ++ map (shown_entry (R.rank ranks.now)) (listed chunks.now)) }
 {
     for chunk in chunks {
-        add_shown(steps, chunk.segments(), ranks)?;
+        add_shown(entries, chunk.segments(), ranks)?;
     }
     Ok(())
 }
 
-/// The steps of what the chunks show.
-fn shown_steps<R: Ranks>(
+/// What the chunks show, as entries by the ranks of winners.
+pub(crate) fn shown_entries<R: Ranks>(
     alloc: Global,
     chunks: &[Chunk],
     ranks: &R,
-) -> Result<Vec<Step>, AllocError>
+) -> Result<Vec<Entry>, AllocError>
     requires { IsCanonical (listed chunks.now) }
-    ensures order { IfOk result (λ steps. IsInOrder steps.items) }
-    ensures few { IfOk result (λ steps. length steps.items ≤ 2 * length (listed chunks.now)) }
-    ensures up { IfOk result (λ steps. rises steps.items ≤ length (listed chunks.now)) }
-    ensures ranks { IfOk result (λ steps. (t : ℤ) → rank_from None steps.items t ≡ option_map (R.rank ranks.now) (shows (listed chunks.now) t)) }
+    ensures in_turn { IfOk result (λ entries. IsTrue (is_run entries.items)) }
+    ensures count { IfOk result (λ entries. length entries.items ≡ length (listed chunks.now)) }
+    ensures ranks { IfOk result (λ entries. (t : ℤ) → rank_at entries.items t ≡ option_map (R.rank ranks.now) (shows (listed chunks.now) t)) }
 {
-    let mut steps = Vec::new(alloc);
-    add_chunks(&mut steps, chunks, ranks)?;
-    Ok(steps)
+    let mut entries = Vec::new(alloc);
+    add_chunks(&mut entries, chunks, ranks)?;
+    Ok(entries)
 }
 
 /// Two lists of steps merged into one.
@@ -126,22 +124,22 @@ fn merged<R: StepList>(
     Ok(steps)
 }
 
-/// The steps of the lesser rank of what the chunks show and of entries that come in turn, which compete with nothing
+/// The steps of the lesser rank of what is shown and of other entries, where both come in turn and compete with nothing
 /// else.
-pub(crate) fn steps_over<R: Ranks>(
+pub(crate) fn steps_over(
     alloc: Global,
-    shown: &[Chunk],
+    shown: &[Entry],
     run: &[Entry],
-    ranks: &R,
     meter: &mut Meter,
 ) -> Result<Vec<Step>, AllocError>
-    requires room { meter.old + (length (listed shown.now) + length run.now) < 2 ^ 128 }
+    requires room { meter.old + (length shown.now + length run.now) < 2 ^ 128 }
+    requires shown { IsTrue (is_run shown.now) }
     requires in_turn { IsTrue (is_run run.now) }
-    requires canonical { IsCanonical (listed shown.now) }
     ensures order { IfOk result (λ steps. IsInOrder steps.items) }
-    ensures ranks { IfOk result (λ steps. (t : ℤ) → rank_from None steps.items t ≡ lesser (option_map (R.rank ranks.now) (shows (listed shown.now) t)) (rank_at run.now t)) }
-    ensures compared { meter.new ≤ meter.old + (length (listed shown.now) + length run.now) }
+    ensures ranks { IfOk result (λ steps. (t : ℤ) → rank_from None steps.items t ≡ lesser (rank_at shown.now t) (rank_at run.now t)) }
+    ensures compared { meter.new ≤ meter.old + (length shown.now + length run.now) }
 {
-    let held = shown_steps(alloc, shown, ranks)?;
+    let mut held = Vec::with_capacity(alloc, shown.len().saturating_mul(2))?;
+    add_run(&mut held, shown)?;
     merged(alloc, &held, StepsInTurn::of(run), meter)
 }

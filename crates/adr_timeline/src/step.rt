@@ -134,7 +134,7 @@ pub fn is_run(entries: &[Entry]) -> bool
 }
 
 /// Puts the steps of each entry in turn at the end of others.
-fn add_run(steps: &mut Vec<Step>, entries: &[Entry]) -> Result<(), AllocError>
+pub(crate) fn add_run(steps: &mut Vec<Step>, entries: &[Entry]) -> Result<(), AllocError>
     ensures { OnOk result (steps.new.items ≡ steps.old.items ++ steps_in_turn entries.now) }
 {
     for entry in entries {

@@ -11,7 +11,7 @@ ghost use Rattle.adr_model.specs.Governor.{winner_at};
 ghost use Rattle.adr_model.specs.Timeline.{shows, CanonicalIsUnique, IsCanonical};
 ghost use Rattle.adr_timeline.specs.Build.{most_compared, most_compared_all};
 ghost use Rattle.adr_timeline.specs.Chunks.{listed};
-ghost use Rattle.adr_timeline.specs.Overlay.{IsMetBy};
+ghost use Rattle.adr_timeline.specs.Overlay.{IsMetBy, spans_of as where_they_lie};
 ghost use Rattle.adr_timeline.specs.Steps.{is_run, lesser, rank_at, winner_of_rank};
 ghost use Rattle.adr_timeline.specs.Windows.{any_covers, are_apart};
 
@@ -19,7 +19,7 @@ use crate::build::{Source, join_windows};
 use crate::chunk::Chunk;
 use crate::line::Line;
 use crate::near::meeting;
-use crate::overlay::{Ranks, hull_of, spans_of, steps_over};
+use crate::overlay::{Ranks, hull_of, shown_entries, spans_of, steps_over};
 use crate::step::{join_steps, ranked};
 use crate::{part, search};
 use adr_model::{Entry, Segment, Winner};
@@ -110,6 +110,28 @@ fn fits(chunks: &[Chunk], most: usize) -> bool
         left -= count;
     }
     true
+}
+
+/// The least, at each instant of the window, of what is shown and other entries, where both come in turn, and nothing
+/// outside.
+fn laid_in(
+    alloc: Global,
+    shown: &[Entry],
+    entries: &[Entry],
+    window: Span,
+    meter: &mut Meter,
+) -> Result<Timeline, Refusal>
+    requires room { meter.old + (length shown.now + length entries.now) < 2 ^ 128 }
+    requires shown { IsTrue (is_run shown.now) }
+    requires in_turn { IsTrue (is_run entries.now) }
+    ensures shows { IfOk result (λ timeline. (t : ℤ) → shows timeline t ≡ (if covers window t then option_map winner_of_rank (lesser (rank_at shown.now t) (rank_at entries.now t)) else None)) }
+    ensures compared { meter.new ≤ meter.old + (length shown.now + length entries.now) }
+    ensures refused { OnlyNoMemory result }
+{
+    let steps = steps_over(alloc, shown, entries, meter)?;
+    let mut line = Line::new(alloc, MOST_IN_CHUNK);
+    join_steps(&mut line, &steps, window)?;
+    timeline_of(MOST_IN_CHUNK, line)
 }
 
 impl Timeline {
@@ -319,57 +341,49 @@ impl Timeline {
         nothing.splice_all(&windows, self)
     }
 
-    /// The least, at each instant of the window, of what this timeline shows and entries that come in turn, and nothing
-    /// outside.
-    fn lay_in_turn<R: Ranks>(
-        &self,
-        entries: &[Entry],
-        window: Span,
-        ranks: &R,
-        meter: &mut Meter,
-    ) -> Result<Timeline, Refusal>
-        requires room { meter.old + (length self.now + length entries.now) < 2 ^ 128 }
-        requires in_turn { IsTrue (is_run entries.now) }
-        ensures canonical { IfOk result (λ timeline. IsCanonical timeline) }
-        ensures shows { IfOk result (λ timeline. (t : ℤ) → shows timeline t ≡ (if covers window t then option_map winner_of_rank (lesser (option_map (R.rank ranks.now) (shows self.now t)) (rank_at entries.now t)) else None)) }
-        ensures compared { meter.new ≤ meter.old + (length self.now + length entries.now) }
-        ensures refused { OnlyNoMemory result }
-    {
-        let alloc = *self.chunks.allocator();
-        let steps = steps_over(alloc, &self.chunks, entries, ranks, meter)?;
-        let mut line = Line::new(alloc, self.most);
-        join_steps(&mut line, &steps, window)?;
-        timeline_of(self.most, line)
-    }
-
-    /// The least, at each instant, of what this timeline shows and entries that come in turn, where it is known what
-    /// they meet: only that is looked at, and no more is compared than once for each of its segments and for each
-    /// entry. Ranks are compared by `before` alone, which counts each comparison. Cost: some steps for each of those,
-    /// and that of [`Timeline::splice_all`].
+    /// The segments as entries, by the ranks of their winners: what others that are laid over this timeline compete with.
+    /// Cost: a rank for each segment.
     ///
     /// # Errors
     ///
     /// `NoMemory` where there is no room.
-    pub fn lay_run<R: Ranks>(
+    pub fn ranked<R: Ranks>(&self, ranks: &R) -> Result<Vec<Entry>, Refusal>
+        ensures in_turn { IfOk result (λ entries. IsTrue (is_run entries.items)) }
+        ensures count { IfOk result (λ entries. length entries.items ≡ length self.now) }
+        ensures ranks { IfOk result (λ entries. (t : ℤ) → rank_at entries.items t ≡ option_map (R.rank ranks.now) (shows self.now t)) }
+        ensures refused { OnlyNoMemory result }
+    {
+        let entries = shown_entries(*self.chunks.allocator(), &self.chunks, ranks)?;
+        Ok(entries)
+    }
+
+    /// This timeline, but where entries that come in turn cover the least of them and of what is shown there, which is
+    /// handed in as entries that come in turn too: [`Timeline::ranked`] makes them of what the others meet. No more is
+    /// compared than once for each entry of both. Ranks are compared by `before` alone, which counts each comparison.
+    /// Cost: some steps for each entry, and that of `splice_all`.
+    ///
+    /// # Errors
+    ///
+    /// `NoMemory` where there is no room.
+    pub fn lay_run(
         &self,
-        met: &Timeline,
+        shown: &[Entry],
         entries: &[Entry],
-        ranks: &R,
         meter: &mut Meter,
     ) -> Result<Timeline, Refusal>
-        requires room { meter.old + (length met.now + length entries.now) < 2 ^ 128 }
+        requires room { meter.old + (length shown.now + length entries.now) < 2 ^ 128 }
+        requires shown { IsTrue (is_run shown.now) }
         requires in_turn { IsTrue (is_run entries.now) }
-        requires met { IsMetBy entries.now self.now met.now }
         ensures canonical { IfOk result (λ timeline. IsCanonical timeline) }
-        ensures shows { IfOk result (λ timeline. (t : ℤ) → shows timeline t ≡ option_map winner_of_rank (lesser (option_map (R.rank ranks.now) (shows self.now t)) (rank_at entries.now t))) }
-        ensures wins { IfOk result (λ timeline. (others : List Entry) → (t : ℤ) → option_map (R.rank ranks.now) (shows self.now t) ≡ rank_at others t → shows timeline t ≡ winner_at (others ++ entries.now) t) }
-        ensures compared { meter.new ≤ meter.old + (length met.now + length entries.now) }
+        ensures shows { IfOk result (λ timeline. (t : ℤ) → shows timeline t ≡ (if any_covers (where_they_lie entries.now) t then option_map winner_of_rank (lesser (rank_at shown.now t) (rank_at entries.now t)) else shows self.now t)) }
+        ensures compared { meter.new ≤ meter.old + (length shown.now + length entries.now) }
         ensures refused { OnlyNoMemory result }
     {
         match hull_of(entries) {
             Some(window) => {
-                let laid = met.lay_in_turn(entries, window, ranks, meter)?;
-                let windows = spans_of(*self.chunks.allocator(), entries)?;
+                let alloc = *self.chunks.allocator();
+                let laid = laid_in(alloc, shown, entries, window, meter)?;
+                let windows = spans_of(alloc, entries)?;
                 self.splice_all(&windows, &laid)
             }
             None => {
