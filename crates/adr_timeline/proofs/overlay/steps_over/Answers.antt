@@ -1,4 +1,4 @@
-use Rattle.std.proofs.Common.{◌∙◌, List, Option, None, ap, ap₂, length, arith}
+use Rattle.std.proofs.Common.{◌∙◌, ◌++◌, List, Option, None, ap, ap₂, length, arith}
 use Rattle.std.proofs.lemmas.Result.{IfOk-weaker}
 use Rattle.adr_model.specs.declared.entry.Rank.{Rank}
 use Rattle.adr_timeline.specs.declared.step.Step.{Step}
