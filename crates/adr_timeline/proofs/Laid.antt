@@ -1,5 +1,5 @@
 -- Entries laid over what is shown.
-use Rattle.std.proofs.Common.{◌≡◌, ℕ, ◌+◌, ◌*◌, ◌<◌, ◌≤◌, ◌&&◌, ◌||◌, not, Bool, true, false, List, [], ◌∷◌, ◌++◌, map, length, drop, get_or, Option, Some, None, if◌then◌else◌, inl, inr, refl, sym, ◌∙◌, ap, arith, ℤ, int_le}
+use Rattle.std.proofs.Common.{◌≡◌, ℕ, ◌+◌, ◌<◌, ◌&&◌, ◌||◌, not, Bool, true, false, List, [], ◌∷◌, ◌++◌, map, length, drop, get_or, Option, Some, None, if◌then◌else◌, inl, inr, refl, sym, ◌∙◌, ap, arith, ℤ, int_le}
 use Rattle.std.specs.Option.{option_map}
 use Rattle.std.specs.Int.{int_min}
 use Rattle.std.proofs.lemmas.Int.{ints}
@@ -17,13 +17,13 @@ use Rattle.adr_model.specs.Timeline.{shows, span_of, IsCanonical}
 use Rattle.adr_timeline.specs.declared.step.Step.{Step}
 use Rattle.adr_timeline.specs.Parts.{part, joined_all}
 use Rattle.adr_timeline.specs.Chunks.{listed}
-use Rattle.adr_timeline.specs.Overlay.{hull_with, hull, shown_entry, spans_of, IsMetBy}
+use Rattle.adr_timeline.specs.Overlay.{hull_with, hull, shown_entry, spans_of}
 use Rattle.adr_timeline.specs.Windows.{any_covers, are_apart, is_followed_by}
-use Rattle.adr_timeline.specs.Steps.{IsInOrder, is_run, starts_from, steps_of, steps_in_turn, lesser, pieces, rank_at, rank_from, rises, winner_of_rank}
+use Rattle.adr_timeline.specs.Steps.{IsInOrder, is_run, starts_from, lesser, pieces, rank_at, rank_from, winner_of_rank}
 use Rattle.adr_timeline.proofs.Canonical.{none_before, starts_end, after_endless}
 use Rattle.adr_timeline.proofs.Pieces.{clip_made}
-use Rattle.adr_timeline.proofs.Least.{lesser_none, rank_cons, rank_append, winner_rank}
-use Rattle.adr_timeline.proofs.Runs.{run_parts, run_ranked, run_rises}
+use Rattle.adr_timeline.proofs.Least.{rank_cons}
+use Rattle.adr_timeline.proofs.Runs.{run_parts}
 use Rattle.adr_timeline.proofs.Segments.{winner_in, EndsBy, IsApart, IsLinked}
 use Rattle.adr_timeline.proofs.Stepped.{pieces_spread, pieces_show}
 use Rattle.adr_timeline.proofs.Words.{shows_is, canonical_linked}
@@ -154,11 +154,11 @@ inside_shows shown es new steps w o r n t =
     made.shown t ∙ ap (λ (v : Option Winner). if covers w t then v else None) (pieces_show steps t o ∙ ap (option_map winner_of_rank) (r t))
 
 -- what is laid over what is shown goes into it where the entries cover
-pub run_shows : (shown es : List Entry) (w : Span) (windows : List Span) (old laid new : List Segment) → hull es ≡ Some w → windows ≡ spans_of es
+pub run_shows : (shown es : List Entry) (w : Span) (windows : List Span) (old laid new : List Segment) → hull es ≡ Some w → ((t : ℤ) → any_covers windows t ≡ any_covers (spans_of es) t)
     → ((t : ℤ) → shows laid t ≡ (if covers w t then option_map winner_of_rank (lesser (rank_at shown t) (rank_at es t)) else None))
     → ((t : ℤ) → shows new t ≡ (if any_covers windows t then shows laid t else shows old t))
     → (t : ℤ) → shows new t ≡ (if any_covers (spans_of es) t then option_map winner_of_rank (lesser (rank_at shown t) (rank_at es t)) else shows old t)
-run_shows shown es w windows old laid new h s l n t = by (any_covers (spans_of es) t) refl (rw s at (n t))
+run_shows shown es w windows old laid new h s l n t = by (any_covers (spans_of es) t) refl (rw (s t) at (n t))
   where
     by : (c : Bool) → any_covers (spans_of es) t ≡ c → shows new t ≡ (if c then shows laid t else shows old t)
         → shows new t ≡ (if c then option_map winner_of_rank (lesser (rank_at shown t) (rank_at es t)) else shows old t)

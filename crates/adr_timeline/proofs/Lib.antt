@@ -16,6 +16,7 @@ pub mod Shown
 pub mod Stepped
 pub mod Spliced
 pub mod Taken
+pub mod Touching
 pub mod Within
 pub mod Words
 pub mod Crossing

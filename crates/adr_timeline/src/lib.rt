@@ -22,4 +22,4 @@ pub use overlay::Ranks;
 pub use packed::PackedSegment;
 pub use step::is_run;
 pub use timeline::{Timeline, timeline_laws};
-pub use windows::{are_apart, first_run};
+pub use windows::{are_apart, first_run, put_together};

@@ -5,11 +5,13 @@ ghost use Rattle.adr_model.specs.Timeline.{shows, IsCanonical};
 ghost use Rattle.adr_timeline.specs.Chunks.{listed};
 ghost use Rattle.adr_timeline.specs.Overlay.{hull, shown_entry, spans_of as where_they_lie};
 ghost use Rattle.adr_timeline.specs.Steps.{IsInOrder, IsMergeOf, is_run, lesser, rank_at, rank_from, rises};
+ghost use Rattle.adr_timeline.specs.Windows.{any_covers, are_apart};
 
 use crate::chunk::Chunk;
 use crate::list::{StepList, StepsInTurn};
 use crate::packed::PackedSegment;
 use crate::step::{Step, add_run, merge};
+use crate::windows::put_together;
 use adr_model::{Entry, Rank, Winner};
 use adr_rule::Meter;
 use adr_time::Span;
@@ -45,7 +47,7 @@ pub(crate) fn hull_of(entries: &[Entry]) -> Option<Span>
 }
 
 /// Where the entries lie.
-pub(crate) fn spans_of(alloc: Global, entries: &[Entry]) -> Result<Vec<Span>, AllocError>
+fn spans_of(alloc: Global, entries: &[Entry]) -> Result<Vec<Span>, AllocError>
     ensures { IfOk result (λ spans. spans.items ≡ where_they_lie entries.now) }
 {
     let mut spans = Vec::with_capacity(alloc, entries.len())?;
@@ -53,6 +55,16 @@ pub(crate) fn spans_of(alloc: Global, entries: &[Entry]) -> Result<Vec<Span>, Al
         spans.push(entry.span)?;
     }
     Ok(spans)
+}
+
+/// Windows that cover what entries that come in turn cover, one for those that touch.
+pub(crate) fn windows_of(alloc: Global, entries: &[Entry]) -> Result<Vec<Span>, AllocError>
+    requires { IsTrue (is_run entries.now) }
+    ensures apart { IfOk result (λ windows. IsTrue (are_apart windows.items)) }
+    ensures covers { IfOk result (λ windows. (t : ℤ) → any_covers windows.items t ≡ any_covers (where_they_lie entries.now) t) }
+{
+    let spans = spans_of(alloc, entries)?;
+    put_together(alloc, &spans)
 }
 
 /// Puts the segments, as entries by the ranks of their winners, at the end of others.

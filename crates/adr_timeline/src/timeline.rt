@@ -19,7 +19,7 @@ use crate::build::{Source, join_windows};
 use crate::chunk::Chunk;
 use crate::line::Line;
 use crate::near::meeting;
-use crate::overlay::{Ranks, hull_of, shown_entries, spans_of, steps_over};
+use crate::overlay::{Ranks, hull_of, shown_entries, steps_over, windows_of};
 use crate::step::{join_steps, ranked};
 use crate::{part, search};
 use adr_model::{Entry, Segment, Winner};
@@ -336,7 +336,7 @@ impl Timeline {
         ensures refused { OnlyNoMemory result }
     {
         let alloc = *self.chunks.allocator();
-        let windows = spans_of(alloc, entries)?;
+        let windows = windows_of(alloc, entries)?;
         let nothing = Timeline::new(alloc);
         nothing.splice_all(&windows, self)
     }
@@ -383,7 +383,7 @@ impl Timeline {
             Some(window) => {
                 let alloc = *self.chunks.allocator();
                 let laid = laid_in(alloc, shown, entries, window, meter)?;
-                let windows = spans_of(alloc, entries)?;
+                let windows = windows_of(alloc, entries)?;
                 self.splice_all(&windows, &laid)
             }
             None => {

@@ -1,8 +1,9 @@
 //! Windows in order.
-ghost use Rattle.std.specs.Prelude.{◌≡◌, ◌+◌, ◌<◌, ◌≤◌, IsTrue, false, length, take};
-ghost use Rattle.adr_timeline.specs.Windows.{all_last, are_apart as is_each_apart, is_followed_by as is_followed};
+ghost use Rattle.std.specs.Prelude.{◌≡◌, ◌+◌, ◌<◌, ◌≤◌, ℤ, IfOk, IsTrue, false, length, take};
+ghost use Rattle.adr_timeline.specs.Windows.{all_last, any_covers, are_apart as is_each_apart, is_followed_by as is_followed};
 
 use adr_time::Span;
+use std::alloc::{AllocError, Global};
 
 /// Whether the first of the windows does not start before the window ends.
 fn is_followed_by(window: &Span, windows: &[Span]) -> bool
@@ -48,4 +49,34 @@ pub fn first_run(windows: &[Span]) -> usize
         rest = later;
     }
     count
+}
+
+/// Windows that cover what the windows cover, one for those that touch. Cost: a look at each.
+///
+/// # Errors
+///
+/// `AllocError` where there is no room for them.
+pub fn put_together(alloc: Global, windows: &[Span]) -> Result<Vec<Span>, AllocError>
+    requires last { IsTrue (all_last windows.now) }
+    ensures covers { IfOk result (λ wide. (t : ℤ) → any_covers wide.items t ≡ any_covers windows.now t) }
+    ensures last { IfOk result (λ wide. IsTrue (all_last wide.items)) }
+    ensures apart { IfOk result (λ wide. IsTrue (is_each_apart windows.now) → IsTrue (is_each_apart wide.items)) }
+{
+    let mut wide = Vec::new(alloc);
+    let Some((first, others)) = windows.split_first() else {
+        return Ok(wide);
+    };
+    let mut current = *first;
+    let mut rest = others;
+    'rest: while let Some((window, more)) = rest.split_first() {
+        rest = more;
+        if current.end.is_at(window.start) {
+            current.end = window.end;
+        } else {
+            wide.push(current)?;
+            current = *window;
+        }
+    }
+    wide.push(current)?;
+    Ok(wide)
 }

@@ -1,6 +1,5 @@
-use Rattle.std.proofs.Common.{◌∙◌, ◌++◌, List, Option, None, ap, ap₂, length, arith}
+use Rattle.std.proofs.Common.{◌∙◌, ◌++◌, List, None, ap, ap₂, length, arith}
 use Rattle.std.proofs.lemmas.Result.{IfOk-weaker}
-use Rattle.adr_model.specs.declared.entry.Rank.{Rank}
 use Rattle.adr_timeline.specs.declared.step.Step.{Step}
 use Rattle.adr_timeline.specs.Steps.{lesser, rank_from, rises, steps_in_turn}
 use Rattle.adr_timeline.proofs.Runs.{run_ranked, run_rises}

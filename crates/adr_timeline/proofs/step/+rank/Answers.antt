@@ -1,4 +1,4 @@
-use Rattle.std.proofs.Common.{rules, arith, ◌++◌, ◌∙◌, ◌^◌, List, ap, sym}
+use Rattle.std.proofs.Common.{rules, ◌++◌, ◌∙◌, ◌^◌, List, ap, sym}
 use Rattle.adr_timeline.specs.declared.step.Step.{Step}
 use Rattle.std.proofs.lemmas.Result.{on_ok_weaker}
 use Rattle.adr_timeline.specs.Steps.{rises}
