@@ -1,6 +1,6 @@
 -- Windows of one type that are gathered under it.
-use Rattle.std.proofs.Common.{◌≡◌, ℕ, zero, suc, ℤ, ◌+◌, ◌<◌, Bool, true, false, if◌then◌else◌, ◌||◌, List, [], ◌∷◌, ◌++◌, length, set, get_or, Some, refl, ap, sym, subst, ◌∙◌, append_assoc, append-nil, arith}
-use Rattle.std.specs.List.{position}
+use Rattle.std.proofs.Common.{◌≡◌, ℕ, zero, suc, ℤ, ◌+◌, ◌<◌, Bool, true, false, cond, if◌then◌else◌, ◌||◌, List, [], ◌∷◌, ◌++◌, length, map, set, get_or, Some, refl, ap, sym, subst, ◌∙◌, append_assoc, append-nil, arith}
+use Rattle.std.specs.List.{position, IsDistinct}
 use Rattle.std.specs.Str.{bytes_eq}
 use Rattle.std.specs.HashMap.{get_by_text}
 use Rattle.std.specs.Option.{option_map_or}
@@ -12,7 +12,8 @@ use Rattle.adr_value.specs.declared.payload.PayloadType.{PayloadType}
 use Rattle.adr_time.specs.Spans.{covers}
 use Rattle.adr_model.specs.declared.entry.Entry.{Entry}
 use Rattle.adr_lines.specs.declared.grouped.TypeEntries.{TypeEntries}
-use Rattle.adr_lines.specs.Grouped.{any_covers_at, entries_under}
+use Rattle.adr_lines.specs.Grouped.{any_covers_at, entries_under, HaveOwnTypes}
+use Rattle.adr_lines.proofs.Groups.{none_under, same_as_each}
 use Rattle.adr_lines.specs.declared.indexes.Indexes.{Indexes}
 use Rattle.adr_lines.specs.Indexes.{own_entries, under}
 use Rattle.adr_group.specs.Jobs.{AreAlike}
@@ -90,21 +91,55 @@ cost_at [] place d h g within is same more writes indexes = absurd (omega arith)
 cost_at (x ∷ types) zero d h g within is same more writes indexes = let own = own_cost x h g same more is writes indexes in omega (arith, own)
 cost_at (x ∷ types) (suc place) d h g within is same more writes indexes = let rest = cost_at types place d h g (omega arith) is same more writes indexes in omega (arith, rest)
 
+under_at : (types : List TypeEntries) (place : ℕ) (d h g : TypeEntries) → place < length types → same_type (get_or types place d).payload_type g.payload_type ≡ true
+    → h.payload_type ≡ (get_or types place d).payload_type → h.entries.items ≡ (get_or types place d).entries.items ++ g.entries.items → HaveOwnTypes types
+    → (k : PayloadType) → entries_under (set types place h) k ≡ entries_under types k ++ own_entries g k
+unfolding IsDistinct
+under_at [] place d h g within is same more own k = absurd (omega arith)
+under_at (x ∷ types) zero d h g within is same more own k =
+    ap (λ (p : PayloadType). cond (same_type p k) h.entries.items [] ++ entries_under types k) same
+    ∙ by (same_type x.payload_type k) refl (sym (same_as_each x.payload_type g.payload_type k is))
+  where
+    by : (b : Bool) → same_type x.payload_type k ≡ b → same_type g.payload_type k ≡ same_type x.payload_type k
+        → cond b h.entries.items [] ++ entries_under types k ≡ (cond b x.entries.items [] ++ entries_under types k) ++ own_entries g k
+    by true s u =
+        rw (none_under x.payload_type k s types own.0, u, s, more)
+        (append-nil (x.entries.items ++ g.entries.items) ∙ ap (λ (es : List Entry). es ++ g.entries.items) (sym (append-nil x.entries.items)))
+    by false s u = rw (u, s) (sym (append-nil (entries_under types k)))
+under_at (x ∷ types) (suc place) d h g within is same more own k =
+    ap (λ (es : List Entry). own_entries x k ++ es) (under_at types place d h g (omega arith) is same more own.1 k)
+    ∙ sym (append_assoc (own_entries x k) (entries_under types k) (own_entries g k))
+
+same_types : (types : List TypeEntries) (place : ℕ) (d h : TypeEntries) → place < length types → h.payload_type ≡ (get_or types place d).payload_type
+    → map (λ (x : TypeEntries). x.payload_type) (set types place h) ≡ map (λ (x : TypeEntries). x.payload_type) types
+same_types [] place d h within same = absurd (omega arith)
+same_types (x ∷ types) zero d h within same = ap (λ (p : PayloadType). p ∷ map (λ (y : TypeEntries). y.payload_type) types) same
+same_types (x ∷ types) (suc place) d h within same = ap (λ (ps : List PayloadType). x.payload_type ∷ ps) (same_types types place d h (omega arith) same)
+
+-- each type is there once still
+pub gathered_own : (types : List TypeEntries) (place : ℕ) (d h : TypeEntries) (k : PayloadType) → position (λ (x : TypeEntries). same_type x.payload_type k) types ≡ Some place
+    → h.payload_type ≡ (get_or types place d).payload_type → HaveOwnTypes types → HaveOwnTypes (set types place h)
+gathered_own types place d h k found same own =
+    subst (IsDistinct same_type) (sym (same_types types place d h (position-Some (λ (x : TypeEntries). same_type x.payload_type k) types place d found).0 same)) own
+
 -- the windows are gathered under their type
 pub gathered : (types : List TypeEntries) (place : ℕ) (d h g : TypeEntries) → position (λ (x : TypeEntries). same_type x.payload_type g.payload_type) types ≡ Some place
-    → h.payload_type ≡ (get_or types place d).payload_type → h.entries.items ≡ (get_or types place d).entries.items ++ g.entries.items
+    → h.payload_type ≡ (get_or types place d).payload_type → h.entries.items ≡ (get_or types place d).entries.items ++ g.entries.items → HaveOwnTypes types
     → AreAlike (set types place h) (types ++ g ∷ [])
-gathered types place d h g found same more =
+gathered types place d h g found same more own =
     let p = position-Some (λ (x : TypeEntries). same_type x.payload_type g.payload_type) types place d found in
     record {
+      under = λ k. under_at types place d h g p.0 p.1 same more own k
+          ∙ ap (λ (es : List Entry). entries_under types k ++ es) (sym (append-nil (own_entries g k)))
+          ∙ sym (under_both types (g ∷ []) k);
       covers = λ k t. any_at types place d h g p.0 p.1 same more k t
           ∙ ap (λ (es : List Entry). any_covers_at (entries_under types k) t || any_covers_at es t) (sym (append-nil (own_entries g k)))
           ∙ sym (any_both (entries_under types k) (entries_under (g ∷ []) k) t)
           ∙ ap (λ (es : List Entry). any_covers_at es t) (sym (under_both types (g ∷ []) k));
       cost = λ writes indexes.
           (let whole = most_both types (g ∷ []) writes indexes in
-          let own = cost_at types place d h g p.0 p.1 same more writes indexes in
-          omega (arith, whole, own));
+          let here = cost_at types place d h g p.0 p.1 same more writes indexes in
+          omega (arith, whole, here));
     }
 
 -- then the others

@@ -22,10 +22,10 @@ all_done R all rest done none before = subst (λ l. AllZip R all l) (append-nil 
 -- ---- windows that are alike
 
 pub alike_self : (windows : List TypeEntries) → AreAlike windows windows
-alike_self windows = record { covers = λ k t. refl; cost = λ writes indexes. refl }
+alike_self windows = record { under = λ k. refl; covers = λ k t. refl; cost = λ writes indexes. refl }
 
 pub alike_passes : (a b c : List TypeEntries) → AreAlike a b → AreAlike b c → AreAlike a c
-alike_passes a b c x y = record { covers = λ k t. x.covers k t ∙ y.covers k t; cost = λ writes indexes. x.cost writes indexes ∙ y.cost writes indexes }
+alike_passes a b c x y = record { under = λ k. x.under k ∙ y.under k; covers = λ k t. x.covers k t ∙ y.covers k t; cost = λ writes indexes. x.cost writes indexes ∙ y.cost writes indexes }
 
 -- what one group of windows covers and costs is what its type and its entries do
 one_alike : (g h : TypeEntries) → g.payload_type ≡ h.payload_type → g.entries.items ≡ h.entries.items → (k : PayloadType) → own_entries g k ≡ own_entries h k
@@ -33,7 +33,7 @@ one_alike g h kind entries k = rw (kind, entries) refl
 
 pub copied_alike : (front more : List TypeEntries) (g h : TypeEntries) → h.payload_type ≡ g.payload_type → h.entries.items ≡ g.entries.items
     → AreAlike (front ++ h ∷ more) (front ++ g ∷ more)
-copied_alike front more g h kind entries = record { covers = λ k t. ap (λ (es : List Entry). any_covers_at es t) (same_under k front); cost = λ writes indexes. same_cost writes indexes front }
+copied_alike front more g h kind entries = record { under = λ k. same_under k front; covers = λ k t. ap (λ (es : List Entry). any_covers_at es t) (same_under k front); cost = λ writes indexes. same_cost writes indexes front }
   where
     same_under : (k : PayloadType) (xs : List TypeEntries) → entries_under (xs ++ h ∷ more) k ≡ entries_under (xs ++ g ∷ more) k
     same_under k [] = ap (λ (es : List Entry). es ++ entries_under more k) (one_alike h g kind entries k)
@@ -46,6 +46,7 @@ copied_alike front more g h kind entries = record { covers = λ k t. ap (λ (es 
 -- and then those of a second list
 pub both_alike : (a b c d : List TypeEntries) → AreAlike a b → AreAlike c (a ++ d) → AreAlike c (b ++ d)
 both_alike a b c d x y = record {
+  under = λ k. y.under k ∙ (under_both a d k ∙ (ap (λ (es : List Entry). es ++ entries_under d k) (x.under k) ∙ sym (under_both b d k)));
   covers = λ k t. y.covers k t ∙ any_both a d k t ∙ ap (λ p. p || any_covers_at (entries_under d k) t) (x.covers k t) ∙ sym (any_both b d k t);
   cost = λ writes indexes. y.cost writes indexes ∙ most_both a d writes indexes ∙ ap (λ n. n + most_repaired d writes indexes) (x.cost writes indexes) ∙ sym (most_both b d writes indexes);
 }

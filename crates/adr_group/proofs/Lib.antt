@@ -1,4 +1,5 @@
 pub mod Crossing
+pub mod Exchanging
 pub mod Gathered
 pub mod Halves
 pub mod Jobs
@@ -12,4 +13,5 @@ pub mod Rights
 pub mod Room
 pub mod Seen
 pub mod Sharing
+pub mod Tasks
 pub mod Turns

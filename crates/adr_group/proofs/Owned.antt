@@ -212,7 +212,7 @@ kept_all windows rest spans left kept none so_far t h k = by (so_far.holds t h k
 
 -- ---- the windows in which a line shows the event
 
-spans_cover : (es : List Entry) (t : ℤ) → any_covers (spans_of es) t ≡ any_covers_at es t
+pub spans_cover : (es : List Entry) (t : ℤ) → any_covers (spans_of es) t ≡ any_covers_at es t
 spans_cover [] t = refl
 spans_cover (e ∷ es) t = ap (λ (b : Bool). covers e.span t || b) (spans_cover es t)
 

@@ -1,18 +1,14 @@
 -- The windows of an event in which timelines show it, and timelines without it.
 use Rattle.std.specs.Prelude.{◌≡◌, ◌==◌, ◌⊎◌, ◌≤ℤ◌, ⊤, ℕ, ℤ, Bool, true, false, List, [], ◌∷◌, filter, map, Option}
 use Rattle.std.specs.Option.{option_map_or}
-use Rattle.adr_value.specs.declared.payload.PayloadType.{PayloadType}
 use Rattle.adr_time.specs.declared.span.Span.{Span}
 use Rattle.adr_model.specs.declared.entry.Entry.{Entry}
 use Rattle.adr_model.specs.declared.timeline.Segment.{Segment}
 use Rattle.adr_model.specs.declared.timeline.Winner.{Winner}
 use Rattle.adr_model.specs.Governor.{winner_at}
-use Rattle.adr_model.specs.Timeline.{span_of}
+use Rattle.adr_model.specs.Timeline.{shows, span_of}
 use Rattle.adr_lines.specs.Grouped.{any_covers_at}
 use Rattle.adr_lines.specs.Right.{written_in}
-use Rattle.adr_lines.specs.declared.indexes.Indexes.{Indexes}
-use Rattle.adr_lines.specs.Indexes.{under}
-use Rattle.adr_group.specs.Group.{shown_in}
 
 -- what is shown is an interval of the event of that number
 abbrev pub is_of : ℕ → Option Winner → Bool
@@ -32,10 +28,10 @@ abbrev pub AreInOrder : List Span → Type 0
 AreInOrder [] = ⊤
 AreInOrder (s ∷ ss) = AreFrom s.start ss
 
--- at each instant the new lines show what wins among the writes; or what the old ones do, and this is not of the event of
+-- at each instant the new line shows what wins among the writes; or what the old one does, and this is not of the event of
 -- that number where the windows cover
-abbrev pub IsWithout : Indexes → List ℕ → ℕ → (PayloadType → List Entry) → List (List ℕ × List Segment) → List (List ℕ × List Segment) → Type 0
-IsWithout indexes writes number windows old new =
-    (k : PayloadType) (t : ℤ)
-    → (shown_in new k t ≡ winner_at (written_in writes (under indexes k)) t)
-    ⊎ ((shown_in new k t ≡ shown_in old k t) × (any_covers_at (windows k) t ≡ true → is_of number (shown_in old k t) ≡ false))
+abbrev pub IsWithout : List ℕ → List Entry → ℕ → List Entry → List Segment → List Segment → Type 0
+IsWithout writes entries number windows old new =
+    (t : ℤ)
+    → (shows new t ≡ winner_at (written_in writes entries) t)
+    ⊎ ((shows new t ≡ shows old t) × (any_covers_at windows t ≡ true → is_of number (shows old t) ≡ false))

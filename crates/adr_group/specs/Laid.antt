@@ -1,13 +1,13 @@
--- The entries of an event that are laid over a group's timelines.
-use Rattle.std.specs.Prelude.{◌≡◌, ◌↔◌, ◌≤◌, ◌*◌, ℕ, ℤ, Bool, true, List, length, Option, None, if◌then◌else◌}
+-- The entries of an event that are laid over a timeline, and those of one that goes.
+use Rattle.std.specs.Prelude.{◌≡◌, ◌↔◌, ◌⊎◌, ◌≤◌, ◌+◌, ◌*◌, ℕ, ℤ, Bool, true, List, drop, length, take, Option, None}
 use Rattle.std.specs.List.{list_all}
-use Rattle.std.specs.Option.{option_map}
+use Rattle.std.specs.Option.{option_map, option_map_or}
 use Rattle.adr_value.specs.declared.payload.PayloadType.{PayloadType}
 use Rattle.adr_model.specs.declared.entry.Entry.{Entry}
 use Rattle.adr_model.specs.declared.entry.Rank.{Rank}
 use Rattle.adr_model.specs.declared.timeline.Segment.{Segment}
 use Rattle.adr_model.specs.declared.timeline.Winner.{Winner}
-use Rattle.adr_model.specs.Governor.{winner_of}
+use Rattle.adr_model.specs.Governor.{winner_at, winner_of}
 use Rattle.adr_model.specs.Lists.{In}
 use Rattle.adr_model.specs.Timeline.{shows}
 use Rattle.adr_timeline.specs.Overlay.{spans_of}
@@ -15,23 +15,47 @@ use Rattle.adr_timeline.specs.Steps.{is_run, lesser, rank_at, winner_of_rank}
 use Rattle.adr_timeline.specs.Windows.{any_covers}
 use Rattle.adr_lines.specs.declared.grouped.TypeEntries.{TypeEntries}
 use Rattle.adr_lines.specs.Grouped.{entries_under, HaveOwnTypes}
+use Rattle.adr_lines.specs.Right.{has_number, written_in}
 use Rattle.adr_lines.specs.declared.indexes.Indexes.{Indexes}
 use Rattle.adr_lines.specs.Indexes.{under}
-use Rattle.adr_group.specs.Group.{shown_in}
+use Rattle.adr_group.specs.declared.job.Held.{Held}
+use Rattle.adr_group.specs.Repair.{most_inside, IsRepaired}
+use Rattle.adr_group.specs.Writes.{changed_number, is_number}
 
--- under each type the entries last, and each ends before the next one starts, or where it starts
-abbrev pub are_runs : List TypeEntries → Bool
-are_runs groups = list_all (λ g. is_run g.entries.items) groups
+-- the entries come in turn; what they meet of the line, as entries by the ranks of winners, comes in turn too, and is no
+-- more than twice as many
+pub record IsMet (rank : Winner → Rank) (line : List Segment) (entries met : List Entry) : Type 0 where
+  pub run : is_run entries ≡ true
+  pub in_turn : is_run met ≡ true
+  pub shows : (t : ℤ) → any_covers (spans_of entries) t ≡ true → rank_at met t ≡ option_map rank (shows line t)
+  pub few : length met ≤ 2 * length entries
 
--- the entries come in turn, and meet of the timeline of their type no more than twice as many segments as they are
-pub record IsMet (lines : List (List ℕ × List Segment)) (group : TypeEntries) (met : List Segment) : Type 0 where
-  pub run : is_run group.entries.items ≡ true
-  pub shows : (t : ℤ) → shows met t ≡ (if any_covers (spans_of group.entries.items) t then shown_in lines group.payload_type t else None)
-  pub few : length met ≤ 2 * length group.entries.items
+-- the least, at each instant, of what is shown and of the entries
+abbrev pub least_over : List Entry → List Entry → ℤ → Option Winner
+least_over shown entries t = option_map winner_of_rank (lesser (rank_at shown t) (rank_at entries t))
 
--- the least, at each instant, of what is shown and of the entries, by the ranks of winners
-abbrev pub least_shown : (Winner → Rank) → Option Winner → List Entry → ℤ → Option Winner
-least_shown rank shown entries t = option_map winner_of_rank (lesser (option_map rank shown) (rank_at entries t))
+-- to lay the entries of one event over a timeline, and to take out those of another, compares at most so much
+abbrev pub most_exchanged : List ℕ → List Entry → List Entry → Held → ℕ
+most_exchanged writes entries windows held =
+    length held.shown.items + length (drop held.leaving windows)
+    + option_map_or (λ number. most_inside writes entries (take held.leaving windows)) held.gone 0
+
+-- the line shows what wins among some of the entries, and what is held of it is so ranked; those of both writes are these
+-- and those that come; and the new writes are both but for the one that goes, whose entries are among the windows
+pub record IsHeld (writes : List ℕ) (entries windows : List Entry) (line : List Segment) (held : Held) : Type 0 where
+  pub others : List ℕ
+  pub both : List ℕ
+  pub right : (t : ℤ) → shows line t ≡ winner_at (written_in others entries) t
+  pub in_turn : is_run held.shown.items ≡ true
+  pub run : is_run (drop held.leaving windows) ≡ true
+  pub shown : (t : ℤ) → any_covers (spans_of (drop held.leaving windows)) t ≡ true → rank_at held.shown.items t ≡ rank_at (written_in others entries) t
+  pub comes : (e : Entry) → In e (written_in both entries) ↔ (In e (written_in others entries) ⊎ In e (drop held.leaving windows))
+  pub goes : (n : ℕ) → has_number writes n ≡ changed_number held.gone None both n
+  pub own : (e : Entry) → In e entries → is_number held.gone e.rank.written ≡ true → In e (take held.leaving windows)
+
+-- where what is held is right, the line is repaired inside the windows
+abbrev pub IsExchanged : List ℕ → List Entry → List Entry → Held → List Segment → List Segment → Type 0
+IsExchanged writes entries windows held before after = IsHeld writes entries windows before held → IsRepaired writes entries windows (shows before) after
 
 -- under each type the indexed entries of that number are just those of the groups
 abbrev pub AreOwnOf : Indexes → ℕ → List TypeEntries → Type 0

@@ -1,10 +1,15 @@
 -- How much the repair of timelines compares.
-use Rattle.std.specs.Prelude.{ℕ, ◌+◌, ◌*◌, List, [], ◌∷◌, length, Option}
+use Rattle.std.specs.Prelude.{◌≡◌, ℕ, ℤ, ◌+◌, ◌*◌, List, [], ◌∷◌, length, Option, if◌then◌else◌}
 use Rattle.std.specs.Option.{option_copied, option_map_or}
 use Rattle.adr_model.specs.declared.entry.Entry.{Entry}
+use Rattle.adr_model.specs.declared.timeline.Segment.{Segment}
+use Rattle.adr_model.specs.declared.timeline.Winner.{Winner}
+use Rattle.adr_model.specs.Governor.{winner_at}
+use Rattle.adr_model.specs.Timeline.{shows}
 use Rattle.adr_index.specs.Index.{Indexed}
 use Rattle.adr_timeline.specs.Build.{most_compared}
 use Rattle.adr_lines.specs.declared.grouped.TypeEntries.{TypeEntries}
+use Rattle.adr_lines.specs.Grouped.{any_covers_at}
 use Rattle.adr_lines.specs.Right.{written_in}
 use Rattle.adr_lines.specs.declared.indexes.Indexes.{Indexes}
 use Rattle.adr_lines.specs.Indexes.{under}
@@ -33,3 +38,7 @@ abbrev pub most_possible : List TypeEntries → Indexes → ℕ
 most_possible [] indexes = 0
 most_possible (g ∷ windows) indexes =
     (let n = length (under indexes g.payload_type) in length g.entries.items * (n * (2 * n + 1))) + most_possible windows indexes
+
+-- inside the windows the line shows what wins among the entries of the writes, and elsewhere what was shown
+abbrev pub IsRepaired : List ℕ → List Entry → List Entry → (ℤ → Option Winner) → List Segment → Type 0
+IsRepaired writes entries windows before after = (t : ℤ) → shows after t ≡ (if any_covers_at windows t then winner_at (written_in writes entries) t else before t)

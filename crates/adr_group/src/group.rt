@@ -1,5 +1,5 @@
 //! The timelines of resources to which the same events apply.
-ghost use Rattle.std.specs.Prelude.{◌≡◌, ◌≢◌, ◌+◌, ◌*◌, ◌++◌, ◌∷◌, ◌<◌, ◌≤◌, ◌^◌, ℕ, ℤ, true, false, List, [], None, Some, Ok, length, option_map, slice_get, IfOk, IfSome, if◌then◌else◌};
+ghost use Rattle.std.specs.Prelude.{◌≡◌, ◌≢◌, ◌+◌, ◌++◌, ◌<◌, ◌≤◌, ◌^◌, ℤ, List, [], None, drop, length, option_map, slice_get, IfOk, IfSome, if◌then◌else◌};
 ghost use Rattle.std.specs.List.{AllZip};
 ghost use Rattle.std.specs.Option.{option_copied, option_map_or};
 ghost use Rattle.adr_refusal.specs.Answer.{OnlyNoMemory};
@@ -11,21 +11,18 @@ ghost use Rattle.adr_model.specs.declared.entry.Tie.{Tie};
 ghost use Rattle.adr_model.specs.declared.written.Written.{Written};
 ghost use Rattle.adr_model.specs.Governor.{winner_at};
 ghost use Rattle.adr_model.specs.Timeline.{shows, IsCanonical};
-ghost use Rattle.adr_lines.specs.Grouped.{any_covers_at, entries_under};
-ghost use Rattle.adr_lines.specs.Counted.{entries_in_groups};
-ghost use Rattle.adr_lines.specs.Right.{has_number, written_in};
+ghost use Rattle.adr_lines.specs.Grouped.{any_covers_at, entries_under, HaveOwnTypes};
+ghost use Rattle.adr_lines.specs.Right.{written_in};
 ghost use Rattle.adr_lines.specs.declared.indexes.Indexes.{Indexes as AllIndexes};
 ghost use Rattle.adr_lines.specs.Exchange.{IsIndexOf};
 ghost use Rattle.adr_lines.specs.Indexes.{under};
 ghost use Rattle.adr_group.specs.Group.{shown_in, AgreeOutside, AllShow, AreWindowsOf, IsRightOf};
-ghost use Rattle.adr_group.specs.Jobs.{jobs_for, IsDone};
-ghost use Rattle.adr_group.specs.Laid.{are_runs, AreOwnOf, IsComing};
+ghost use Rattle.adr_group.specs.Laid.{IsMet};
+ghost use Rattle.adr_group.specs.Jobs.{tasks_for, IsTaskDone};
 ghost use Rattle.adr_group.specs.Repair.{most_repaired};
-ghost use Rattle.adr_group.specs.Writes.{changed_number};
 
-use crate::job::Done;
-use crate::laid::{all_laid, all_met};
-use crate::leaving::all_without;
+use crate::exchange::held_of;
+use crate::job::{Done, Job};
 use crate::repair::{repaired, together};
 use crate::timelines::Timelines;
 use crate::writes::Writes;
@@ -166,14 +163,90 @@ impl Group {
         Ok(Group { writes, lines })
     }
 
-    /// The group of those writes, put together of this one and of what was built inside the windows: if each was built
-    /// of the events that are indexed, then the new one is right of them as `Group::repaired` makes it. It compares
-    /// nothing. Cost: for each type one splice where its windows stand in order and apart, else one for each window.
+    /// The timeline of the payload type; an empty one where nothing of the type governs at any instant.
+    fn line_of(&self, alloc: Global, payload_type: &PayloadType) -> Result<Timeline, Refusal>
+        ensures shows { IfOk result (λ line. (t : ℤ) → shows line t ≡ shown_in self.now.lines payload_type.now t) }
+        ensures memory { OnlyNoMemory result }
+    {
+        match self.lines.timeline(payload_type) {
+            Some(line) => line.copy(),
+            None => Ok(Timeline::new(alloc)),
+        }
+    }
+
+    /// The job that makes the timeline of the windows' type for a group of those writes: what they show is built inside
+    /// the windows. It shares what it is made of. Cost: a copy of the table of the timeline's chunks.
     ///
     /// # Errors
     ///
     /// `NoMemory` where there is no room.
-    pub fn with_built(
+    pub fn job(
+        &self,
+        alloc: Global,
+        writes: &Shared<Writes>,
+        windows: &Shared<TypeEntries>,
+    ) -> Result<Job, Refusal>
+        ensures writes { IfOk result (λ job. job.writes ≡ writes.now) }
+        ensures windows { IfOk result (λ job. job.windows ≡ windows.now) }
+        ensures line { IfOk result (λ job. (t : ℤ) → shows job.line t ≡ shown_in self.now.lines windows.now.payload_type t) }
+        ensures held { IfOk result (λ job. job.held ≡ None) }
+        ensures memory { OnlyNoMemory result }
+    {
+        let line = self.line_of(alloc, &windows.get().payload_type)?;
+        Ok(Job {
+            writes: writes.copy()?,
+            windows: windows.copy()?,
+            line,
+            held: None,
+        })
+    }
+
+    /// The same where one event goes and another comes: so many of the windows, the first ones, are entries of the event
+    /// that goes, which has that number, and the others are those of the one that comes. These are laid over the timeline,
+    /// and compete with what it shows by the ranks of its winners; then what the writes show is built in those windows in
+    /// which the event that goes governs. Where the entries that come don't come in turn, or meet more than twice as many
+    /// segments as they are, what the writes show is built in all windows.
+    ///
+    /// Cost: that of `Group::job`, that of `Timeline::met`, and a rank for each segment that is met.
+    ///
+    /// # Errors
+    ///
+    /// `NoMemory` where there is no room.
+    pub fn exchange_job<R: Ranks>(
+        &self,
+        alloc: Global,
+        writes: &Shared<Writes>,
+        windows: &Shared<TypeEntries>,
+        leaving: usize,
+        gone: Option<u64>,
+        ranks: &R,
+    ) -> Result<Job, Refusal>
+        ensures writes { IfOk result (λ job. job.writes ≡ writes.now) }
+        ensures windows { IfOk result (λ job. job.windows ≡ windows.now) }
+        ensures line { IfOk result (λ job. (t : ℤ) → shows job.line t ≡ shown_in self.now.lines windows.now.payload_type t) }
+        ensures leaving { IfOk result (λ job. IfSome job.held (λ h. h.leaving ≡ leaving)) }
+        ensures gone { IfOk result (λ job. IfSome job.held (λ h. h.gone ≡ gone)) }
+        ensures met { IfOk result (λ job. IfSome job.held (λ h. IsMet (R.rank ranks.now) job.line (drop leaving windows.now.entries.items) h.shown.items)) }
+        ensures memory { OnlyNoMemory result }
+    {
+        let line = self.line_of(alloc, &windows.get().payload_type)?;
+        let held = held_of(&line, windows.get(), leaving, gone, ranks)?;
+        Ok(Job {
+            writes: writes.copy()?,
+            windows: windows.copy()?,
+            line,
+            held,
+        })
+    }
+
+    /// The group of those writes, put together of this one and of what was done for the types of the windows: if each
+    /// timeline is that which the type's job makes of this group's, then the new group is right as `Group::repaired` makes
+    /// it. It compares nothing. Cost: for each type one path of a tree.
+    ///
+    /// # Errors
+    ///
+    /// `NoMemory` where there is no room.
+    pub fn with_done(
         &self,
         alloc: Global,
         writes: &Shared<Writes>,
@@ -181,83 +254,10 @@ impl Group {
         done: &[Done],
     ) -> Result<Group, Refusal>
         ensures writes { IfOk result (λ group. group.writes ≡ writes.now) }
-        ensures right { IfOk result (λ group. (indexes : AllIndexes) → AllZip (IsDone indexes) (jobs_for writes.now windows.now) done.now → (tie : Tie) (events : List Written) → IsIndexOf tie events indexes → AreWindowsOf events self.now.writes writes.now (entries_under windows.now) → IsRightOf tie events self.now → IsRightOf tie events group) }
+        ensures right { IfOk result (λ group. (indexes : AllIndexes) → HaveOwnTypes windows.now → AllZip (IsTaskDone indexes) (tasks_for self.now writes.now windows.now) done.now → (tie : Tie) (events : List Written) → IsIndexOf tie events indexes → AreWindowsOf events self.now.writes writes.now (entries_under windows.now) → IsRightOf tie events self.now → IsRightOf tie events group) }
         ensures memory { OnlyNoMemory result }
     {
         let lines = together(alloc, &self.lines, windows, done)?;
-        let writes = writes.copy()?;
-        Ok(Group { writes, lines })
-    }
-
-    /// The group of those writes, which an event joins: its entries are laid over the timelines, and compete with what
-    /// is shown by the ranks of its winners. If this group is right of the events that are indexed, then the new one
-    /// is. None where under some type the entries don't come in turn, or meet more than twice as many segments as they
-    /// are: then nothing was compared.
-    ///
-    /// Cost: for each type a search of its timeline for each entry, a rank for each segment that is met, and one splice.
-    ///
-    /// # Errors
-    ///
-    /// `NoMemory` where there is no room.
-    pub fn laid<R: Ranks>(
-        &self,
-        alloc: Global,
-        writes: &Shared<Writes>,
-        entries: &[TypeEntries],
-        ranks: &R,
-        meter: &mut Meter,
-    ) -> Result<Option<Group>, Refusal>
-        requires room { are_runs entries.now ≡ true → meter.old + 3 * entries_in_groups entries.now < 2 ^ 128 }
-        ensures writes { IfOk result (λ made. IfSome made (λ group. group.writes ≡ writes.now)) }
-        ensures right { IfOk result (λ made. IfSome made (λ group. (indexes : AllIndexes) (number : ℕ) → IsComing indexes (R.rank ranks.now) number entries.now → has_number self.now.writes number ≡ false → ((n : ℕ) → has_number writes.now n ≡ changed_number None (Some number) self.now.writes n) → (tie : Tie) (events : List Written) → IsIndexOf tie events indexes → IsRightOf tie events self.now → IsRightOf tie events group)) }
-        ensures joined { IfOk result (λ made. IfSome made (λ group. (indexes : AllIndexes) (number : ℕ) → IsComing indexes (R.rank ranks.now) number entries.now → has_number self.now.writes number ≡ false → (tie : Tie) (events : List Written) → IsIndexOf tie events indexes → IsRightOf tie events self.now → IsRightOf tie events (record { writes = number ∷ self.now.writes; lines = group.lines }))) }
-        ensures runs { IfOk result (λ made. IfSome made (λ group. are_runs entries.now ≡ true)) }
-        ensures compared { meter.new ≤ meter.old + 3 * entries_in_groups entries.now }
-        ensures none { result ≡ Ok None → meter.new ≡ meter.old }
-        ensures memory { OnlyNoMemory result }
-    {
-        let Some(met) = all_met(alloc, &self.lines, entries)? else {
-            return Ok(None);
-        };
-        let lines = all_laid(alloc, &self.lines, entries, &met, ranks, meter)?;
-        let writes = writes.copy()?;
-        Ok(Some(Group { writes, lines }))
-    }
-
-    /// The group of those writes, which the event of that number leaves: what wins among the writes is built in those of
-    /// its windows in which it governs. If the timelines of this group are right of the writes and that event, then the new
-    /// ones are right of the writes alone: elsewhere what governs does so without it too.
-    ///
-    /// Cost: for each type of the event that of `Timeline::met`, and that of `Group::repaired` in the windows in which
-    /// it governs.
-    ///
-    /// # Errors
-    ///
-    /// `NoMemory` where there is no room.
-    pub fn without(
-        &self,
-        alloc: Global,
-        indexes: &Indexes,
-        writes: &Shared<Writes>,
-        number: u64,
-        windows: &[TypeEntries],
-        meter: &mut Meter,
-    ) -> Result<Group, Refusal>
-        requires room { meter.old + most_repaired windows.now writes.now indexes.now < 2 ^ 128 }
-        ensures writes { IfOk result (λ group. group.writes ≡ writes.now) }
-        ensures right { IfOk result (λ group. (others : List ℕ) → AreOwnOf indexes.now number windows.now → ((n : ℕ) → has_number writes.now n ≡ changed_number (Some number) None others n) → (tie : Tie) (events : List Written) → IsIndexOf tie events indexes.now → IsRightOf tie events (record { writes = others; lines = self.now.lines }) → IsRightOf tie events group) }
-        ensures compared { meter.new ≤ meter.old + most_repaired windows.now writes.now indexes.now }
-        ensures memory { OnlyNoMemory result }
-    {
-        let lines = all_without(
-            alloc,
-            &self.lines,
-            indexes,
-            windows,
-            number,
-            writes.get(),
-            meter,
-        )?;
         let writes = writes.copy()?;
         Ok(Group { writes, lines })
     }

@@ -1,66 +1,110 @@
 //! The work of a repair, in jobs that may be done apart.
-ghost use Rattle.std.specs.Prelude.{◌≡◌, ◌<◌, ◌≤◌, ◌^◌, ◌++◌, ◌∷◌, [], position, sum_by, IfOk, OnOk};
+ghost use Rattle.std.specs.Prelude.{◌≡◌, ◌+◌, ◌<◌, ◌≤◌, ◌^◌, ◌++◌, ◌∷◌, [], position, sum_by, IfOk, OnOk};
 ghost use Rattle.adr_refusal.specs.Answer.{OnlyNoMemory};
-ghost use Rattle.adr_refusal.specs.Copy.{IsCopyOf};
+ghost use Rattle.adr_lines.specs.Grouped.{HaveOwnTypes};
 ghost use Rattle.adr_value.specs.Same.{same_type};
-ghost use Rattle.adr_group.specs.Jobs.{most_done, AreAlike, AreDone, IsDone};
+ghost use Rattle.adr_group.specs.Jobs.{most_done, AreAlike, AreDone, IsAfter, IsDone};
 
+use crate::exchange::exchanged_line;
 use crate::gate::Gate;
-use crate::line::built;
+use crate::repair::line_repaired;
 use crate::writes::Writes;
 use adr_lines::{Indexes, TypeEntries};
+use adr_model::Entry;
 use adr_rule::Meter;
 use adr_shared::Shared;
 use adr_timeline::Timeline;
 use adr_value::{PayloadType, Refusal};
 use std::alloc::Global;
 
-/// One group's line of one payload type with its windows: what the writes show inside them is to be built.
+/// What a job needs that lays an event over a timeline, or takes one out where it governs: what the timeline shows where
+/// the entries of the event that comes lie, as entries by rank; how many of the job's windows are entries of the event
+/// that goes, the others being those of the one that comes; and the number of the event that goes.
+pub struct Held {
+    /// What the timeline shows where the entries that come lie, in turn, by the ranks of its winners.
+    pub shown: Vec<Entry>,
+    /// How many of the job's windows, the first ones, are entries of the event that goes.
+    pub leaving: usize,
+    /// The number of the write of the event that goes; None where none does.
+    pub gone: Option<u64>,
+}
+
+// A function of its own, so that callers that let a value go need not look into it.
+impl Drop for Held {
+    fn drop(self) {
+        let Held {
+            shown,
+            leaving: _,
+            gone: _,
+        } = self;
+        drop(shown);
+    }
+}
+
+/// One payload type of a group: its timeline, the windows in which it changes, and the writes of the group after that.
+/// Where something is held, an event is laid over the timeline, or another goes, or both; else what the writes show is
+/// built inside the windows.
 pub struct Job {
-    /// The writes of the group: what governs among them is built.
+    /// The writes of the group after the job.
     pub writes: Shared<Writes>,
-    /// The payload type of the line, and the windows in which it is built.
+    /// The payload type of the line, and the windows in which it changes.
     pub windows: Shared<TypeEntries>,
+    /// The group's timeline of that type before the job; an empty one where it has none.
+    pub line: Timeline,
+    /// What is known of an event that is laid or goes; None where what the writes show is built in all windows.
+    pub held: Option<Held>,
 }
 
 // A function of its own, so that callers that let a value go need not look into it.
 impl Drop for Job {
     fn drop(self) {
-        let Job { writes, windows } = self;
+        let Job {
+            writes,
+            windows,
+            line,
+            held,
+        } = self;
         drop(writes);
         drop(windows);
+        drop(line);
+        drop(held);
     }
 }
 
-/// What a job built, and how often it compared.
+/// The timeline of the job's type after it, and how often the job compared.
 pub struct Done {
-    /// What governs inside the windows, and nothing outside of them.
-    pub inner: Timeline,
-    /// How many times two ranks were compared.
+    pub line: Timeline,
     pub compared: u128,
 }
 
 // A function of its own, so that callers that let a value go need not look into it.
 impl Drop for Done {
     fn drop(self) {
-        let Done { inner, compared: _ } = self;
-        drop(inner);
+        let Done { line, compared: _ } = self;
+        drop(line);
     }
 }
 
-impl Job {
-    /// The job of those writes and windows, which it shares.
-    ///
-    /// # Errors
-    ///
-    /// `NoMemory` only where a count of owners is full.
-    pub fn new(writes: &Shared<Writes>, windows: &Shared<TypeEntries>) -> Result<Job, Refusal>
-        ensures { IsCopyOf result (record { writes = writes.now; windows = windows.now }) }
-    {
-        Ok(Job {
-            writes: writes.copy()?,
-            windows: windows.copy()?,
-        })
+/// The timeline of the job's type after it.
+fn line_after(
+    alloc: Global,
+    indexes: &Indexes,
+    job: &Job,
+    meter: &mut Meter,
+) -> Result<Timeline, Refusal>
+    requires room { meter.old + most_done indexes.now job.now < 2 ^ 128 }
+    ensures after { IfOk result (IsAfter indexes.now job.now) }
+    ensures compared { meter.new ≤ meter.old + most_done indexes.now job.now }
+    ensures refusal { OnlyNoMemory result }
+{
+    let windows = job.windows.get();
+    let writes = job.writes.get();
+    match &job.held {
+        Some(held) => exchanged_line(alloc, indexes, &job.line, windows, held, writes, meter),
+        None => {
+            let entries = windows.entries.as_slice();
+            line_repaired(alloc, &job.line, indexes, &windows.payload_type, entries, writes, meter)
+        }
     }
 }
 
@@ -71,29 +115,22 @@ fn do_job(alloc: Global, indexes: &Indexes, job: &Job) -> Result<Done, Refusal>
     ensures compared { IfOk result (λ done. done.compared ≤ most_done indexes.now job.now) }
     ensures refusal { OnlyNoMemory result }
 {
-    let windows = job.windows.get();
-    let entries = windows.entries.as_slice();
     let mut meter = Meter::new();
-    let inner = built(
-        alloc,
-        indexes,
-        &windows.payload_type,
-        entries,
-        job.writes.get(),
-        &mut meter,
-    )?;
+    let line = line_after(alloc, indexes, job, &mut meter)?;
     Ok(Done {
-        inner,
+        line,
         compared: meter.count(),
     })
 }
 
-/// Does the jobs of one worker, one after the other: it passes the gate before each. Cost: for each window a search of
-/// the index and a timeline of the entries that meet it.
+/// Does the jobs of one worker, one after the other: it passes the gate before each. Cost: for each job that builds and
+/// each of its windows a search of the index and a timeline of the entries that meet it, and one splice; for each that
+/// lays some steps for each entry that comes and each segment that it meets, and one splice; and where an event goes that
+/// of the windows in which it governs.
 ///
 /// # Errors
 ///
-/// `NoMemory` where there is no room for what they build.
+/// `NoMemory` where there is no room for what they make.
 pub fn do_jobs<G: Gate>(
     alloc: Global,
     indexes: &Indexes,
@@ -126,6 +163,8 @@ fn place_of(types: &[TypeEntries], payload_type: &PayloadType) -> Option<usize>
 
 /// Adds the windows of a type, behind those of the same type where there are such.
 fn gather(alloc: Global, types: &mut Vec<TypeEntries>, group: &TypeEntries) -> Result<(), Refusal>
+    requires own { HaveOwnTypes types.old.items }
+    ensures own { OnOk result (HaveOwnTypes types.new.items) }
     ensures alike { OnOk result (AreAlike types.new.items (types.old.items ++ group.now ∷ [])) }
     ensures refusal { OnlyNoMemory result }
 {
@@ -148,6 +187,8 @@ fn gather_all(
     types: &mut Vec<TypeEntries>,
     windows: &[TypeEntries],
 ) -> Result<(), Refusal>
+    requires own { HaveOwnTypes types.old.items }
+    ensures own { OnOk result (HaveOwnTypes types.new.items) }
     ensures alike { OnOk result (AreAlike types.new.items (types.old.items ++ windows.now)) }
     ensures refusal { OnlyNoMemory result }
 {
@@ -171,8 +212,8 @@ fn share_each(alloc: Global, types: Vec<TypeEntries>) -> Result<Vec<Shared<TypeE
     Ok(shared)
 }
 
-/// The windows of both lists by type, each type once, to be shared by jobs. Cost: a copy of the windows, and for each
-/// type a look at those before it.
+/// The windows of both lists by type, each type once, to be shared by jobs: of each type those of the first list and then
+/// those of the second. Cost: a copy of the windows, and for each type a look at those before it.
 ///
 /// # Errors
 ///
@@ -182,6 +223,7 @@ pub fn shared_windows(
     windows: &[TypeEntries],
     more: &[TypeEntries],
 ) -> Result<Vec<Shared<TypeEntries>>, Refusal>
+    ensures own { IfOk result (λ shared. HaveOwnTypes shared.items) }
     ensures alike { IfOk result (λ shared. AreAlike shared.items (windows.now ++ more.now)) }
     ensures refusal { OnlyNoMemory result }
 {

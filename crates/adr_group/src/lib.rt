@@ -2,13 +2,12 @@
 //! The timelines of resources to which the same events apply, their repair where events differ, and workers that do the jobs
 //! of a repair at once, and the gates that they pass.
 
+mod exchange;
 mod gate;
 mod governed;
 mod group;
 mod job;
-mod laid;
 mod laws;
-mod leaving;
 mod line;
 mod repair;
 mod share;
@@ -19,7 +18,7 @@ mod writes;
 
 pub use gate::{Gate, NoGate};
 pub use group::Group;
-pub use job::{Done, Job, do_jobs, shared_windows};
+pub use job::{Done, Held, Job, do_jobs, shared_windows};
 pub use laws::{repairs_compare_little, repairs_have_room, right_moves};
 pub use share::do_all;
 pub use writes::Writes;

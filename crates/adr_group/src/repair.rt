@@ -1,5 +1,5 @@
 //! The repair of timelines, type by type.
-ghost use Rattle.std.specs.Prelude.{◌≡◌, ◌+◌, ◌<◌, ◌≤◌, ◌^◌, ℕ, ℤ, List, Option, IfOk, if◌then◌else◌};
+ghost use Rattle.std.specs.Prelude.{◌≡◌, ◌+◌, ◌<◌, ◌≤◌, ◌^◌, ℤ, Option, IfOk, if◌then◌else◌};
 ghost use Rattle.std.specs.List.{AllZip};
 ghost use Rattle.adr_refusal.specs.Answer.{OnlyNoMemory};
 ghost use Rattle.adr_value.specs.declared.payload.PayloadType.{PayloadType as AnyType};
@@ -8,22 +8,44 @@ ghost use Rattle.adr_model.specs.Timeline.{shows};
 ghost use Rattle.adr_model.specs.declared.timeline.Winner.{Winner};
 ghost use Rattle.adr_lines.specs.Grouped.{any_covers_at, entries_under};
 ghost use Rattle.adr_lines.specs.Right.{written_in};
-ghost use Rattle.adr_lines.specs.declared.indexes.Indexes.{Indexes as AllIndexes};
-ghost use Rattle.adr_lines.specs.Indexes.{own_entries, under};
+ghost use Rattle.adr_lines.specs.Indexes.{has_type, own_entries, under};
 ghost use Rattle.adr_group.specs.Group.{shown_in};
-ghost use Rattle.adr_group.specs.Jobs.{jobs_for, IsDone, IsInside};
-ghost use Rattle.adr_group.specs.Repair.{most_inside, most_repaired};
+ghost use Rattle.adr_group.specs.Jobs.{IsOfType, ShowsOf};
+ghost use Rattle.adr_group.specs.Repair.{most_inside, most_repaired, IsRepaired};
 
 use crate::job::Done;
 use crate::line::{built, spliced};
 use crate::timelines::Timelines;
 use crate::writes::Writes;
 use adr_lines::{Indexes, TypeEntries};
+use adr_model::Entry;
 use adr_rule::Meter;
 use adr_shared::Shared;
 use adr_timeline::Timeline;
-use adr_value::Refusal;
+use adr_value::{PayloadType, Refusal};
 use std::alloc::Global;
+
+/// The timeline of the type with what the writes show inside the windows.
+pub(crate) fn line_repaired(
+    alloc: Global,
+    line: &Timeline,
+    indexes: &Indexes,
+    payload_type: &PayloadType,
+    windows: &[Entry],
+    writes: &Writes,
+    meter: &mut Meter,
+) -> Result<Timeline, Refusal>
+    requires room { meter.old + most_inside writes.now (under indexes.now payload_type.now) windows.now < 2 ^ 128 }
+    ensures shows { IfOk result (IsRepaired writes.now (under indexes.now payload_type.now) windows.now (shows line.now)) }
+    ensures compared { meter.new ≤ meter.old + most_inside writes.now (under indexes.now payload_type.now) windows.now }
+    ensures memory { OnlyNoMemory result }
+{
+    let inner = built(alloc, indexes, payload_type, windows, writes, meter)?;
+    if line.segments().is_empty() {
+        return Ok(inner);
+    }
+    spliced(alloc, line, windows, &inner)
+}
 
 /// The timeline of the windows' type with what the writes show inside them.
 fn repaired_line(
@@ -35,22 +57,15 @@ fn repaired_line(
     meter: &mut Meter,
 ) -> Result<Timeline, Refusal>
     requires room { meter.old + most_inside writes.now (under indexes.now windows.now.payload_type) windows.now.entries.items < 2 ^ 128 }
-    ensures shows { IfOk result (λ line. (t : ℤ) → shows line t ≡ (if any_covers_at windows.now.entries.items t then winner_at (written_in writes.now (under indexes.now windows.now.payload_type)) t else shown_in lines.now windows.now.payload_type t)) }
+    ensures shows { IfOk result (IsRepaired writes.now (under indexes.now windows.now.payload_type) windows.now.entries.items (shown_in lines.now windows.now.payload_type)) }
     ensures compared { meter.new ≤ meter.old + most_inside writes.now (under indexes.now windows.now.payload_type) windows.now.entries.items }
     ensures memory { OnlyNoMemory result }
 {
     let entries = windows.entries.as_slice();
-    let inner = built(
-        alloc,
-        indexes,
-        &windows.payload_type,
-        entries,
-        writes,
-        meter,
-    )?;
-    match lines.timeline(&windows.payload_type) {
-        Some(line) => spliced(alloc, line, entries, &inner),
-        None => Ok(inner),
+    let kind = &windows.payload_type;
+    match lines.timeline(kind) {
+        Some(line) => line_repaired(alloc, line, indexes, kind, entries, writes, meter),
+        None => built(alloc, indexes, kind, entries, writes, meter),
     }
 }
 
@@ -96,56 +111,26 @@ pub(crate) fn repaired(
     Ok(lines)
 }
 
-/// The timeline of the windows' type with what was built inside them.
-fn line_with(
-    alloc: Global,
-    lines: &Timelines,
-    windows: &TypeEntries,
-    inner: &Timeline,
-) -> Result<Timeline, Refusal>
-    ensures shows { IfOk result (λ line. (wins : ℤ → Option Winner) → IsInside wins windows.now.entries.items inner.now → (t : ℤ) → shows line t ≡ (if any_covers_at windows.now.entries.items t then wins t else shown_in lines.now windows.now.payload_type t)) }
-    ensures memory { OnlyNoMemory result }
-{
-    match lines.timeline(&windows.payload_type) {
-        Some(line) => spliced(alloc, line, windows.entries.as_slice(), inner),
-        None => inner.copy(),
-    }
-}
-
-/// The timelines with what was built inside the windows of one type.
-fn type_with(
-    alloc: Global,
-    lines: &Timelines,
-    windows: &TypeEntries,
-    inner: &Timeline,
-) -> Result<Timelines, Refusal>
-    ensures shown { IfOk result (λ timelines. (indexes : AllIndexes) (writes : List ℕ) → IsInside (λ t. winner_at (written_in writes (under indexes windows.now.payload_type)) t) windows.now.entries.items inner.now → (k : AnyType) (t : ℤ) → shown_in timelines k t ≡ (if any_covers_at (own_entries windows.now k) t then winner_at (written_in writes (under indexes k)) t else shown_in lines.now k t)) }
-    ensures memory { OnlyNoMemory result }
-{
-    let line = line_with(alloc, lines, windows, inner)?;
-    let timelines = lines.with(alloc, &windows.payload_type, line)?;
-    Ok(timelines)
-}
-
-/// The timelines with what was built inside the windows, type by type; those of other types are shared.
+/// The timelines with the new ones of some types; those of other types are shared.
 pub(crate) fn together(
     alloc: Global,
     old: &Timelines,
     windows: &[Shared<TypeEntries>],
     done: &[Done],
 ) -> Result<Timelines, Refusal>
-    ensures shown { IfOk result (λ timelines. (indexes : AllIndexes) (writes : List ℕ) → AllZip (IsDone indexes) (jobs_for writes windows.now) done.now → (k : AnyType) (t : ℤ) → shown_in timelines k t ≡ (if any_covers_at (entries_under windows.now k) t then winner_at (written_in writes (under indexes k)) t else shown_in old.now k t)) }
+    ensures shown { IfOk result (λ timelines. (shown : AnyType → ℤ → Option Winner) → IsOfType shown → AllZip (ShowsOf shown) windows.now done.now → (k : AnyType) (t : ℤ) → shown_in timelines k t ≡ (if has_type windows.now k then shown k t else shown_in old.now k t)) }
     ensures memory { OnlyNoMemory result }
 {
     let mut lines = old.copy()?;
-    let mut built = done;
+    let mut made = done;
     let mut rest = windows;
     'rest: while let Some((group, more)) = rest.split_first() {
-        let Some((first, others)) = built.split_first() else {
+        let Some((first, others)) = made.split_first() else {
             return Ok(lines);
         };
-        lines = type_with(alloc, &lines, group.get(), &first.inner)?;
-        built = others;
+        let line = first.line.copy()?;
+        lines = lines.with(alloc, &group.get().payload_type, line)?;
+        made = others;
         rest = more;
     }
     Ok(lines)
