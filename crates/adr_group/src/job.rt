@@ -73,7 +73,9 @@ impl Drop for Job {
 
 /// The timeline of the job's type after it, and how often the job compared.
 pub struct Done {
+    /// The timeline after the job.
     pub line: Timeline,
+    /// How often the job compared two ranks.
     pub compared: u128,
 }
 
