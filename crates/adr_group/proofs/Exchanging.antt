@@ -1,10 +1,9 @@
 -- Why a line is right after events were exchanged in it.
-use Rattle.std.proofs.Common.{◌≡◌, ◌⊎◌, inl, inr, ℕ, ℤ, ◌||◌, Bool, true, false, if◌then◌else◌, List, [], ◌++◌, drop, take, length, Option, Some, None, refl, ap, sym, subst, ◌∙◌}
+use Rattle.std.proofs.Common.{◌≡◌, ◌⊎◌, inl, inr, ℕ, ℤ, ◌||◌, Bool, true, false, if◌then◌else◌, List, drop, take, Option, Some, None, refl, ap, sym, subst, ◌∙◌}
 use Rattle.std.proofs.lemmas.Bool.{both_ways, false≢true}
 use Rattle.adr_time.specs.Spans.{covers}
 use Rattle.adr_model.specs.declared.entry.Entry.{Entry}
 use Rattle.adr_model.specs.declared.timeline.Segment.{Segment}
-use Rattle.adr_model.specs.declared.timeline.Winner.{Winner}
 use Rattle.adr_model.specs.Governor.{winner_at}
 use Rattle.adr_model.specs.Lists.{In}
 use Rattle.adr_model.specs.Timeline.{shows}
@@ -15,7 +14,7 @@ use Rattle.adr_lines.specs.Grouped.{any_covers_at}
 use Rattle.adr_lines.specs.Right.{has_number, written_in}
 use Rattle.adr_group.specs.declared.job.Held.{Held}
 use Rattle.adr_group.specs.Governed.{is_of, IsWithout}
-use Rattle.adr_group.specs.Laid.{least_over, IsExchanged, IsHeld}
+use Rattle.adr_group.specs.Laid.{least_over, IsHeld}
 use Rattle.adr_group.specs.Repair.{IsRepaired}
 use Rattle.adr_group.specs.Writes.{changed_number, is_number}
 use Rattle.adr_group.proofs.Joining.{laid_wins, others_win, some_covers}

@@ -1,6 +1,5 @@
 -- Where timelines show an event, and which of its windows hold that.
-use Rattle.std.proofs.Common.{◌≡◌, ◌⊎◌, inl, inr, ℕ, ◌+◌, ◌≤◌, ℤ, ◌≤ℤ◌, ◌<ℤ◌, int_le, int_lt, ◌==◌, Bool, true, false, not, cond, if◌then◌else◌, ◌&&◌, ◌||◌, List, [], ◌∷◌, ◌++◌, length, map, filter, slice_get, Option, Some, None, refl, ap, sym, subst, ◌∙◌, arith, append-nil}
-use Rattle.std.specs.Option.{option_map_or}
+use Rattle.std.proofs.Common.{◌≡◌, ◌⊎◌, inl, inr, ℕ, ◌+◌, ◌≤◌, ℤ, ◌≤ℤ◌, ◌<ℤ◌, int_le, ◌==◌, Bool, true, false, not, cond, if◌then◌else◌, ◌&&◌, ◌||◌, List, [], ◌∷◌, ◌++◌, map, filter, slice_get, Some, None, refl, ap, sym, subst, ◌∙◌, arith, append-nil}
 use Rattle.std.proofs.lemmas.Int.{ints}
 use Rattle.std.proofs.lemmas.Bool.{and_parts, both_ways, false≢true}
 use Rattle.adr_time.specs.Spans.{covers, is_before}
@@ -9,12 +8,11 @@ use Rattle.adr_time.specs.declared.span.End.TheVariants.{At, Endless}
 use Rattle.adr_time.specs.declared.span.Span.{Span}
 use Rattle.adr_model.specs.declared.entry.Entry.{Entry}
 use Rattle.adr_model.specs.declared.timeline.Segment.{Segment}
-use Rattle.adr_model.specs.declared.timeline.Winner.{Winner}
 use Rattle.adr_model.specs.Timeline.{shows, span_of, IsCanonical}
 use Rattle.adr_timeline.specs.Build.{most_compared}
 use Rattle.adr_timeline.specs.Chunks.{listed}
 use Rattle.adr_timeline.specs.Overlay.{spans_of}
-use Rattle.adr_timeline.specs.Steps.{is_run, starts_from}
+use Rattle.adr_timeline.specs.Steps.{is_run}
 use Rattle.adr_timeline.specs.Windows.{any_covers}
 use Rattle.adr_timeline.proofs.Runs.{run_parts}
 use Rattle.adr_timeline.proofs.Segments.{winner_in, EndsBy, IsApart, IsLinked}

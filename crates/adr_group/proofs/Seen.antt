@@ -1,11 +1,8 @@
 -- What is seen inside windows.
-use Rattle.std.proofs.Common.{◌≡◌, ℕ, ◌+◌, ◌≤◌, ℤ, int_le, int_lt, Bool, true, false, cond, if◌then◌else◌, ◌&&◌, ◌||◌, List, [], ◌∷◌, ◌++◌, length, take, drop, Option, None, refl, ap, sym, ◌∙◌, arith}
-use Rattle.std.proofs.lemmas.Int.{ints}
+use Rattle.std.proofs.Common.{◌≡◌, ℕ, ◌+◌, ◌≤◌, ℤ, Bool, true, false, cond, if◌then◌else◌, ◌&&◌, ◌||◌, List, [], ◌∷◌, ◌++◌, take, drop, Option, None, refl, ap, sym, ◌∙◌, arith}
 use Rattle.std.proofs.lemmas.List.{take-append-drop}
 use Rattle.std.proofs.lemmas.Bool.{and_parts}
 use Rattle.adr_time.specs.Spans.{covers, meets, is_before}
-use Rattle.adr_time.specs.declared.span.End.{End}
-use Rattle.adr_time.specs.declared.span.End.TheVariants.{At, Endless}
 use Rattle.adr_time.specs.declared.span.Span.{Span}
 use Rattle.adr_model.specs.declared.entry.Entry.{Entry}
 use Rattle.adr_model.specs.declared.timeline.Winner.{Winner}
@@ -121,84 +118,6 @@ module _ (windows left more : List Entry) (e : Entry) (spans new : List Span) (i
       or_rest true b c = refl
       or_rest false true c = refl
       or_rest false false c = refl
-
--- ---- spans that touch
-
--- the wide spans, the one that may grow, and those that are left cover what all cover
-pub record AreTogether (spans left : List Span) (current : Span) (wide : List Span) : Type 0 where
-  pub covers : (t : ℤ) → (any_covers wide t || (covers current t || any_covers left t)) ≡ any_covers spans t
-  pub wide_last : all_last wide ≡ true
-  pub current_lasts : is_before current.start current.end ≡ true
-  pub left_last : all_last left ≡ true
-
--- a span and the one that starts where it ends cover what one over both does
-module _ (a b : ℤ) where
-  lasts_longer : (e : End) → int_lt a b ≡ true → is_before b e ≡ true → is_before a e ≡ true
-  lasts_longer (At u) h k = grind (arith, ints)
-  lasts_longer Endless h k = refl
-
-  covers_both : (e : End) (t : ℤ) (m : Bool) → int_lt a b ≡ true → is_before b e ≡ true
-      → ((int_le a t && is_before t e) || m) ≡ ((int_le a t && int_lt t b) || ((int_le b t && is_before t e) || m))
-  covers_both (At u) t m h k = grind (arith, ints)
-  covers_both Endless t m h k = grind (arith, ints)
-
-grown_covers : (a : ℤ) (e : End) (s : Span) (t : ℤ) (m : Bool) → e ≡ At s.start → is_before a e ≡ true → is_before s.start s.end ≡ true
-    → (covers (record { start = a; end = s.end }) t || m) ≡ (covers (record { start = a; end = e }) t || (covers s t || m))
-grown_covers a e s t m here h k = rw here (covers_both a s.start s.end t m (rw here at h) k)
-
-grown_lasts : (a : ℤ) (e : End) (s : Span) → e ≡ At s.start → is_before a e ≡ true → is_before s.start s.end ≡ true → is_before a s.end ≡ true
-grown_lasts a e s here h k = lasts_longer a s.start s.end (rw here at h) k
-
-module _ (spans left more : List Span) (span current : Span) (wide : List Span) (is : left ≡ span ∷ more) (so_far : AreTogether spans left current wide) where
-  abbrev parts : (is_before span.start span.end ≡ true) × (all_last more ≡ true)
-  parts = and_parts (is_before span.start span.end) (all_last more) (rw is at so_far.left_last)
-
-  covered : (t : ℤ) → (any_covers wide t || (covers current t || (covers span t || any_covers more t))) ≡ any_covers spans t
-  covered t = ap (λ (ss : List Span). any_covers wide t || (covers current t || any_covers ss t)) (sym is) ∙ so_far.covers t
-
-  pub current_closed : (new : List Span) → new ≡ wide ++ current ∷ [] → AreTogether spans more span new
-  current_closed new made = record {
-    covers = λ t.
-        ap (λ (xs : List Span). any_covers xs t || (covers span t || any_covers more t)) made
-        ∙ (ap (λ b. b || (covers span t || any_covers more t)) (covers_append wide (current ∷ []) t)
-        ∙ (or_rest (any_covers wide t) (covers current t) (covers span t || any_covers more t) ∙ covered t));
-    wide_last = ap all_last made ∙ (last_append wide (current ∷ []) ∙ (rw (so_far.wide_last, so_far.current_lasts) refl));
-    current_lasts = parts.0;
-    left_last = parts.1;
-  }
-    where
-      or_rest : (a b c : Bool) → ((a || (b || false)) || c) ≡ (a || (b || c))
-      or_rest true b c = refl
-      or_rest false true c = refl
-      or_rest false false c = refl
-
-  -- one that starts where the last of them ends makes that one longer
-  pub current_grown : current.end ≡ At span.start → AreTogether spans more (record { start = current.start; end = span.end }) wide
-  current_grown here = record {
-    covers = λ t. ap (λ b. any_covers wide t || b) (grown_covers current.start current.end span t (any_covers more t) here so_far.current_lasts parts.0) ∙ covered t;
-    wide_last = so_far.wide_last;
-    current_lasts = grown_lasts current.start current.end span here so_far.current_lasts parts.0;
-    left_last = parts.1;
-  }
-
-pub begun_together : (spans others : List Span) (first : Span) (wide : List Span) → spans ≡ first ∷ others → wide ≡ [] → all_last spans ≡ true → AreTogether spans others first wide
-begun_together spans others first wide is none lasting =
-    let parts = and_parts (is_before first.start first.end) (all_last others) (rw is at lasting) in
-    record {
-      covers = λ t. rw (is, none) refl;
-      wide_last = rw none refl;
-      current_lasts = parts.0;
-      left_last = parts.1;
-    }
-
--- at the end the last of them is put behind the others
-pub together_done : (spans left : List Span) (current : Span) (wide new : List Span) → length left ≡ 0 → AreTogether spans left current wide → new ≡ wide ++ current ∷ []
-    → ((t : ℤ) → any_covers new t ≡ any_covers spans t) × (all_last new ≡ true)
-together_done spans (s ∷ left) current wide new none so_far made = absurd (cc)
-together_done spans [] current wide new none so_far made = (
-  λ t. ap (λ (xs : List Span). any_covers xs t) made ∙ (covers_append wide (current ∷ []) t ∙ so_far.covers t),
-  ap all_last made ∙ (last_append wide (current ∷ []) ∙ (rw (so_far.wide_last, so_far.current_lasts) refl)),
-)
 
 -- ---- run by run
 

@@ -1,5 +1,5 @@
 -- Jobs that do the tasks of a group, and the group that is put together of what they made.
-use Rattle.std.proofs.Common.{◌≡◌, ◌⊎◌, inl, inr, ℕ, ℤ, ◌+◌, ◌≤◌, ◌||◌, Bool, true, false, cond, if◌then◌else◌, List, [], ◌∷◌, ◌++◌, length, map, sum_by, Option, Some, None, refl, ap, sym, subst, ◌∙◌, append-nil, arith}
+use Rattle.std.proofs.Common.{◌≡◌, inl, inr, ℕ, ℤ, ◌+◌, ◌≤◌, ◌||◌, Bool, true, false, cond, if◌then◌else◌, List, [], ◌∷◌, ◌++◌, map, sum_by, Option, None, refl, ap, sym, subst, ◌∙◌, append-nil, arith}
 use Rattle.std.specs.Prelude.{IfSome}
 use Rattle.std.specs.List.{AllByRecursion, AllZip, IsDistinct}
 use Rattle.std.specs.HashMap.{get_by_text}
@@ -28,10 +28,9 @@ use Rattle.adr_lines.specs.declared.indexes.Indexes.{Indexes}
 use Rattle.adr_lines.specs.Indexes.{has_type, under}
 use Rattle.adr_lines.proofs.Groups.{none_under}
 use Rattle.adr_group.specs.declared.job.Done.{Done}
-use Rattle.adr_group.specs.declared.job.Held.{Held}
 use Rattle.adr_group.specs.declared.job.Job.{Job}
 use Rattle.adr_group.specs.Group.{shown_in, IsRightOf, Lines}
-use Rattle.adr_group.specs.Jobs.{indexed_of, most_done, shown_of, tasks_for, IsDone, IsJobOf, IsOfType, IsRightBefore, IsTaskDone, ShowsOf, Task}
+use Rattle.adr_group.specs.Jobs.{indexed_of, most_done, tasks_for, IsDone, IsJobOf, IsOfType, IsTaskDone, ShowsOf, Task}
 use Rattle.adr_group.specs.Laid.{IsHeld}
 use Rattle.adr_group.specs.Repair.{most_inside, most_repaired, IsRepaired}
 use Rattle.adr_group.proofs.Turns.{one_name, wins}

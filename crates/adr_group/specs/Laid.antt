@@ -1,6 +1,5 @@
 -- The entries of an event that are laid over a timeline, and those of one that goes.
-use Rattle.std.specs.Prelude.{◌≡◌, ◌↔◌, ◌⊎◌, ◌≤◌, ◌+◌, ◌*◌, ℕ, ℤ, Bool, true, List, drop, length, take, Option, None}
-use Rattle.std.specs.List.{list_all}
+use Rattle.std.specs.Prelude.{◌≡◌, ◌↔◌, ◌⊎◌, ◌≤◌, ◌+◌, ◌*◌, ℕ, ℤ, true, List, drop, length, take, Option, None}
 use Rattle.std.specs.Option.{option_map, option_map_or}
 use Rattle.adr_value.specs.declared.payload.PayloadType.{PayloadType}
 use Rattle.adr_model.specs.declared.entry.Entry.{Entry}

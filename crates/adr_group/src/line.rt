@@ -12,14 +12,14 @@ ghost use Rattle.adr_lines.specs.Right.{written_in};
 ghost use Rattle.adr_lines.specs.Indexes.{under};
 ghost use Rattle.adr_group.specs.Repair.{given_entries, indexed, most_inside};
 
-use crate::windows::{put_together, spans_of};
+use crate::windows::spans_of;
 use crate::writes::Writes;
 use adr_index::Index;
 use adr_lines::Indexes;
 use adr_model::Entry;
 use adr_rule::Meter;
 use adr_time::Span;
-use adr_timeline::{Source, Timeline, first_run};
+use adr_timeline::{Source, Timeline, first_run, put_together};
 use adr_value::{PayloadType, Refusal};
 use std::alloc::Global;
 

@@ -82,29 +82,3 @@ pub(crate) fn spans_of(alloc: Global, windows: &[Entry]) -> Result<Vec<Span>, Re
     let spans = lasting_spans(alloc, once(windows))?;
     Ok(spans)
 }
-
-/// Spans that cover what the spans cover, one for those that touch. `NoMemory` where there is no room for them.
-pub(crate) fn put_together(alloc: Global, spans: &[Span]) -> Result<Vec<Span>, Refusal>
-    requires last { IsTrue (all_last spans.now) }
-    ensures covers { IfOk result (λ wide. (t : ℤ) → any_covers wide.items t ≡ any_covers spans.now t) }
-    ensures last { IfOk result (λ wide. IsTrue (all_last wide.items)) }
-    ensures memory { OnlyNoMemory result }
-{
-    let mut wide = Vec::new(alloc);
-    let Some((first, others)) = spans.split_first() else {
-        return Ok(wide);
-    };
-    let mut current = *first;
-    let mut rest = others;
-    'rest: while let Some((span, more)) = rest.split_first() {
-        rest = more;
-        if current.end.is_at(span.start) {
-            current.end = span.end;
-        } else {
-            wide.push(current)?;
-            current = *span;
-        }
-    }
-    wide.push(current)?;
-    Ok(wide)
-}

@@ -1,4 +1,4 @@
-use Rattle.std.proofs.Common.{◌≡◌, drop, take, ap, subst, ◌∙◌}
+use Rattle.std.proofs.Common.{drop, take, ap, subst, ◌∙◌}
 use Rattle.std.proofs.lemmas.Result.{IfOk-weaker}
 use Rattle.adr_lines.specs.Indexes.{under}
 use Rattle.adr_group.specs.Governed.{IsWithout}

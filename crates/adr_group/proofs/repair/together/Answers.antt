@@ -1,10 +1,7 @@
-use Rattle.std.proofs.Common.{◌∷◌, if◌then◌else◌, ap, sym, ◌∙◌, subst}
-use Rattle.std.specs.List.{AllZip}
+use Rattle.std.proofs.Common.{if◌then◌else◌, ap, sym, ◌∙◌}
 use Rattle.adr_lines.specs.Indexes.{has_type}
 use Rattle.adr_group.specs.Group.{shown_in}
-use Rattle.adr_group.specs.Jobs.{ShowsOf}
 use Rattle.adr_group.proofs.Jobs.{none_left}
-use Rattle.adr_group.proofs.Tasks.{next_put}
 use Rattle.adr_group.proofs.repair.together.Goals as goal
 
 pub rest-init : goal.rest-init

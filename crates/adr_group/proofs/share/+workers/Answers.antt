@@ -1,8 +1,8 @@
 use Rattle.std.proofs.Common.{◌≡◌, ◌+◌, ◌-◌, ◌*◌, ◌/◌, length, take, slice_range, List, IfOk, subst, ap, ◌∙◌, arith}
 use Rattle.std.proofs.lemmas.Result.{IfOk-at_ok}
 use Rattle.adr_group.specs.declared.job.Job.{Job}
-use Rattle.adr_group.specs.Jobs.{most_done, AreDone}
-use Rattle.adr_group.proofs.Sharing.{bound_le, none_more, part_less, shared}
+use Rattle.adr_group.specs.Jobs.{AreDone}
+use Rattle.adr_group.proofs.Sharing.{bound_le, none_more, shared}
 use Rattle.adr_group.proofs.share.+workers.Goals as goal
 
 -- the last worker's jobs stand behind those of the others
