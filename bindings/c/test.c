@@ -1,5 +1,6 @@
 /* Calls each function of the library, in the right and in the wrong order. */
 #include "kuvteleg.h"
+#include <ctype.h>
 #include <stdio.h>
 #include <stdlib.h>
 #include <string.h>
@@ -96,6 +97,17 @@ static void refused_edits(kuvteleg_editor *editor) {
     SEE(version == 7);
 }
 
+/* A refused line or query drops the reply that its handle held; a refused edit leaves it. */
+static void dropped_replies(kuvteleg_editor *editor, kuvteleg_reader *reader) {
+    SEE(tell(editor, "at r1 PRICE 2024-01-01T01:00:00Z") == KUVTELEG_OK && delete(editor, KUVTELEG_VEN, "v1") == KUVTELEG_IN_USE);
+    SEE(kuvteleg_reply(editor, out, sizeof out, &len) == KUVTELEG_OK && told("version 4 none until end\n"));
+    SEE(tell(editor, "at") == KUVTELEG_BAD_LINE && kuvteleg_reply(editor, out, sizeof out, &len) == KUVTELEG_OK && len == 0);
+    SEE(ask(reader, "types r1") == KUVTELEG_OK && ask(reader, "types") == KUVTELEG_BAD_LINE);
+    SEE(kuvteleg_answer(reader, out, sizeof out, &len) == KUVTELEG_OK && len == 0);
+    SEE(ask(reader, "types r1") == KUVTELEG_OK && governor(reader, "", "PRICE", NEW_YEAR, 0) == KUVTELEG_BAD_ID);
+    SEE(kuvteleg_answer(reader, out, sizeof out, &len) == KUVTELEG_OK && len == 0);
+}
+
 static void typed_answers(kuvteleg_reader *reader) {
     SEE(governor(reader, "r1", "PRICE", NEW_YEAR + 1800, 0) == KUVTELEG_OK && governs("e1", "[0.17,-3]") && state.interval == 7);
     SEE(governor(reader, "r1", "PRICE", NEW_YEAR + 3599, 999999999) == KUVTELEG_OK && governs("e1", "[0.17,-3]"));
@@ -153,6 +165,7 @@ static void readers(void) {
     typed_answers(&late);
     SEE(ask(&late, "publish") == KUVTELEG_BAD_LINE && ask(&late, "edit 2024-01-01T00:00:00Z delete event e1") == KUVTELEG_BAD_LINE);
     small_room(&editor, &late);
+    dropped_replies(&editor, &late);
     SEE(kuvteleg_condense(&editor, &version) == KUVTELEG_OK && version == 4);
     huge_lines(&editor);
     SEE(delete(&editor, KUVTELEG_EVENT, "e1") == KUVTELEG_OK && version == 6);
@@ -165,8 +178,30 @@ static void readers(void) {
     SEE(kuvteleg_leave(&other) == KUVTELEG_OK && kuvteleg_leave(&early) == KUVTELEG_OK);
 }
 
+/* Whether the name of a code is that of its constant, but for underscores and the case of letters. */
+static int is_named(const char *constant, uint32_t code) {
+    const char *name = kuvteleg_name(code);
+    for (; *constant; constant++)
+        if (*constant != '_' && tolower(*constant) != tolower(*name++))
+            return 0;
+    return *name == 0 && isupper(*kuvteleg_name(code));
+}
+#define NAMED(it) SEE(is_named(#it, KUVTELEG_##it))
+
+static void names(void) {
+    NAMED(OK), NAMED(LONG_LINE), NAMED(BAD_LINE), NAMED(BAD_MOMENT), NAMED(BAD_ID), NAMED(BAD_NUMBER), NAMED(BAD_JSON);
+    NAMED(NOT_OBJECT), NAMED(WRONG_KIND), NAMED(ID_MISMATCH), NAMED(MISSING), NAMED(WRONG_TYPE), NAMED(BAD_TEXT);
+    NAMED(BAD_DATE_TIME), NAMED(BAD_DURATION), NAMED(NEGATIVE_DURATION), NAMED(BAD_PRIORITY), NAMED(BAD_SHAPE), NAMED(TOO_MANY);
+    NAMED(NO_START), NAMED(AFTER_ENDLESS), NAMED(TIME_RANGE), NAMED(EXISTS), NAMED(NOT_THERE), NAMED(NO_PROGRAM), NAMED(NO_VEN);
+    NAMED(IN_USE), NAMED(FULL), NAMED(BAD_WINDOW), NAMED(UNKNOWN_RESOURCE), NAMED(NO_MEMORY), NAMED(CLOSED), NAMED(OPEN);
+    NAMED(BAD_TIE), NAMED(BAD_KIND);
+    SEE(strcmp(kuvteleg_name(KUVTELEG_BAD_DATE_TIME), "BadDateTime") == 0 && strcmp(kuvteleg_name(98), "NoRuntime") == 0);
+    SEE(is_named("UNKNOWN", 30) && is_named("UNKNOWN", 97) && is_named("UNKNOWN", 104) && is_named("UNKNOWN", UINT32_MAX));
+}
+
 int main(void) {
     closed_handles();
+    names();
     readers();
     printf("%u passed, %u failed\n", passed, failed);
     return failed != 0;
