@@ -48,6 +48,8 @@ def parts(moment: Moment) -> Tuple[int, int]:
     """The seconds and nanoseconds of a moment."""
     if isinstance(moment, str):
         return read(moment)
+    if not isinstance(moment, datetime):
+        raise TypeError("a moment is a datetime or a text")
     if moment.utcoffset() is None:
         raise ValueError("a moment wants a time zone: a datetime without one is no instant")
     gone = moment - EPOCH

@@ -118,7 +118,7 @@ class Reader(_Held):
         self.close()
 
     def look(self, resolver: "Resolver") -> None:
-        """Sees the resolver's last publication from now on."""
+        """Sees the resolver's last publication from now on. It waits for a call of the resolver that is under way, as an edit."""
         with resolver._lock, self._lock:
             done(LIBRARY.kuvteleg_look(resolver._handle, self._handle))
 
@@ -175,7 +175,7 @@ class Reader(_Held):
 
 
 class Resolver(_Held):
-    """Programs, vens, resources and events, and what of them is published. Any thread may use it; readers wait for none of its edits.
+    """Programs, vens, resources and events, and what of them is published. Any thread may use it. A reader's answers wait for none of its edits; its looks do.
 
     `tie` decides between intervals of one priority: "newest", the later write governs, or "latest-start", the later start.
     """
@@ -221,10 +221,11 @@ class Resolver(_Held):
         """Creates the objects that a VTN serves, and answers how many: a list of them, several lists, or the JSON text of either, as
         from `GET /programs`, `/vens`, `/resources` and `/events`. Each has `objectType` and `id`.
 
-        They are created in the order programs, vens, resources, events; events in the order of their `modificationDateTime` where each
-        has one. That moment, else `createdDateTime`, else `moment`, now by default, is what an event's zero starts stand for. A refused
-        object raises Refusal with its kind and id, and those before it stay; with `on_refusal` that is called instead, and the others
-        are created. Nobody sees any of them before `publish`.
+        They are created in the order programs, vens, resources, events. Events go by when they were written, which is their
+        `modificationDateTime`, else their `createdDateTime`; where one of them tells neither, all events go as they stand. When an
+        event was written, else `moment`, now by default, is what its zero starts stand for. A refused object raises Refusal with its
+        kind and id, and those before it stay; with `on_refusal` that is called instead, and the others are created. Nobody sees any of
+        them before `publish`.
         """
         now = _moments.parts(datetime.now(timezone.utc) if moment is None else moment)
         count = 0

@@ -174,3 +174,22 @@ class Moments(unittest.TestCase):
                 self.until(text)
             self.assertEqual(caught.exception.name, "BadMoment", text)
         self.assertRaises(ValueError, self.until, datetime(2024, 1, 1))
+
+    def test_what_is_neither_a_datetime_nor_a_text(self):
+        with Resolver() as resolver:
+            fill(resolver)
+            resolver.publish()
+            reader = resolver.reader()
+            for moment in (1704067200.5, 0, b"2024-01-01T00:00:00Z", NEW_YEAR.date(), timedelta(0)):
+                for call in (
+                    lambda: resolver.create("ven", "v2", VEN, moment),
+                    lambda: resolver.change("ven", "v1", VEN, moment),
+                    lambda: resolver.load([], moment),
+                    lambda: reader.at("r1", "PRICE", moment),
+                    lambda: reader.list("r1", "PRICE", moment, ONE),
+                    lambda: reader.list("r1", "PRICE", NEW_YEAR, moment),
+                    lambda: reader.roll("PRICE", moment),
+                ):
+                    self.assertRaisesRegex(TypeError, "^a moment is a datetime or a text$", call)
+            self.assertRaises(TypeError, reader.at, "r1", "PRICE", None)
+            self.assertEqual(resolver.publish(), (2, 4))

@@ -56,6 +56,20 @@ class Load(unittest.TestCase):
             resolver.load([PROGRAMS, VENS, RESOURCES, served("e2", 2), first])
             self.assertEqual(self.price(resolver).event, "e1")
 
+    def test_a_write_is_told_by_its_change_else_by_its_creation(self):
+        changed, created = served("e1", 1, modified="2023-12-02T00:00:00Z"), served("e2", 2, modified="2023-12-01T00:00:00Z")
+        created = created.replace("modificationDateTime", "createdDateTime")
+        with Resolver() as resolver:
+            resolver.load([PROGRAMS, VENS, RESOURCES, changed, created])
+            self.assertEqual(self.price(resolver).event, "e1")
+
+    def test_moments_are_compared_as_instants(self):
+        early = served("e1", 1, modified="2023-12-01T13:00:00Z")
+        for late in ("2023-12-01T13:00:00.5Z", "2023-12-01T12:00:01-01:00"):
+            with Resolver() as resolver:
+                resolver.load([PROGRAMS, VENS, RESOURCES, served("e2", 2, modified=late), early])
+                self.assertEqual(self.price(resolver).event, "e2")
+
     def test_a_zero_start_is_when_the_event_was_written(self):
         with Resolver() as resolver:
             resolver.load([PROGRAMS, VENS, RESOURCES, served("e1", 1, modified="2023-12-31T23:30:00Z", start="0000-00-00")])
@@ -70,6 +84,7 @@ class Load(unittest.TestCase):
             with self.assertRaises(Refusal) as caught:
                 resolver.load([PROGRAMS, VENS, RESOURCES, broken])
             self.assertEqual(str(caught.exception), "17 BadShape: event e2")
+            self.assertEqual(resolver.publish(), (1, 3))
         with Resolver() as resolver:
             refused = []
             self.assertEqual(resolver.load([PROGRAMS, VENS, RESOURCES, broken, served("e1", 17)], on_refusal=refused.append), 4)
