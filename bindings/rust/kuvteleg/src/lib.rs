@@ -31,9 +31,11 @@
 //!
 //! # Threads and memory
 //!
-//! A [`Resolver`] and a [`Reader`] may each go to another thread, and a call has each to itself. A reader waits for no edit, may outlive
-//! its resolver, and keeps its publication in memory until it looks again or is dropped. A call for which there is no memory answers
-//! [`Refusal::NoMemory`] and has changed nothing; only what this crate keeps of a reply, and the clone of a reader, end the program then.
+//! A [`Resolver`] and a [`Reader`] may each go to another thread, and a call has each to itself. A reader's answers wait for no edit. It
+//! may outlive its resolver, and keeps its publication in memory until it looks again or is dropped. A call for which there is no memory
+//! answers [`Refusal::NoMemory`] and has changed nothing; only what this crate keeps of a reply, and the clone of a reader, end the
+//! program then.
+//!
 //! No call is made from a signal handler, nor in a forked child of a process with threads.
 mod moment;
 mod raw;

@@ -4,7 +4,8 @@ use std::time::{Duration, SystemTime, UNIX_EPOCH};
 /// An instant: seconds since 1970-01-01T00:00:00Z, negative before it, and nanoseconds after them. Leap seconds are not counted.
 ///
 /// Calls refuse ([`Refusal::BadMoment`](crate::Refusal::BadMoment)) one before `-009999-01-02T01:59:59Z` or after
-/// `9999-12-30T22:00:00.999999999Z`, or of more than 999,999,999 nanoseconds. It is printed as in replies.
+/// `9999-12-30T22:00:00.999999999Z`, or of more than 999,999,999 nanoseconds. It is printed as in replies, and read from no text: a
+/// moment that is a text goes on a line ([`Resolver::line`](crate::Resolver::line), [`Reader::line`](crate::Reader::line)).
 ///
 /// ```
 /// # use kuvteleg::Moment;

@@ -56,6 +56,9 @@ impl Reader {
     }
 
     /// Sees the resolver's last publication from now on.
+    ///
+    /// It has the resolver to itself, so the thread that edits is the one that looks. Other threads take a clone of a reader that
+    /// looked, which that thread keeps behind a lock.
     pub fn look(&mut self, resolver: &mut Resolver) -> Result<(), Refusal> {
         // SAFETY: both handles are lent to this call alone.
         done(unsafe { raw::kuvteleg_look(&mut resolver.raw, self.raw.get_mut()) })
