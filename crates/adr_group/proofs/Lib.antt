@@ -1,4 +1,5 @@
 pub mod Crossing
+pub mod Enough
 pub mod Exchanging
 pub mod Gathered
 pub mod Halves

@@ -129,7 +129,7 @@ module _ (indexes : Indexes) (group : Lines) (writes : List ℕ) (windows : List
     each_then (w ∷ ws) [] among a = absurd a
     each_then (w ∷ ws) (d ∷ ds) among a = (
       λ t. a.0 (right w.payload_type) t
-      ∙ ap (λ (es : List Entry). if any_covers_at es t then wins indexes writes w.payload_type t else shown_in group.lines w.payload_type t) (sym (own_whole windows w own (among w (inl refl)))),
+          ∙ ap (λ (es : List Entry). if any_covers_at es t then wins indexes writes w.payload_type t else shown_in group.lines w.payload_type t) (sym (own_whole windows w own (among w (inl refl)))),
       each_then ws ds (λ v m. among v (inr m)) a.1,
     )
 

@@ -22,12 +22,12 @@ use Rattle.adr_group.specs.Repair.{most_inside, IsRepaired}
 use Rattle.adr_group.specs.Writes.{changed_number, is_number}
 
 -- the entries come in turn; what they meet of the line, as entries by the ranks of winners, comes in turn too, and is no
--- more than twice as many
-pub record IsMet (rank : Winner → Rank) (line : List Segment) (entries met : List Entry) : Type 0 where
+-- more than twice as many, or no more with them than building inside them compares
+pub record IsMet (rank : Winner → Rank) (writes : List ℕ) (indexed : List Entry) (line : List Segment) (entries met : List Entry) : Type 0 where
   pub run : is_run entries ≡ true
   pub in_turn : is_run met ≡ true
   pub shows : (t : ℤ) → any_covers (spans_of entries) t ≡ true → rank_at met t ≡ option_map rank (shows line t)
-  pub few : length met ≤ 2 * length entries
+  pub few : (length met ≤ 2 * length entries) ⊎ (length met + length entries ≤ most_inside writes indexed entries)
 
 -- the least, at each instant, of what is shown and of the entries
 abbrev pub least_over : List Entry → List Entry → ℤ → Option Winner

@@ -12,6 +12,8 @@ ghost use Rattle.adr_group.specs.Repair.{most_inside};
 
 use crate::governed::governed_windows;
 use crate::job::Held;
+use crate::line::Given;
+use crate::met::met_by;
 use crate::repair::line_repaired;
 use crate::writes::Writes;
 use adr_lines::{Indexes, TypeEntries};
@@ -33,31 +35,13 @@ fn parted(windows: &[Entry], leaving: usize) -> (&[Entry], &[Entry])
     }
 }
 
-/// What the entries meet of the timeline, as entries by rank; None where they don't come in turn, or meet more than twice
-/// as many segments as they are.
-fn met_by<R: Ranks>(
-    line: &Timeline,
-    entries: &[Entry],
-    ranks: &R,
-) -> Result<Option<Vec<Entry>>, Refusal>
-    ensures met { IfOk result (λ met. IfSome met (λ met. IsMet (R.rank ranks.now) line.now entries.now met.items)) }
-    ensures memory { OnlyNoMemory result }
-{
-    if !is_run(entries) {
-        return Ok(None);
-    }
-    let met = line.met(entries)?;
-    if !met.has_at_most(entries.len().saturating_mul(2)) {
-        return Ok(None);
-    }
-    let shown = met.ranked(ranks)?;
-    Ok(Some(shown))
-}
-
 /// What a job needs that exchanges events in the timeline: so many of the windows, the first ones, are entries of the event
 /// that goes, the others those of the one that comes. None where these can't be laid over the timeline.
 pub(crate) fn held_of<R: Ranks>(
+    alloc: Global,
+    indexes: &Indexes,
     line: &Timeline,
+    writes: &Writes,
     windows: &TypeEntries,
     leaving: usize,
     gone: Option<u64>,
@@ -65,11 +49,12 @@ pub(crate) fn held_of<R: Ranks>(
 ) -> Result<Option<Held>, Refusal>
     ensures leaving { IfOk result (λ held. IfSome held (λ h. h.leaving ≡ leaving)) }
     ensures gone { IfOk result (λ held. IfSome held (λ h. h.gone ≡ gone)) }
-    ensures met { IfOk result (λ held. IfSome held (λ h. IsMet (R.rank ranks.now) line.now (drop leaving windows.now.entries.items) h.shown.items)) }
+    ensures met { IfOk result (λ held. IfSome held (λ h. IsMet (R.rank ranks.now) writes.now (under indexes.now windows.now.payload_type) line.now (drop leaving windows.now.entries.items) h.shown.items)) }
     ensures memory { OnlyNoMemory result }
 {
     let (_leaving, coming) = parted(windows.entries.as_slice(), leaving);
-    let Some(shown) = met_by(line, coming, ranks)? else {
+    let given = Given::of(indexes, &windows.payload_type, writes);
+    let Some(shown) = met_by(alloc, &given, line, coming, ranks)? else {
         return Ok(None);
     };
     Ok(Some(Held {

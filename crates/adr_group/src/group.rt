@@ -204,8 +204,8 @@ impl Group {
     /// The same where one event goes and another comes: so many of the windows, the first ones, are entries of the event
     /// that goes, which has that number, and the others are those of the one that comes. These are laid over the timeline,
     /// and compete with what it shows by the ranks of its winners; then what the writes show is built in those windows in
-    /// which the event that goes governs. Where the entries that come don't come in turn, or meet more than twice as many
-    /// segments as they are, what the writes show is built in all windows.
+    /// which the event that goes governs. Where the entries that come don't come in turn, or meet so many segments that
+    /// laying them might compare more than building may, what the writes show is built in all windows.
     ///
     /// Cost: that of `Group::job`, that of `Timeline::met`, and a rank for each segment that is met.
     ///
@@ -215,6 +215,7 @@ impl Group {
     pub fn exchange_job<R: Ranks>(
         &self,
         alloc: Global,
+        indexes: &Indexes,
         writes: &Shared<Writes>,
         windows: &Shared<TypeEntries>,
         leaving: usize,
@@ -226,11 +227,20 @@ impl Group {
         ensures line { IfOk result (λ job. (t : ℤ) → shows job.line t ≡ shown_in self.now.lines windows.now.payload_type t) }
         ensures leaving { IfOk result (λ job. IfSome job.held (λ h. h.leaving ≡ leaving)) }
         ensures gone { IfOk result (λ job. IfSome job.held (λ h. h.gone ≡ gone)) }
-        ensures met { IfOk result (λ job. IfSome job.held (λ h. IsMet (R.rank ranks.now) job.line (drop leaving windows.now.entries.items) h.shown.items)) }
+        ensures met { IfOk result (λ job. IfSome job.held (λ h. IsMet (R.rank ranks.now) writes.now (under indexes.now windows.now.payload_type) job.line (drop leaving windows.now.entries.items) h.shown.items)) }
         ensures memory { OnlyNoMemory result }
     {
         let line = self.line_of(alloc, &windows.get().payload_type)?;
-        let held = held_of(&line, windows.get(), leaving, gone, ranks)?;
+        let held = held_of(
+            alloc,
+            indexes,
+            &line,
+            writes.get(),
+            windows.get(),
+            leaving,
+            gone,
+            ranks,
+        )?;
         Ok(Job {
             writes: writes.copy()?,
             windows: windows.copy()?,

@@ -105,7 +105,15 @@ fn line_after(
         Some(held) => exchanged_line(alloc, indexes, &job.line, windows, held, writes, meter),
         None => {
             let entries = windows.entries.as_slice();
-            line_repaired(alloc, &job.line, indexes, &windows.payload_type, entries, writes, meter)
+            line_repaired(
+                alloc,
+                &job.line,
+                indexes,
+                &windows.payload_type,
+                entries,
+                writes,
+                meter,
+            )
         }
     }
 }

@@ -9,6 +9,7 @@ mod group;
 mod job;
 mod laws;
 mod line;
+mod met;
 mod repair;
 mod share;
 mod timelines;

@@ -30,6 +30,23 @@ pub(crate) struct Given<'a> {
     writes: &'a Writes,
 }
 
+impl<'a> Given<'a> {
+    /// The entries of the type that are of these writes.
+    pub(crate) fn of(
+        indexes: &'a Indexes,
+        payload_type: &PayloadType,
+        writes: &'a Writes,
+    ) -> Given<'a>
+        ensures writes { result.writes.now ≡ writes.now }
+        ensures entries { indexed (option_copied result.index) ≡ under indexes.now payload_type.now }
+    {
+        Given {
+            index: indexes.index(payload_type),
+            writes,
+        }
+    }
+}
+
 /// The entries of the index, where there is one, that meet the window.
 fn overlapping(alloc: Global, index: Option<&Index>, window: Span) -> Result<Vec<Entry>, Refusal>
     ensures found { IfOk result (λ found. found.items ≡ meeting (indexed (option_copied index.entry)) window) }
@@ -116,10 +133,7 @@ pub(crate) fn built(
     ensures memory { OnlyNoMemory result }
 {
     let spans = spans_of(alloc, windows)?;
-    let given = Given {
-        index: indexes.index(payload_type),
-        writes,
-    };
+    let given = Given::of(indexes, payload_type, writes);
     built_in(alloc, &given, &spans, meter)
 }
 
