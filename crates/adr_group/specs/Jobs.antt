@@ -13,7 +13,7 @@ use Rattle.adr_model.specs.declared.timeline.Winner.{Winner}
 use Rattle.adr_model.specs.Governor.{winner_at}
 use Rattle.adr_model.specs.Timeline.{shows}
 use Rattle.adr_lines.specs.declared.grouped.TypeEntries.{TypeEntries}
-use Rattle.adr_lines.specs.Grouped.{any_covers_at, entries_under}
+use Rattle.adr_lines.specs.Grouped.{any_covers_at, entries_under, HaveOwnTypes}
 use Rattle.adr_lines.specs.Right.{written_in}
 use Rattle.adr_lines.specs.declared.indexes.Indexes.{Indexes}
 use Rattle.adr_lines.specs.Indexes.{under}
@@ -85,6 +85,13 @@ ShowsOf shown windows done = (t : ℤ) → shows done.line t ≡ shown windows.p
 
 -- the windows are those of the others under each type, cover what these do, and as much is compared in them
 pub record AreAlike (windows others : List TypeEntries) : Type 0 where
+  pub under : (k : PayloadType) → entries_under windows k ≡ entries_under others k
+  pub covers : (k : PayloadType) (t : ℤ) → any_covers_at (entries_under windows k) t ≡ any_covers_at (entries_under others k) t
+  pub cost : (writes : List ℕ) (indexes : Indexes) → most_repaired windows writes indexes ≡ most_repaired others writes indexes
+
+-- the same, and each type is there once
+pub record AreGathered (windows others : List TypeEntries) : Type 0 where
+  pub own : HaveOwnTypes windows
   pub under : (k : PayloadType) → entries_under windows k ≡ entries_under others k
   pub covers : (k : PayloadType) (t : ℤ) → any_covers_at (entries_under windows k) t ≡ any_covers_at (entries_under others k) t
   pub cost : (writes : List ℕ) (indexes : Indexes) → most_repaired windows writes indexes ≡ most_repaired others writes indexes

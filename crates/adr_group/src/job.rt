@@ -3,7 +3,7 @@ ghost use Rattle.std.specs.Prelude.{◌≡◌, ◌+◌, ◌<◌, ◌≤◌, ◌^
 ghost use Rattle.adr_refusal.specs.Answer.{OnlyNoMemory};
 ghost use Rattle.adr_lines.specs.Grouped.{HaveOwnTypes};
 ghost use Rattle.adr_value.specs.Same.{same_type};
-ghost use Rattle.adr_group.specs.Jobs.{most_done, AreAlike, AreDone, IsAfter, IsDone};
+ghost use Rattle.adr_group.specs.Jobs.{most_done, AreAlike, AreDone, AreGathered, IsAfter, IsDone};
 
 use crate::exchange::exchanged_line;
 use crate::gate::Gate;
@@ -233,8 +233,7 @@ pub fn shared_windows(
     windows: &[TypeEntries],
     more: &[TypeEntries],
 ) -> Result<Vec<Shared<TypeEntries>>, Refusal>
-    ensures own { IfOk result (λ shared. HaveOwnTypes shared.items) }
-    ensures alike { IfOk result (λ shared. AreAlike shared.items (windows.now ++ more.now)) }
+    ensures gathered { IfOk result (λ shared. AreGathered shared.items (windows.now ++ more.now)) }
     ensures refusal { OnlyNoMemory result }
 {
     let mut types = Vec::new(alloc);
