@@ -388,9 +388,8 @@ impl<J: Naming> Editor<J> {
     }
 
     /// Makes an edit as [`Editor::apply`] does, by several workers, 1 to 64, who share out the repair of timelines
-    /// and pass the gate before each of its jobs, as the desk's `apply_with` does. Under `Tie::Newest` an event is no
-    /// job where it is laid over what groups show or taken out of it: the calling thread does so, past no gate. The
-    /// answer is the same for every number of workers.
+    /// and pass the gate before each of its jobs, as the desk's `apply_with` does. The answer is the same for every number
+    /// of workers.
     ///
     /// # Errors
     ///

@@ -332,8 +332,9 @@ impl Desk {
     }
 
     /// Makes an edit as [`Desk::apply`] does, by several workers, 1 to 64, who share out the jobs of its repair: see
-    /// `do_all` of adr_group. Each passes the gate before each of its jobs; an event that is laid over
-    /// timelines, or taken out of them, leaves no job. The answer is the same for every number of workers.
+    /// `do_all` of adr_group. A job is one payload type of a group, whether an event is laid over its timeline or taken out
+    /// of it, or what governs is built anew. Each worker passes the gate before each of its jobs. The answer is the same for
+    /// every number of workers.
     ///
     /// # Errors
     ///

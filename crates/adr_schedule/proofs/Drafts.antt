@@ -1,5 +1,5 @@
 -- What is made of groups before places move.
-use Rattle.std.proofs.Common.{◌≡◌, ◌⊎◌, inl, inr, ℕ, ℤ, suc, ◌+◌, ◌*◌, ◌≤◌, ◌==◌, ◌||◌, Bool, true, false, List, [], ◌∷◌, ◌++◌, length, flat_map, sum_by, slice_get, take, drop, Option, Some, None, refl, ap, sym, subst, ◌∙◌, eqb-true, arith}
+use Rattle.std.proofs.Common.{◌≡◌, ◌⊎◌, inl, inr, ℕ, ℤ, suc, ◌+◌, ◌*◌, ◌≤◌, ◌==◌, ◌||◌, Bool, true, false, List, [], ◌∷◌, ◌++◌, length, flat_map, sum_by, slice_get, take, drop, Option, Some, None, refl, ap, sym, subst, ◌∙◌, eqb-true, append_assoc, append-nil, arith}
 use Rattle.std.specs.Prelude.{MatchOption}
 use Rattle.std.specs.List.{AllZip}
 use Rattle.std.specs.Option.{option_map_or}
@@ -14,15 +14,17 @@ use Rattle.adr_lines.specs.Right.{has_number}
 use Rattle.adr_lines.specs.declared.indexes.Indexes.{Indexes}
 use Rattle.adr_lines.specs.Exchange.{IsIndexOf}
 use Rattle.adr_lines.specs.Indexes.{under}
+use Rattle.adr_group.specs.declared.job.Job.{Job}
 use Rattle.adr_group.specs.Group.{AreWindowsOf, IsRightOf, Lines}
-use Rattle.adr_group.specs.Jobs.{jobs_for, most_done, AreAlike}
+use Rattle.adr_group.specs.Jobs.{most_done, AreGathered, IsJobOf}
 use Rattle.adr_group.specs.Repair.{most_inside, most_possible, most_repaired}
 use Rattle.adr_group.proofs.Possible.{both_possible, possible}
+use Rattle.adr_group.proofs.Tasks.{jobs_compare, most_asked, tasks_compare}
 use Rattle.adr_shared.specs.Map.{put}
 use Rattle.adr_schedule.specs.declared.change.Change.{Change}
 use Rattle.adr_schedule.specs.declared.change.Side.{Side}
 use Rattle.adr_schedule.specs.declared.draft.Draft.{Draft}
-use Rattle.adr_schedule.specs.Draft.{jobs_of, most_drafted, AreDraftsIn, AreDraftsOf, AreMadeOf, AreMadeSoFar, AreSeen, IsDraftOf, IsMadeOf, IsSame, IsSeen}
+use Rattle.adr_schedule.specs.Draft.{most_drafted, tasks_of, AreDraftsIn, AreDraftsOf, AreMadeOf, AreMadeSoFar, AreSeen, IsDraftOf, IsMadeOf, IsSame, IsSeen}
 use Rattle.adr_schedule.specs.Moves.{asked_at, is_among, AreMadeFor}
 use Rattle.adr_schedule.specs.Shift.{entries_in, kept_side, most_shifted, sides_for, sides_of, AreTwo, Becomes}
 use Rattle.adr_schedule.specs.Slots.{in_slot, value_at}
@@ -65,22 +67,30 @@ module _ (change : Change) (writes : List ℕ) where
 
 -- ---- what drafts compare
 
--- the jobs of a draft compare what its windows do
-pub jobs_compare : (indexes : Indexes) (writes : List ℕ) (windows : List TypeEntries) → sum_by (most_done indexes) (jobs_for writes windows) ≡ most_repaired windows writes indexes
-jobs_compare indexes writes [] = refl
-jobs_compare indexes writes (g ∷ windows) =
-    sum_by-cons (most_done indexes) (record { writes = writes; windows = g }) (jobs_for writes windows)
-    ∙ ap (λ n. most_inside writes (under indexes g.payload_type) g.entries.items + n) (jobs_compare indexes writes windows)
-
--- and the jobs of all drafts
-pub all_compare : (indexes : Indexes) (drafts : List Draft) → sum_by (most_done indexes) (flat_map jobs_of drafts) ≡ most_drafted indexes drafts
+-- the tasks of all drafts compare no more than their windows do
+pub all_compare : (indexes : Indexes) (drafts : List Draft) → sum_by (most_asked indexes) (flat_map tasks_of drafts) ≡ most_drafted indexes drafts
 all_compare indexes [] = refl
 all_compare indexes (d ∷ drafts) =
-    let parts = sum_by-append (most_done indexes) (jobs_of d) (flat_map jobs_of drafts) in
-    let own = jobs_compare indexes d.writes d.windows.items in
+    let parts = sum_by-append (most_asked indexes) (tasks_of d) (flat_map tasks_of drafts) in
+    let own = tasks_compare indexes d.group d.writes d.windows.items in
     let rest = all_compare indexes drafts in
     let first = sum_by-cons (λ (x : Draft). most_repaired x.windows.items x.writes indexes) d drafts in
     omega (arith, parts, own, rest, first)
+
+-- so their jobs compare no more
+pub jobs_compare_all : (indexes : Indexes) (drafts : List Draft) (slice jobs : List Job) → slice ≡ jobs → AllZip (IsJobOf indexes) (flat_map tasks_of drafts) jobs → sum_by (most_done indexes) slice ≤ most_drafted indexes drafts
+jobs_compare_all indexes drafts slice jobs same fit =
+    let least = jobs_compare indexes (flat_map tasks_of drafts) jobs fit in
+    let whole = all_compare indexes drafts in
+    let sliced = ap (sum_by (most_done indexes)) same in
+    omega (arith, least, whole, sliced)
+
+pub jobs_compare_one : (indexes : Indexes) (draft : Draft) (slice jobs : List Job) → slice ≡ jobs → AllZip (IsJobOf indexes) (tasks_of draft) jobs → sum_by (most_done indexes) slice ≤ most_repaired draft.windows.items draft.writes indexes
+jobs_compare_one indexes draft slice jobs same fit =
+    let least = jobs_compare indexes (tasks_of draft) jobs fit in
+    let whole = tasks_compare indexes draft.group draft.writes draft.windows.items in
+    let sliced = ap (sum_by (most_done indexes)) same in
+    omega (arith, least, whole, sliced)
 
 -- a draft of a group compares what the change asks of it
 pub draft_compares : (change : Change) (indexes : Indexes) (g : Lines) (d : Draft) → AreTwo change → IsDraftOf change g d → most_repaired d.windows.items d.writes indexes ≡ most_shifted change indexes g
@@ -120,6 +130,36 @@ long_done R [] ys done h = omega arith
 long_done R (x ∷ xs) ys [] h = absurd h
 long_done R (x ∷ xs) ys (d ∷ done) h = let r = long_done R xs ys done h.1 in omega (arith, r)
 
+-- at the end no place is left
+pub seen_at_end : {P : Type 0} (rest : List ℕ) (place : ℕ) → rest ≡ [] → (is_among rest place ≡ true) ⊎ P → P
+seen_at_end rest place none (inl h) = absurd (nothing (subst (λ l. is_among l place ≡ true) none h))
+  where
+    nothing : is_among [] place ≡ true → ⊥
+    nothing k = absurd (cc)
+seen_at_end rest place none (inr p) = p
+
+-- one job more, and then those of the tasks that are left
+pub one_job : {X J : Type 0} (R : X → J → Type 0) (all xs : List X) (x : X) (jobs new more : List J) (j : J) → new ≡ jobs ++ j ∷ [] → R x j
+    → ((ms : List J) → AllZip R (x ∷ xs) ms → AllZip R all (jobs ++ ms)) → AllZip R xs more → AllZip R all (new ++ more)
+one_job R all xs x jobs new more j pushed fits before zip =
+    subst (λ l. AllZip R all l) (sym (ap (λ l. l ++ more) pushed ∙ append_assoc jobs (j ∷ []) more)) (before (j ∷ more) (fits, zip))
+
+zip_both : {X J : Type 0} (R : X → J → Type 0) (xs ys : List X) (us vs : List J) → AllZip R xs us → AllZip R ys vs → AllZip R (xs ++ ys) (us ++ vs)
+zip_both R [] ys [] vs h k = k
+zip_both R [] ys (u ∷ us) vs h k = absurd h
+zip_both R (x ∷ xs) ys [] vs h k = absurd h
+zip_both R (x ∷ xs) ys (u ∷ us) vs h k = (h.0, zip_both R xs ys us vs h.1 k)
+
+-- the jobs of one draft more
+pub more_jobs : {X J : Type 0} (R : X → J → Type 0) (all xs ys : List X) (jobs new own more : List J) → new ≡ jobs ++ own → AllZip R xs own
+    → ((ms : List J) → AllZip R (xs ++ ys) ms → AllZip R all (jobs ++ ms)) → AllZip R ys more → AllZip R all (new ++ more)
+more_jobs R all xs ys jobs new own more added fits before zip =
+    subst (λ l. AllZip R all l) (sym (ap (λ l. l ++ more) added ∙ append_assoc jobs own more)) (before (own ++ more) (zip_both R xs ys own more fits zip))
+
+-- all of them
+pub every_job : {X J : Type 0} (R : X → J → Type 0) (all : List X) (jobs : List J) → AllZip R all (jobs ++ []) → AllZip R all jobs
+every_job R all jobs zip = subst (λ l. AllZip R all l) (append-nil jobs) zip
+
 -- one more is made
 pub one_made : (indexes : Indexes) (drafts rest more : List Draft) (d : Draft) (made after : List (List ℕ × Lines)) (h : Lines)
     → rest ≡ d ∷ more → after ≡ put (d.slot ∷ []) h made → IsMadeOf indexes d h
@@ -148,6 +188,13 @@ one_made indexes drafts rest more d made after h is added right a = record {
     has e (inl m) = first e (subst (λ l. In e l) is m)
     has e (inr k) = let t = there e.slot (one_or_other e.slot d.slot) k in inr (t.0, ap (λ z. in_slot z e.slot) added ∙ t.1)
 
+-- at first none is made
+pub none_made : (indexes : Indexes) (drafts : List Draft) (made : List (List ℕ × Lines)) → made ≡ [] → AreMadeSoFar indexes drafts drafts made
+none_made indexes drafts made none = record { of = λ s h k. absurd (nothing s h (subst (λ (m : List (List ℕ × Lines)). in_slot m s ≡ Some h) none k)); has = λ d m. inl m; left = λ d m. m }
+  where
+    nothing : (s : ℕ) (h : Lines) → in_slot {G = Lines} [] s ≡ Some h → ⊥
+    nothing s h k = absurd (cc)
+
 -- all are made
 pub every_made : (indexes : Indexes) (drafts rest : List Draft) (made : List (List ℕ × Lines)) → rest ≡ [] → AreMadeSoFar indexes drafts rest made → AreMadeOf indexes drafts made
 every_made indexes drafts rest made none a = record { of = a.of; has = λ d m. has d (a.has d m) }
@@ -157,7 +204,7 @@ every_made indexes drafts rest made none a = record { of = a.of; has = λ d m. h
     has d (inr k) = k
 
 -- windows that cover what others do hold what those hold
-alike_within : (events : List Written) (writes others : List ℕ) (windows wide : List TypeEntries) → AreAlike windows wide
+alike_within : (events : List Written) (writes others : List ℕ) (windows wide : List TypeEntries) → AreGathered windows wide
     → AreWindowsOf events writes others (entries_under wide) → AreWindowsOf events writes others (entries_under windows)
 alike_within events writes others windows wide alike within w m = by (within w m)
   where
@@ -170,7 +217,7 @@ alike_within events writes others windows wide alike within w m = by (within w m
 
 -- what was made of a group's draft is right of what the group was, where the windows hold what its old and new writes differ on
 pub made_right : (indexes : Indexes) (g h : Lines) (d : Draft) (writes : List ℕ) (windows : List TypeEntries)
-    → d.group ≡ g → d.writes ≡ writes → AreAlike d.windows.items windows → IsMadeOf indexes d h
+    → d.group ≡ g → d.writes ≡ writes → AreGathered d.windows.items windows → IsMadeOf indexes d h
     → (tie : Tie) (events : List Written) → IsIndexOf tie events indexes → AreWindowsOf events g.writes writes (entries_under windows)
     → IsRightOf tie events g → IsRightOf tie events h
 made_right indexes g h d writes windows group own alike made tie events index within right =

@@ -1,44 +1,45 @@
--- What is laid over groups, and how little that compares.
-use Rattle.std.proofs.Common.{◌≡◌, ◌⊎◌, inl, inr, ℕ, suc, ◌+◌, ◌-◌, ◌*◌, ◌≤◌, ◌==◌, ◌||◌, Bool, true, false, if◌then◌else◌, List, [], ◌∷◌, ◌++◌, length, take, Option, Some, None, refl, ap, sym, subst, ◌∙◌, append-nil, arith}
-use Rattle.std.specs.Prelude.{Result, Ok, Err, IfOk, IfSome, OnOk}
-use Rattle.std.proofs.lemmas.Bool.{and_parts, both_ways, eq-eqb, eqb-true}
-use Rattle.std.proofs.lemmas.List.Sums.{sum_by-cons, sum_by_push}
-use Rattle.adr_value.specs.Payload.{name_of}
-use Rattle.adr_value.specs.Same.{same_type}
+-- The jobs that lay an event over groups, or take one out.
+use Rattle.std.proofs.Common.{◌≡◌, ◌⊎◌, inl, inr, ◌↔◌, ℕ, suc, ℤ, ◌+◌, ◌*◌, ◌≤◌, ◌==◌, ◌||◌, Bool, true, false, if◌then◌else◌, List, [], ◌∷◌, ◌++◌, drop, length, take, Option, Some, None, refl, ap, sym, subst, ◌∙◌, option_to_list, arith}
+use Rattle.std.specs.Prelude.{Result, Ok, Err, IfOk, IfSome}
+use Rattle.std.specs.Option.{option_map, option_map_or}
+use Rattle.std.proofs.lemmas.Bool.{both_ways, eq-eqb, eqb-true, false≢true}
 use Rattle.adr_value.specs.declared.payload.PayloadType.{PayloadType}
 use Rattle.adr_time.specs.Spans.{lasts, meets}
 use Rattle.adr_time.specs.declared.span.Span.{Span}
 use Rattle.adr_model.specs.declared.entry.Entry.{Entry}
 use Rattle.adr_model.specs.declared.entry.Rank.{Rank}
-use Rattle.adr_model.specs.declared.entry.Tie.{Tie}
 use Rattle.adr_model.specs.declared.timeline.Winner.{Winner}
-use Rattle.adr_model.specs.declared.written.Written.{Written}
 use Rattle.adr_model.specs.Entries.{meeting}
+use Rattle.adr_model.specs.Governor.{winner_at, winner_of}
 use Rattle.adr_model.specs.Lists.{In}
-use Rattle.adr_model.proofs.Lists.{bytes_eq_self, In-append_cases, In-append_left, In-append_right, In-filter, In-flat_map}
-use Rattle.adr_timeline.specs.Steps.{is_run}
+use Rattle.adr_model.specs.Timeline.{shows}
+use Rattle.adr_model.proofs.Lists.{In-filter, In-from_filter}
+use Rattle.adr_timeline.specs.Overlay.{spans_of}
+use Rattle.adr_timeline.specs.Steps.{is_run, rank_at}
+use Rattle.adr_timeline.specs.Windows.{any_covers}
 use Rattle.adr_timeline.proofs.Runs.{run_parts}
 use Rattle.adr_lines.specs.declared.grouped.TypeEntries.{TypeEntries}
-use Rattle.adr_lines.specs.Counted.{entries_in_groups}
 use Rattle.adr_lines.specs.Grouped.{entries_under}
 use Rattle.adr_lines.specs.Right.{has_number, written_in}
 use Rattle.adr_lines.specs.declared.indexes.Indexes.{Indexes}
-use Rattle.adr_lines.specs.Exchange.{IsIndexOf}
 use Rattle.adr_lines.specs.Indexes.{under}
-use Rattle.adr_group.specs.Group.{IsRightOf, Lines}
-use Rattle.adr_group.specs.Laid.{are_runs, AreOwnOf, IsComing}
-use Rattle.adr_group.specs.Repair.{most_inside, most_repaired}
-use Rattle.adr_group.specs.Writes.{changed_number}
+use Rattle.adr_group.specs.declared.job.Held.{Held}
+use Rattle.adr_group.specs.declared.job.Job.{Job}
+use Rattle.adr_group.specs.Group.{shown_in, Lines}
+use Rattle.adr_group.specs.Jobs.{most_done, IsJobOf, IsRightBefore, Task}
+use Rattle.adr_group.specs.Laid.{most_exchanged, AreOwnOf, IsComing, IsHeld, IsMet}
+use Rattle.adr_group.specs.Repair.{most_inside}
+use Rattle.adr_group.specs.Writes.{changed_number, is_number}
+use Rattle.adr_group.proofs.Joining.{ranks_held}
 use Rattle.adr_group.proofs.Possible.{cost_rises}
-use Rattle.adr_group.proofs.Turns.{most_both}
-use Rattle.adr_shared.specs.Map.{put}
+use Rattle.adr_group.proofs.Seen.{inside_append}
+use Rattle.adr_group.proofs.Tasks.{own_whole}
+use Rattle.adr_group.proofs.Turns.{under_both}
 use Rattle.adr_schedule.specs.declared.change.Change.{Change}
 use Rattle.adr_schedule.specs.declared.change.Side.{Side}
 use Rattle.adr_schedule.specs.declared.draft.Draft.{Draft}
-use Rattle.adr_schedule.specs.Draft.{most_drafted, AreDraftsOf, AreMadeSoFar, IsDraftOf, IsMadeOf}
-use Rattle.adr_schedule.specs.Shift.{kept_side, IsLaidBy}
-use Rattle.adr_schedule.specs.Slots.{in_slot}
-use Rattle.adr_schedule.proofs.Drafts.{in_before, in_last, one_made}
+use Rattle.adr_schedule.specs.Draft.{IsDraftOf}
+use Rattle.adr_schedule.specs.Shift.{entries_in, kept_side, number_in, IsLaidBy}
 use Rattle.adr_schedule.proofs.Variant.{kept_is}
 
 -- ---- what the entries of an event compare at least
@@ -51,12 +52,6 @@ some_in x (y ∷ ys) m = omega arith
 -- a span that lasts meets itself
 meets_self : (s : Span) → lasts s ≡ true → meets s s ≡ true
 meets_self s h = rw h refl
-
--- an entry of a group is among those of its type
-own_under : (groups : List TypeEntries) (g : TypeEntries) (e : Entry) → In g groups → In e g.entries.items → In e (entries_under groups g.payload_type)
-own_under groups g e m n =
-    In-flat_map (λ (h : TypeEntries). if same_type h.payload_type g.payload_type then h.entries.items else []) groups g e m
-    (subst (λ b. In e (if b then g.entries.items else [])) (sym (bytes_eq_self (name_of g.payload_type))) n)
 
 module _ (indexes : Indexes) (writes : List ℕ) (number : ℕ) (has : has_number writes number ≡ true) where
   -- each indexed entry of a write that lasts is compared where it is a window
@@ -74,16 +69,6 @@ module _ (indexes : Indexes) (writes : List ℕ) (number : ℕ) (has : has_numbe
     where
       by : (n m rest : ℕ) → 1 * (2 * 1 + 1) ≤ n * (2 * n + 1) → 3 * m ≤ rest → 3 * suc m ≤ n * (2 * n + 1) + rest
       by n m rest one more = omega (arith, one, more)
-
-  module _ (groups : List TypeEntries) (rank : Winner → Rank) (coming : IsComing indexes rank number groups) where
-    groups_least : (gs : List TypeEntries) → ((g : TypeEntries) → In g gs → In g groups) → are_runs gs ≡ true → 3 * entries_in_groups gs ≤ most_repaired gs writes indexes
-    groups_least [] held runs = omega arith
-    groups_least (g ∷ gs) held runs =
-        let parts = and_parts (is_run g.entries.items) (are_runs gs) runs in
-        let here = inside_least g.payload_type g.entries.items (λ e m. (coming.own g.payload_type e).1 (own_under groups g e (held g (inl refl)) m)) parts.0 in
-        let rest = groups_least gs (λ h m. held h (inr m)) parts.1 in
-        let whole = sum_by-cons (λ (h : TypeEntries). length h.entries.items) g gs in
-        omega (arith, whole, here, rest)
 
 -- ---- the numbers of the events that make a difference
 
@@ -105,201 +90,248 @@ not_there writes (Some s) side h = by (has_number writes s.written) refl h
     by true k e = absurd (cc)
     by false k e = let one : s ≡ side = cc in subst (λ (x : Side). has_number writes x.written ≡ false) one k
 
--- ---- a draft of a change whose events are indexed
+-- ---- two lists, one behind the other
 
-module _ (rank : Winner → Rank) (indexes : Indexes) (change : Change) (laid : IsLaidBy (Some rank) indexes change) (g : Lines) where
-  pub comes : (side : Side) → kept_side false g.writes change.come ≡ Some side → IsComing indexes rank side.written side.entries.items
-  comes side come = laid.comes rank side refl (kept_is false g.writes change.come side come)
-
-  pub goes : (side : Side) → kept_side true g.writes change.gone ≡ Some side → AreOwnOf indexes side.written side.entries.items
-  goes side gone = laid.goes rank side refl (kept_is true g.writes change.gone side gone)
-
-  module _ (d : Draft) (of : IsDraftOf change g d) where
-    -- to lay the event that comes compares no more than to repair its entries
-    come_least : (side : Side) → kept_side false g.writes change.come ≡ Some side → are_runs side.entries.items ≡ true → 3 * entries_in_groups side.entries.items ≤ most_repaired side.entries.items d.writes indexes
-    come_least side come runs = groups_least indexes d.writes side.written has side.entries.items rank (comes side come) side.entries.items (λ x m. m) runs
-      where
-        has : has_number d.writes side.written ≡ true
-        has = of.writes side.written ∙ (rw come (rw (eq-eqb side.written side.written refl) refl))
-
-    -- where none goes
-    module _ (side : Side) (gone : kept_side true g.writes change.gone ≡ None) (come : kept_side false g.writes change.come ≡ Some side) where
-      cost_joined : most_repaired d.windows.items d.writes indexes ≡ most_repaired side.entries.items d.writes indexes
-      cost_joined = of.windows.cost d.writes indexes ∙ (rw (gone, come) refl)
-
-      pub joined_least : are_runs side.entries.items ≡ true → 3 * entries_in_groups side.entries.items ≤ most_repaired d.windows.items d.writes indexes
-      joined_least runs = let least = come_least side come runs in omega (arith, least, cost_joined)
-
-      pub joined_made : (h : Lines) → h.writes ≡ d.writes → d.group ≡ g
-          → ((indexes : Indexes) (number : ℕ) → IsComing indexes rank number side.entries.items → has_number g.writes number ≡ false → ((n : ℕ) → has_number d.writes n ≡ changed_number None (Some number) g.writes n)
-          → (tie : Tie) (events : List Written) → IsIndexOf tie events indexes → IsRightOf tie events g → IsRightOf tie events h)
-          → IsMadeOf indexes d h
-      joined_made h writes same right = record {
-        writes = writes;
-        right = λ tie events index windows before.
-            right indexes side.written (comes side come) (not_there g.writes change.come side come) (λ n. of.writes n ∙ (rw (gone, come) refl)) tie events index
-            (subst (λ (x : Lines). IsRightOf tie events x) same before);
-      }
-
-    -- where none comes
-    module _ (side : Side) (gone : kept_side true g.writes change.gone ≡ Some side) (come : kept_side false g.writes change.come ≡ None) where
-      pub lost_cost : most_repaired d.windows.items d.writes indexes ≡ most_repaired side.entries.items d.writes indexes
-      lost_cost = of.windows.cost d.writes indexes ∙ (rw (gone, come) (ap (λ (gs : List TypeEntries). most_repaired gs d.writes indexes) (append-nil side.entries.items)))
-
-      pub lost_made : (h : Lines) → h.writes ≡ d.writes → d.group ≡ g
-          → ((others : List ℕ) → AreOwnOf indexes side.written side.entries.items → ((n : ℕ) → has_number d.writes n ≡ changed_number (Some side.written) None others n)
-          → (tie : Tie) (events : List Written) → IsIndexOf tie events indexes → IsRightOf tie events (record { writes = others; lines = g.lines }) → IsRightOf tie events h)
-          → IsMadeOf indexes d h
-      lost_made h writes same right = record {
-        writes = writes;
-        right = λ tie events index windows before.
-            right g.writes (goes side gone) (λ n. of.writes n ∙ (rw (gone, come) refl)) tie events index (subst (λ (x : Lines). IsRightOf tie events x) same before);
-      }
-
-    -- where one goes and one comes
-    module _ (left side : Side) (gone : kept_side true g.writes change.gone ≡ Some left) (come : kept_side false g.writes change.come ≡ Some side) where
-      cost_both : most_repaired d.windows.items d.writes indexes ≡ most_repaired left.entries.items d.writes indexes + most_repaired side.entries.items d.writes indexes
-      cost_both = of.windows.cost d.writes indexes ∙ (rw (gone, come) (most_both left.entries.items side.entries.items d.writes indexes))
-
-      pub both_least : are_runs side.entries.items ≡ true → most_repaired left.entries.items d.writes indexes + 3 * entries_in_groups side.entries.items ≤ most_repaired d.windows.items d.writes indexes
-      both_least runs = let least = come_least side come runs in omega (arith, least, cost_both)
-
-      pub both_made : (h : Lines) → h.writes ≡ d.writes → d.group ≡ g
-          → (IsComing indexes rank side.written side.entries.items → AreOwnOf indexes left.written left.entries.items → has_number g.writes side.written ≡ false → has_number g.writes left.written ≡ true
-          → ((n : ℕ) → has_number d.writes n ≡ changed_number (Some left.written) (Some side.written) g.writes n)
-          → (tie : Tie) (events : List Written) → IsIndexOf tie events indexes → IsRightOf tie events g → IsRightOf tie events h)
-          → IsMadeOf indexes d h
-      both_made h writes same right = record {
-        writes = writes;
-        right = λ tie events index windows before.
-            right (comes side come) (goes left gone) (not_there g.writes change.come side come) (was_there g.writes change.gone left gone) (λ n. of.writes n ∙ (rw (gone, come) refl)) tie events index
-            (subst (λ (x : Lines). IsRightOf tie events x) same before);
-      }
-
--- ---- what is made, where anything is
-
-pub some_has : (P : Lines → Type 0) (o : Option Lines) (h : Lines) → o ≡ Some h → IfSome o P → P h
-some_has P None h e p = absurd (cc)
-some_has P (Some x) h e p = let one : x ≡ h = cc in subst P one p
-
-pub if_both : {E : Type 0} (r : Result (Option Lines) E) (P Q R : Lines → Type 0) → ((h : Lines) → P h → Q h → R h)
-    → IfOk r (λ m. IfSome m P) → IfOk r (λ m. IfSome m Q) → IfOk r (λ m. IfSome m R)
-if_both (Ok None) P Q R f p q = tt
-if_both (Ok (Some h)) P Q R f p q = f h p q
-if_both (Err e) P Q R f p q = tt
-
-pub any_ok : {V E : Type 0} (r : Result V E) (X : Type 0) → X → OnOk r X
-any_ok (Ok v) X x = x
-any_ok (Err e) X x = tt
-
--- nothing is compared where nothing is made
-pub within : {E : Type 0} (r : Result (Option Lines) E) (P : Type 0) (most old new others : ℕ) → (r ≡ Ok None → new ≡ old) → IfOk r (λ m. IfSome m (λ h. P)) → OnOk r (new ≤ old + others) → (P → others ≤ most)
-    → OnOk r (new ≤ old + most)
-within (Ok None) P most old new others none some compared least = let same : new ≡ old = none refl in omega (arith, same)
-within (Ok (Some h)) P most old new others none some compared least = let l : others ≤ most = least some in let c : new ≤ old + others = compared in omega (arith, c, l)
-within (Err e) P most old new others none some compared least = tt
-
--- ---- the numbers of an exchange
-
--- first one comes, and then the other goes
-pub exchanged_numbers : (ws others : List ℕ) (gone come : ℕ) → has_number ws come ≡ false → has_number ws gone ≡ true → ((n : ℕ) → has_number others n ≡ changed_number (Some gone) (Some come) ws n)
-    → (n : ℕ) → has_number others n ≡ changed_number (Some gone) None (come ∷ ws) n
-exchanged_numbers ws others gone come lacks has both n = both n ∙ by (come == n) refl (gone == n) refl
+take_front : {X : Type 0} (xs ys : List X) → take (length xs) (xs ++ ys) ≡ xs
+take_front [] ys = none ys
   where
-    by : (c : Bool) → (come == n) ≡ c → (l : Bool) → (gone == n) ≡ l → (if c then true else if l then false else has_number ws n) ≡ (if l then false else (c || has_number ws n))
-    by true c true l =
-        let one : gone ≡ come = eqb-true gone n l ∙ sym (eqb-true come n c) in
-        absurd (both_ways (has_number ws come) lacks (ap (has_number ws) (sym one) ∙ has))
-    by true c false l = refl
-    by false c true l = refl
-    by false c false l = refl
+    none : {X : Type 0} (zs : List X) → take 0 zs ≡ []
+    none [] = refl
+    none (z ∷ zs) = refl
+take_front (x ∷ xs) ys = ap (λ l. x ∷ l) (take_front xs ys)
 
--- ---- one draft after the other
+drop_front : {X : Type 0} (xs ys : List X) → drop (length xs) (xs ++ ys) ≡ ys
+drop_front [] ys = refl
+drop_front (x ∷ xs) ys = drop_front xs ys
 
--- the drafts that are left may stand in another order
-pub same_left : (indexes : Indexes) (drafts rest others : List Draft) (made : List (List ℕ × Lines)) → ((d : Draft) → In d rest → In d others) → ((d : Draft) → In d others → In d rest)
-    → AreMadeSoFar indexes drafts rest made → AreMadeSoFar indexes drafts others made
-same_left indexes drafts rest others made goes comes a = record {
-  of = a.of;
-  has = λ d m. by d (a.has d m);
-  left = λ d m. a.left d (comes d m);
+pub front_fits : {X : Type 0} (xs ys zs : List X) → zs ≡ xs ++ ys → length xs ≤ length zs
+front_fits xs ys zs is = subst (λ l. length xs ≤ length l) (sym is) (shorter xs ys)
+  where
+    shorter : {X : Type 0} (xs ys : List X) → length xs ≤ length (xs ++ ys)
+    shorter [] ys = omega arith
+    shorter (x ∷ xs) ys = let rest = shorter xs ys in omega (arith, rest)
+
+-- ---- one side that comes and one that goes, of one type
+
+module _ (rank : Winner → Rank) (indexes : Indexes) (k : PayloadType) (ws : List ℕ) where
+  abbrev es : List Entry
+  es = under indexes k
+
+  -- the writes with the number that comes
+  abbrev pub with_come : Option Side → List ℕ
+  with_come come = option_to_list (number_in come) ++ ws
+
+  abbrev come_of : Option Side → List Entry
+  come_of come = entries_under (entries_in come) k
+
+  -- the entries of both writes are the old ones and those that come
+  both_come : (come : Option Side) → ((s : Side) → come ≡ Some s → IsComing indexes rank s.written s.entries.items)
+      → (e : Entry) → In e (written_in (with_come come) es) ↔ (In e (written_in ws es) ⊎ In e (come_of come))
+  both_come None coming e = (λ m. inl m, λ m. by m)
+    where
+      by : In e (written_in ws es) ⊎ In e [] → In e (written_in ws es)
+      by (inl n) = n
+      by (inr n) = absurd n
+  both_come (Some s) coming e = (λ m. there (In-from_filter of_both es e m), λ m. back m)
+    where
+      of_both : Entry → Bool
+      of_both x = has_number (s.written ∷ ws) x.rank.written
+
+      own : (In e es × (e.rank.written ≡ s.written)) ↔ In e (come_of (Some s))
+      own = (coming s refl).own k e
+
+      there : In e es × (has_number (s.written ∷ ws) e.rank.written ≡ true) → In e (written_in ws es) ⊎ In e (come_of (Some s))
+      there f = by (s.written == e.rank.written) refl f.1
+        where
+          by : (b : Bool) → (s.written == e.rank.written) ≡ b → (b || has_number ws e.rank.written) ≡ true → In e (written_in ws es) ⊎ In e (come_of (Some s))
+          by true same h = inr (own.0 (f.0, sym (eqb-true s.written e.rank.written same)))
+          by false same h = inl (In-filter (λ (x : Entry). has_number ws x.rank.written) es e f.0 h)
+
+      has_both : (a b : Bool) → (a ≡ true) ⊎ (b ≡ true) → (a || b) ≡ true
+      has_both true b h = refl
+      has_both false b (inl h) = absurd (false≢true h)
+      has_both false b (inr h) = h
+
+      back : In e (written_in ws es) ⊎ In e (come_of (Some s)) → In e (written_in (s.written ∷ ws) es)
+      back (inl m) =
+          let f = In-from_filter (λ (x : Entry). has_number ws x.rank.written) es e m in
+          In-filter (λ (x : Entry). has_number (s.written ∷ ws) x.rank.written) es e f.0 (has_both (s.written == e.rank.written) (has_number ws e.rank.written) (inr f.1))
+      back (inr m) =
+          let f = own.1 m in
+          In-filter (λ (x : Entry). has_number (s.written ∷ ws) x.rank.written) es e f.0 (has_both (s.written == e.rank.written) (has_number ws e.rank.written) (inl (eq-eqb s.written e.rank.written (sym f.1))))
+
+  -- where an entry comes the ranks are those of the old ones
+  old_ranks : (come : Option Side) → ((s : Side) → come ≡ Some s → IsComing indexes rank s.written s.entries.items) → ((s : Side) → come ≡ Some s → has_number ws s.written ≡ false)
+      → (t : ℤ) → any_covers (spans_of (come_of come)) t ≡ true → option_map rank (winner_at (written_in ws es) t) ≡ rank_at (written_in ws es) t
+  old_ranks None coming lacks t c = absurd (false≢true c)
+  old_ranks (Some s) coming lacks t c = ranks_held rank (written_in ws es) t held
+    where
+      held : (e : Entry) → In e (written_in ws es) → rank (winner_of e) ≡ e.rank
+      held e m =
+          let f = In-from_filter (λ (x : Entry). has_number ws x.rank.written) es e m in
+          (coming s refl).ranks k e f.0 (λ same. both_ways (has_number ws s.written) (lacks s refl) (subst (λ n. has_number ws n ≡ true) same f.1))
+
+  -- the numbers change as one comes, and then the other goes
+  numbers_then : (gone come : Option Side) → ((s : Side) → come ≡ Some s → has_number ws s.written ≡ false) → ((s : Side) → gone ≡ Some s → has_number ws s.written ≡ true)
+      → (n : ℕ) → changed_number (number_in gone) (number_in come) ws n ≡ changed_number (number_in gone) None (with_come come) n
+  numbers_then gone None lacks has n = refl
+  numbers_then None (Some s) lacks has n = by (s.written == n)
+    where
+      by : (b : Bool) → (if b then true else has_number ws n) ≡ (b || has_number ws n)
+      by true = refl
+      by false = refl
+  numbers_then (Some l) (Some s) lacks has n = by (s.written == n) refl (l.written == n) refl
+    where
+      by : (c : Bool) → (s.written == n) ≡ c → (b : Bool) → (l.written == n) ≡ b → (if c then true else if b then false else has_number ws n) ≡ (if b then false else (c || has_number ws n))
+      by true c true b =
+          let one : l.written ≡ s.written = eqb-true l.written n b ∙ sym (eqb-true s.written n c) in
+          absurd (both_ways (has_number ws s.written) (lacks s refl) (ap (has_number ws) (sym one) ∙ has l refl))
+      by true c false b = refl
+      by false c true b = refl
+      by false c false b = refl
+
+  -- the entries of the one that goes
+  gone_own : (gone : Option Side) → ((s : Side) → gone ≡ Some s → AreOwnOf indexes s.written s.entries.items)
+      → (e : Entry) → In e es → is_number (number_in gone) e.rank.written ≡ true → In e (entries_under (entries_in gone) k)
+  gone_own None own e m h = absurd (false≢true h)
+  gone_own (Some s) own e m h = (own s refl k e).0 (m, sym (eqb-true s.written e.rank.written h))
+
+  -- to lay those that come compares no more than to build them
+  come_least : (come : Option Side) (writes : List ℕ) → ((s : Side) → come ≡ Some s → IsComing indexes rank s.written s.entries.items) → ((s : Side) → come ≡ Some s → has_number writes s.written ≡ true)
+      → is_run (come_of come) ≡ true → 3 * length (come_of come) ≤ most_inside writes es (come_of come)
+  come_least None writes coming has run = omega arith
+  come_least (Some s) writes coming has run = inside_least indexes writes s.written (has s refl) k (come_of (Some s)) (λ e m. ((coming s refl).own k e).1 m) run
+
+-- ---- the job of one type of a draft
+
+module _ (rank : Winner → Rank) (indexes : Indexes) (change : Change) (laid : IsLaidBy (Some rank) indexes change) (d : Draft) (of : IsDraftOf change d.group d) (w : TypeEntries) (m : In w d.windows.items) where
+  abbrev k : PayloadType
+  k = w.payload_type
+
+  abbrev ws : List ℕ
+  ws = d.group.writes
+
+  abbrev gone : Option Side
+  gone = kept_side true ws change.gone
+
+  abbrev come : Option Side
+  come = kept_side false ws change.come
+
+  abbrev left : List Entry
+  left = entries_under (entries_in gone) k
+
+  abbrev coming : List Entry
+  coming = entries_under (entries_in come) k
+
+  comes : (s : Side) → come ≡ Some s → IsComing indexes rank s.written s.entries.items
+  comes s h = laid.comes rank s refl (kept_is false ws change.come s h)
+
+  goes : (s : Side) → gone ≡ Some s → AreOwnOf indexes s.written s.entries.items
+  goes s h = laid.goes rank s refl (kept_is true ws change.gone s h)
+
+  lacks : (s : Side) → come ≡ Some s → has_number ws s.written ≡ false
+  lacks s h = not_there ws change.come s h
+
+  had : (s : Side) → gone ≡ Some s → has_number ws s.written ≡ true
+  had s h = was_there ws change.gone s h
+
+  has : (s : Side) → come ≡ Some s → has_number d.writes s.written ≡ true
+  has s h = of.writes s.written ∙ (rw h (rw (eq-eqb s.written s.written refl) refl))
+
+  -- the windows are the entries of the one that goes, and then those of the one that comes
+  pub whole : w.entries.items ≡ left ++ coming
+  whole = sym (own_whole d.windows.items w of.windows.own m) ∙ (of.windows.under k ∙ under_both (entries_in gone) (entries_in come) k)
+
+  module _ (job : Job) (n : ℕ) (writes : job.writes ≡ d.writes) (windows : job.windows ≡ w) (line : (t : ℤ) → shows job.line t ≡ shown_in d.group.lines k t) (count : n ≡ length left)
+      (first : IfSome job.held (λ h. h.leaving ≡ n)) (number : IfSome job.held (λ h. h.gone ≡ number_in gone)) (met : IfSome job.held (λ h. IsMet rank job.line (drop n w.entries.items) h.shown.items)) where
+    abbrev task : Task
+    task = record { group = d.group; writes = d.writes; windows = w }
+
+    dropped : drop n w.entries.items ≡ coming
+    dropped = ap (λ i. drop i w.entries.items) count ∙ ap (drop (length left)) whole ∙ drop_front left coming
+
+    taken : take n w.entries.items ≡ left
+    taken = ap (λ i. take i w.entries.items) count ∙ ap (take (length left)) whole ∙ take_front left coming
+
+    held_right : (h : Held) → h.leaving ≡ n → h.gone ≡ number_in gone → IsMet rank job.line (drop n w.entries.items) h.shown.items → IsRightBefore indexes task
+        → IsHeld d.writes (under indexes k) w.entries.items job.line h
+    held_right h leaving of_gone is_met right = record {
+      others = ws;
+      both = with_come rank indexes k ws come;
+      right = λ t. line t ∙ right t;
+      in_turn = is_met.in_turn;
+      run = subst (λ i. is_run (drop i w.entries.items) ≡ true) (sym leaving) is_met.run;
+      shown = λ t c.
+          (let here : any_covers (spans_of (drop n w.entries.items)) t ≡ true = subst (λ i. any_covers (spans_of (drop i w.entries.items)) t ≡ true) leaving c in
+          is_met.shows t here
+          ∙ (ap (option_map rank) (line t ∙ right t)
+          ∙ old_ranks rank indexes k ws come comes lacks t (subst (λ xs. any_covers (spans_of xs) t ≡ true) dropped here)));
+      comes = λ e. subst (λ xs. In e (written_in (with_come rank indexes k ws come) (under indexes k)) ↔ (In e (written_in ws (under indexes k)) ⊎ In e xs))
+          (sym (ap (λ i. drop i w.entries.items) leaving ∙ dropped)) (both_come rank indexes k ws come comes e);
+      goes = λ i. of.writes i ∙ (numbers_then rank indexes k ws gone come lacks had i
+          ∙ ap (λ (o : Option ℕ). changed_number o None (with_come rank indexes k ws come) i) (sym of_gone));
+      own = λ e i c. subst (λ xs. In e xs) (sym (ap (λ j. take j w.entries.items) leaving ∙ taken))
+          (gone_own rank indexes k ws gone goes e i (subst (λ (o : Option ℕ). is_number o e.rank.written ≡ true) of_gone c));
+    }
+
+    held_cost : (h : Held) → h.leaving ≡ n → h.gone ≡ number_in gone → IsMet rank job.line (drop n w.entries.items) h.shown.items
+        → most_exchanged d.writes (under indexes k) w.entries.items h ≤ most_inside d.writes (under indexes k) w.entries.items
+    held_cost h leaving of_gone is_met =
+        let parts : most_inside d.writes (under indexes k) w.entries.items ≡ most_inside d.writes (under indexes k) left + most_inside d.writes (under indexes k) coming =
+            ap (most_inside d.writes (under indexes k)) whole ∙ inside_append d.writes (under indexes k) left coming in
+        let few : length h.shown.items ≤ 2 * length coming = subst (λ xs. length h.shown.items ≤ 2 * length xs) dropped is_met.few in
+        let most = come_least rank indexes k ws come d.writes comes has (subst (λ xs. is_run xs ≡ true) dropped is_met.run) in
+        let here : length (drop h.leaving w.entries.items) ≡ length coming = ap length (ap (λ i. drop i w.entries.items) leaving ∙ dropped) in
+        let there = less h.gone in
+        omega (arith, parts, few, most, here, there)
+      where
+        less : (o : Option ℕ) → option_map_or (λ i. most_inside d.writes (under indexes k) (take h.leaving w.entries.items)) o 0 ≤ most_inside d.writes (under indexes k) left
+        less None = omega arith
+        less (Some i) = let same = ap (most_inside d.writes (under indexes k)) (ap (λ j. take j w.entries.items) leaving ∙ taken) in omega (arith, same)
+
+    all_cost : (vs : List ℕ) (v : TypeEntries) (o : Option Held) → vs ≡ d.writes → v ≡ w → IfSome o (λ h. h.leaving ≡ n) → IfSome o (λ h. h.gone ≡ number_in gone) → IfSome o (λ h. IsMet rank job.line (drop n w.entries.items) h.shown.items)
+        → option_map_or (λ h. most_exchanged vs (under indexes v.payload_type) v.entries.items h) o (most_inside vs (under indexes v.payload_type) v.entries.items)
+        ≤ most_inside d.writes (under indexes k) w.entries.items
+    all_cost vs v None e f a b c = rw (e, f) (omega arith)
+    all_cost vs v (Some h) e f a b c = rw (e, f) (held_cost h a b c)
+
+    all_held : (o : Option Held) → IfSome o (λ h. h.leaving ≡ n) → IfSome o (λ h. h.gone ≡ number_in gone) → IfSome o (λ h. IsMet rank job.line (drop n w.entries.items) h.shown.items) → IsRightBefore indexes task
+        → IfSome o (λ h. IsHeld d.writes (under indexes k) w.entries.items job.line h)
+    all_held None a b c right = tt
+    all_held (Some h) a b c right = held_right h a b c right
+
+    pub job_exchanges : IsJobOf indexes task job
+    job_exchanges = record {
+      writes = writes;
+      windows = windows;
+      line = line;
+      held = all_held job.held first number met;
+      cost = all_cost job.writes job.windows job.held writes windows first number met;
+    }
+
+-- what holds of a result where all of some does
+pub all_ok : {T E : Type 0} (r : Result T E) (A B C D F G H : T → Type 0) → IfOk r A → IfOk r B → IfOk r C → IfOk r D → IfOk r F → IfOk r G
+    → ((x : T) → A x → B x → C x → D x → F x → G x → H x) → IfOk r H
+all_ok (Ok x) A B C D F G H a b c d f g by = by x a b c d f g
+all_ok (Err e) A B C D F G H a b c d f g by = tt
+
+-- where nothing is held, the job builds
+pub job_builds : (indexes : Indexes) (task : Task) (job : Job) → job.writes ≡ task.writes → job.windows ≡ task.windows → ((t : ℤ) → shows job.line t ≡ shown_in task.group.lines task.windows.payload_type t) → job.held ≡ None
+    → IsJobOf indexes task job
+job_builds indexes task job writes windows line none = record {
+  writes = writes;
+  windows = windows;
+  line = line;
+  held = λ right. held job.held none;
+  cost = cost job.writes job.windows job.held writes windows none;
 }
   where
-    by : (d : Draft) → In d rest ⊎ ((h : Lines) × (in_slot made d.slot ≡ Some h)) → In d others ⊎ ((h : Lines) × (in_slot made d.slot ≡ Some h))
-    by d (inl m) = inl (goes d m)
-    by d (inr k) = inr k
+    held : (o : Option Held) → o ≡ None → IfSome o (λ h. IsHeld task.writes (under indexes task.windows.payload_type) task.windows.entries.items job.line h)
+    held None e = tt
+    held (Some h) e = absurd (cc)
 
-module _ {X : Type 0} (x : X) (xs ys : List X) where
-  to_front : (y : X) → In y ((xs ++ x ∷ []) ++ ys) → In y (x ∷ (xs ++ ys))
-  to_front y m = by (In-append_cases y (xs ++ x ∷ []) ys m)
-    where
-      one : In y xs ⊎ In y (x ∷ []) → In y (x ∷ (xs ++ ys))
-      one (inl a) = inr (In-append_left y xs ys a)
-      one (inr (inl e)) = inl e
-      one (inr (inr f)) = absurd f
-
-      by : In y (xs ++ x ∷ []) ⊎ In y ys → In y (x ∷ (xs ++ ys))
-      by (inl a) = one (In-append_cases y xs (x ∷ []) a)
-      by (inr b) = inr (In-append_right y xs ys b)
-
-  from_front : (y : X) → In y (x ∷ (xs ++ ys)) → In y ((xs ++ x ∷ []) ++ ys)
-  from_front y (inl e) = subst (λ z. In z ((xs ++ x ∷ []) ++ ys)) e (In-append_left x (xs ++ x ∷ []) ys (in_last x xs))
-  from_front y (inr m) = by (In-append_cases y xs ys m)
-    where
-      by : In y xs ⊎ In y ys → In y ((xs ++ x ∷ []) ++ ys)
-      by (inl a) = In-append_left y (xs ++ x ∷ []) ys (in_before y xs (x ∷ []) a)
-      by (inr b) = In-append_right y (xs ++ x ∷ []) ys b
-
-  to_back : (y : X) → In y (x ∷ (xs ++ ys)) → In y (xs ++ (ys ++ x ∷ []))
-  to_back y (inl e) = subst (λ z. In z (xs ++ (ys ++ x ∷ []))) e (In-append_right x xs (ys ++ x ∷ []) (in_last x ys))
-  to_back y (inr m) = by (In-append_cases y xs ys m)
-    where
-      by : In y xs ⊎ In y ys → In y (xs ++ (ys ++ x ∷ []))
-      by (inl a) = In-append_left y xs (ys ++ x ∷ []) a
-      by (inr b) = In-append_right y xs (ys ++ x ∷ []) (in_before y ys (x ∷ []) b)
-
-  from_back : (y : X) → In y (xs ++ (ys ++ x ∷ [])) → In y (x ∷ (xs ++ ys))
-  from_back y m = by (In-append_cases y xs (ys ++ x ∷ []) m)
-    where
-      one : In y ys ⊎ In y (x ∷ []) → In y (x ∷ (xs ++ ys))
-      one (inl b) = inr (In-append_right y xs ys b)
-      one (inr (inl e)) = inl e
-      one (inr (inr f)) = absurd f
-
-      by : In y xs ⊎ In y (ys ++ x ∷ []) → In y (x ∷ (xs ++ ys))
-      by (inl a) = inr (In-append_left y xs ys a)
-      by (inr b) = one (In-append_cases y ys (x ∷ []) b)
-
-module _ (indexes : Indexes) (all rest left : List Draft) (d : Draft) (made : List (List ℕ × Lines)) (before : AreMadeSoFar indexes all ((rest ++ d ∷ []) ++ left) made) where
-  first : AreMadeSoFar indexes all (d ∷ (rest ++ left)) made
-  first = same_left indexes all ((rest ++ d ∷ []) ++ left) (d ∷ (rest ++ left)) made (to_front d rest left) (from_front d rest left) before
-
-  -- the group of the draft is laid
-  pub one_laid : (after : List (List ℕ × Lines)) (h : Lines) → after ≡ put (d.slot ∷ []) h made → IsMadeOf indexes d h → AreMadeSoFar indexes all (rest ++ left) after
-  one_laid after h added right = one_made indexes all (d ∷ (rest ++ left)) (rest ++ left) d made after h refl added right first
-
-  -- or the draft is left
-  pub one_left : (more : List Draft) → more ≡ left ++ d ∷ [] → AreMadeSoFar indexes all (rest ++ more) made
-  one_left more pushed =
-      subst (λ l. AreMadeSoFar indexes all (rest ++ l) made) (sym pushed)
-      (same_left indexes all (d ∷ (rest ++ left)) (rest ++ (left ++ d ∷ [])) made (to_back d rest left) (from_back d rest left) first)
-
--- where no last item is there is none
-pub none_popped : {X : Type 0} (xs rest : List X) (n : ℕ) → n ≡ 0 → rest ≡ take (n - 1) xs → xs ≡ rest ++ [] → xs ≡ []
-none_popped xs rest n none taken all =
-    let first : n - 1 ≡ 0 = omega (arith, none) in
-    all ∙ append-nil rest ∙ taken ∙ ap (λ k. take k xs) first ∙ take_none xs
-  where
-    take_none : {X : Type 0} (xs : List X) → take 0 xs ≡ []
-    take_none [] = refl
-    take_none (x ∷ xs) = refl
-
--- the last of the drafts is taken
-pub last_draft : (change : Change) (drafts rest : List Draft) (d : Draft) → drafts ≡ rest ++ d ∷ [] → AreDraftsOf change drafts → IsDraftOf change d.group d
-last_draft change drafts rest d is of = of d (subst (λ l. In d l) (sym is) (in_last d rest))
-
-pub first_drafts : (change : Change) (drafts rest : List Draft) (d : Draft) → drafts ≡ rest ++ d ∷ [] → AreDraftsOf change drafts → AreDraftsOf change rest
-first_drafts change drafts rest d is of x m = of x (subst (λ l. In x l) (sym is) (in_before x rest (d ∷ []) m))
-
-pub last_cost : (indexes : Indexes) (drafts rest : List Draft) (d : Draft) → drafts ≡ rest ++ d ∷ [] → most_drafted indexes drafts ≡ most_drafted indexes rest + most_repaired d.windows.items d.writes indexes
-last_cost indexes drafts rest d is = ap (most_drafted indexes) is ∙ sum_by_push (λ (x : Draft). most_repaired x.windows.items x.writes indexes) rest d
+    cost : (vs : List ℕ) (v : TypeEntries) (o : Option Held) → vs ≡ task.writes → v ≡ task.windows → o ≡ None
+        → option_map_or (λ h. most_exchanged vs (under indexes v.payload_type) v.entries.items h) o (most_inside vs (under indexes v.payload_type) v.entries.items)
+        ≤ most_inside task.writes (under indexes task.windows.payload_type) task.windows.entries.items
+    cost vs v None e f g = rw (e, f) (omega arith)
+    cost vs v (Some h) e f g = absurd (cc)

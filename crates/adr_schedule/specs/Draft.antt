@@ -7,9 +7,8 @@ use Rattle.adr_lines.specs.declared.indexes.Indexes.{Indexes}
 use Rattle.adr_lines.specs.Exchange.{IsIndexOf}
 use Rattle.adr_lines.specs.Grouped.{entries_under}
 use Rattle.adr_lines.specs.Right.{has_number}
-use Rattle.adr_group.specs.declared.job.Job.{Job}
 use Rattle.adr_group.specs.Group.{AreWindowsOf, IsRightOf, Lines}
-use Rattle.adr_group.specs.Jobs.{jobs_for, AreAlike}
+use Rattle.adr_group.specs.Jobs.{tasks_for, AreGathered, Task}
 use Rattle.adr_group.specs.Repair.{most_repaired}
 use Rattle.adr_group.specs.Writes.{changed_number}
 use Rattle.adr_schedule.specs.declared.change.Change.{Change}
@@ -20,9 +19,9 @@ use Rattle.adr_schedule.specs.Slots.{in_slot}
 
 -- the windows that are there are those of the event that goes, of the one that comes, and of both
 pub record AreWindowsFor (change : Change) (windows : Windows) : Type 0 where
-  pub gone : IfSome windows.gone (λ w. AreAlike w.items (entries_in change.gone ++ []))
-  pub come : IfSome windows.come (λ w. AreAlike w.items (entries_in change.come))
-  pub both : IfSome windows.both (λ w. AreAlike w.items (entries_in change.gone ++ entries_in change.come))
+  pub gone : IfSome windows.gone (λ w. AreGathered w.items (entries_in change.gone ++ []))
+  pub come : IfSome windows.come (λ w. AreGathered w.items (entries_in change.come))
+  pub both : IfSome windows.both (λ w. AreGathered w.items (entries_in change.gone ++ entries_in change.come))
 
 -- the change makes no difference to the group
 abbrev pub IsSame : Change → Lines → Type 0
@@ -32,7 +31,7 @@ IsSame change g = (kept_side true g.writes change.gone ≡ None) × (kept_side f
 pub record IsDraftOf (change : Change) (g : Lines) (draft : Draft) : Type 0 where
   pub group : draft.group ≡ g
   pub writes : (n : ℕ) → has_number draft.writes n ≡ changed_number (number_in (kept_side true g.writes change.gone)) (number_in (kept_side false g.writes change.come)) g.writes n
-  pub windows : AreAlike draft.windows.items (sides_for change g.writes)
+  pub windows : AreGathered draft.windows.items (sides_for change g.writes)
 
 -- the draft is of the group in its slot
 abbrev pub IsDraftIn : Change → List (List ℕ × Lines) → Draft → Type 0
@@ -52,11 +51,11 @@ IsSeen change groups drafts slot = (g : Lines) → in_slot groups slot ≡ Some 
 abbrev pub AreSeen : Change → List (List ℕ × Lines) → List Draft → List (List ℕ × ℕ) → Type 0
 AreSeen change groups drafts seen = (s t : ℕ) → in_slot seen s ≡ Some t → IsSeen change groups drafts s
 
--- the jobs of a draft
-abbrev pub jobs_of : Draft → List Job
-jobs_of draft = jobs_for draft.writes draft.windows.items
+-- the tasks of a draft, one for each type
+abbrev pub tasks_of : Draft → List Task
+tasks_of draft = tasks_for draft.group draft.writes draft.windows.items
 
--- to do the jobs of the drafts compares at most so much
+-- to do the tasks of the drafts compares at most so much
 abbrev pub most_drafted : Indexes → List Draft → ℕ
 most_drafted indexes drafts = sum_by (λ d. most_repaired d.windows.items d.writes indexes) drafts
 

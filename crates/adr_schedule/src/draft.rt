@@ -4,7 +4,7 @@ ghost use Rattle.std.specs.Option.{option_copied, option_map_or};
 ghost use Rattle.adr_refusal.specs.Answer.{OnlyNoMemory};
 ghost use Rattle.adr_model.specs.Lists.{In};
 ghost use Rattle.adr_lines.specs.declared.indexes.Indexes.{Indexes as AllIndexes};
-ghost use Rattle.adr_group.specs.Jobs.{AreAlike};
+ghost use Rattle.adr_group.specs.Jobs.{AreGathered};
 ghost use Rattle.adr_schedule.specs.declared.draft.Draft.{Draft as AnyDraft};
 ghost use Rattle.adr_schedule.specs.Draft.{most_drafted, AreDraftsIn, AreDraftsOf, AreSeen, AreWindowsFor, IsDraftOf, IsSame, IsSeen};
 ghost use Rattle.adr_schedule.specs.Moves.{asked_at, is_among};
@@ -62,7 +62,7 @@ pub(crate) fn joining<'a>(writes: &Writes, side: &'a Option<Side>) -> Option<&'a
     }
 }
 
-fn number(side: Option<&Side>) -> Option<u64>
+pub(crate) fn number(side: Option<&Side>) -> Option<u64>
     ensures { result ≡ number_in (option_copied side.entry) }
 {
     match side {
@@ -77,7 +77,7 @@ fn shared_list(
     windows: &[TypeEntries],
     more: &[TypeEntries],
 ) -> Result<SharedWindows, Refusal>
-    ensures alike { IfOk result (λ shared. AreAlike shared.items (windows.now ++ more.now)) }
+    ensures alike { IfOk result (λ shared. AreGathered shared.items (windows.now ++ more.now)) }
     ensures refusal { OnlyNoMemory result }
 {
     let windows = shared_windows(alloc, windows, more)?;
@@ -92,9 +92,9 @@ fn known_list(
     windows: &[TypeEntries],
     more: &[TypeEntries],
 ) -> Result<SharedWindows, Refusal>
-    requires known { IfSome known.old (λ w. AreAlike w.items (windows.now ++ more.now)) }
-    ensures known { IfSome known.new (λ w. AreAlike w.items (windows.now ++ more.now)) }
-    ensures alike { IfOk result (λ w. AreAlike w.items (windows.now ++ more.now)) }
+    requires known { IfSome known.old (λ w. AreGathered w.items (windows.now ++ more.now)) }
+    ensures known { IfSome known.new (λ w. AreGathered w.items (windows.now ++ more.now)) }
+    ensures alike { IfOk result (λ w. AreGathered w.items (windows.now ++ more.now)) }
     ensures refusal { OnlyNoMemory result }
 {
     if let Some(known) = known {
@@ -129,7 +129,7 @@ impl Windows {
     ) -> Result<Option<SharedWindows>, Refusal>
         requires { AreWindowsFor change.now self.old }
         ensures kept { OnOk result (AreWindowsFor change.now self.new) }
-        ensures windows { IfOk result (λ found. MatchOption found ((kept_side true writes.now change.now.gone ≡ None) × (kept_side false writes.now change.now.come ≡ None)) (λ w. AreAlike w.items (sides_for change.now writes.now))) }
+        ensures windows { IfOk result (λ found. MatchOption found ((kept_side true writes.now change.now.gone ≡ None) × (kept_side false writes.now change.now.come ≡ None)) (λ w. AreGathered w.items (sides_for change.now writes.now))) }
         ensures refusal { OnlyNoMemory result }
     {
         let gone = leaving(writes, &change.gone);
@@ -189,7 +189,7 @@ pub(crate) fn draft_with(
 ) -> Result<Draft, Refusal>
     ensures group { IfOk result (λ draft. draft.group ≡ group.now) }
     ensures writes { IfOk result (λ draft. draft.writes ≡ writes.now) }
-    ensures windows { IfOk result (λ draft. AreAlike draft.windows.items windows.now) }
+    ensures windows { IfOk result (λ draft. AreGathered draft.windows.items windows.now) }
     ensures refusal { OnlyNoMemory result }
 {
     let windows = shared_list(alloc, &[], windows)?;

@@ -6,7 +6,6 @@ mod change;
 mod draft;
 mod exchange;
 mod gathered;
-mod laying;
 mod made;
 mod moves;
 mod place;

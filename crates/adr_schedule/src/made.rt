@@ -1,44 +1,153 @@
 //! The groups that are made of drafts.
-ghost use Rattle.std.specs.Prelude.{◌≡◌, ◌≤◌, ◌<◌, ◌+◌, ◌++◌, ◌∷◌, ◌^◌, List, [], flat_map, sum_by, IfOk, OnOk};
+ghost use Rattle.std.specs.Prelude.{◌≡◌, ◌≤◌, ◌<◌, ◌+◌, ◌∷◌, ◌^◌, Some, [], flat_map, length, sum_by, IfOk};
 ghost use Rattle.std.specs.List.{AllZip};
+ghost use Rattle.std.specs.Option.{option_copied, option_map};
 ghost use Rattle.adr_refusal.specs.Answer.{OnlyNoMemory};
+ghost use Rattle.adr_value.specs.Same.{same_type};
 ghost use Rattle.adr_shared.specs.Map.{put};
+ghost use Rattle.adr_model.specs.Lists.{In};
+ghost use Rattle.adr_lines.specs.Grouped.{entries_under, HaveOwnTypes};
 ghost use Rattle.adr_lines.specs.declared.indexes.Indexes.{Indexes as AllIndexes};
-ghost use Rattle.adr_group.specs.Jobs.{most_done, AreDone, IsCrew, IsDone};
+ghost use Rattle.adr_group.specs.Jobs.{most_done, AreDone, IsCrew, IsJobOf, IsTaskDone};
 ghost use Rattle.adr_group.specs.Repair.{most_repaired};
 ghost use Rattle.adr_schedule.specs.declared.draft.Draft.{Draft as AnyDraft};
-ghost use Rattle.adr_schedule.specs.Draft.{jobs_of as the_jobs_of, most_drafted, AreMadeOf, AreMadeSoFar, IsMadeOf};
+ghost use Rattle.adr_schedule.specs.Draft.{most_drafted, tasks_of, AreDraftsOf, AreMadeOf, IsDraftOf, IsMadeOf};
+ghost use Rattle.adr_schedule.specs.Shift.{entries_in, IsLaidBy};
 
-use crate::draft::Draft;
+use crate::change::{Change, Side};
+use crate::draft::{Draft, leaving, number};
 use adr_group::{Done, Group, Job};
-use adr_lines::Indexes;
+use adr_lines::{Indexes, TypeEntries};
 use adr_rule::Meter;
-use adr_shared::SharedMap;
-use adr_value::Refusal;
+use adr_shared::{Shared, SharedMap};
+use adr_timeline::Ranks;
+use adr_value::{PayloadType, Refusal};
 use std::alloc::Global;
 
-/// Adds the jobs of a draft.
-fn add_jobs(jobs: &mut Vec<Job>, draft: &Draft) -> Result<(), Refusal>
-    ensures jobs { OnOk result (jobs.new.items ≡ jobs.old.items ++ the_jobs_of draft.now) }
-    ensures refusal { OnlyNoMemory result }
+/// Whether the entries are of the type.
+fn is_of(entries: &TypeEntries, payload_type: &PayloadType) -> bool
+    ensures { result ≡ same_type entries.now.payload_type payload_type.now }
 {
-    let mut rest = draft.windows.get().as_slice();
-    'rest: while let Some((windows, more)) = rest.split_first() {
-        jobs.push(Job::new(&draft.writes, windows)?)?;
+    entries.payload_type.name() == payload_type.name()
+}
+
+/// How many entries there are under the type, where they are no more than so many.
+fn count_under(types: &[TypeEntries], payload_type: &PayloadType, most: usize) -> usize
+    ensures { length (entries_under types.now payload_type.now) ≤ most → result ≡ length (entries_under types.now payload_type.now) }
+{
+    let mut count: usize = 0;
+    let mut rest = types;
+    'rest: while let Some((entries, more)) = rest.split_first() {
+        if is_of(entries, payload_type) {
+            count = count.saturating_add(entries.entries.len());
+        }
         rest = more;
     }
-    Ok(())
+    count.min(most)
+}
+
+/// How many of the windows are entries of the event that goes: the first ones.
+fn count_leaving(gone: Option<&Side>, windows: &TypeEntries) -> usize
+    ensures { length (entries_under (entries_in (option_copied gone.entry)) windows.now.payload_type) ≤ length windows.now.entries.items → result ≡ length (entries_under (entries_in (option_copied gone.entry)) windows.now.payload_type) }
+{
+    match gone {
+        Some(gone) => {
+            let types = gone.entries.as_slice();
+            count_under(types, &windows.payload_type, windows.entries.len())
+        }
+        None => 0,
+    }
+}
+
+/// The job of one type of the draft, where there are ranks.
+fn exchange_job<R: Ranks>(
+    alloc: Global,
+    draft: &Draft,
+    windows: &Shared<TypeEntries>,
+    change: &Change,
+    ranks: &R,
+) -> Result<Job, Refusal>
+    requires draft { IsDraftOf change.now draft.now.group draft.now }
+    requires own { In windows.now draft.now.windows.items }
+    ensures job { IfOk result (λ job. (indexes : AllIndexes) → IsLaidBy (Some (R.rank ranks.now)) indexes change.now → IsJobOf indexes (record { group = draft.now.group; writes = draft.now.writes; windows = windows.now }) job) }
+    ensures refusal { OnlyNoMemory result }
+{
+    let gone = leaving(draft.group.writes(), &change.gone);
+    let first = count_leaving(gone, windows.get());
+    draft
+        .group
+        .exchange_job(alloc, &draft.writes, windows, first, number(gone), ranks)
+}
+
+/// The jobs of a draft that build what its writes show inside its windows.
+fn built_jobs(alloc: Global, draft: &Draft) -> Result<Vec<Job>, Refusal>
+    ensures jobs { IfOk result (λ jobs. (indexes : AllIndexes) → AllZip (IsJobOf indexes) (tasks_of draft.now) jobs.items) }
+    ensures refusal { OnlyNoMemory result }
+{
+    let mut jobs = Vec::new(alloc);
+    let mut rest = draft.windows.get().as_slice();
+    'rest: while let Some((windows, more)) = rest.split_first() {
+        let job = draft.group.job(alloc, &draft.writes, windows)?;
+        jobs.push(job)?;
+        rest = more;
+    }
+    Ok(jobs)
+}
+
+/// The jobs of a draft that exchange events.
+fn exchange_jobs<R: Ranks>(
+    alloc: Global,
+    draft: &Draft,
+    change: &Change,
+    ranks: &R,
+) -> Result<Vec<Job>, Refusal>
+    requires draft { IsDraftOf change.now draft.now.group draft.now }
+    ensures jobs { IfOk result (λ jobs. (indexes : AllIndexes) → IsLaidBy (Some (R.rank ranks.now)) indexes change.now → AllZip (IsJobOf indexes) (tasks_of draft.now) jobs.items) }
+    ensures refusal { OnlyNoMemory result }
+{
+    let mut jobs = Vec::new(alloc);
+    let mut rest = draft.windows.get().as_slice();
+    'rest: while let Some((windows, more)) = rest.split_first() {
+        let job = exchange_job(alloc, draft, windows, change, ranks)?;
+        jobs.push(job)?;
+        rest = more;
+    }
+    Ok(jobs)
+}
+
+/// The jobs of a draft: they exchange events where there are ranks.
+fn jobs_of<R: Ranks>(
+    alloc: Global,
+    draft: &Draft,
+    change: &Change,
+    ranks: Option<&R>,
+) -> Result<Vec<Job>, Refusal>
+    requires draft { IsDraftOf change.now draft.now.group draft.now }
+    ensures jobs { IfOk result (λ jobs. (indexes : AllIndexes) → IsLaidBy (option_map R.rank (option_copied ranks.entry)) indexes change.now → AllZip (IsJobOf indexes) (tasks_of draft.now) jobs.items) }
+    ensures refusal { OnlyNoMemory result }
+{
+    match ranks {
+        Some(ranks) => exchange_jobs(alloc, draft, change, ranks),
+        None => built_jobs(alloc, draft),
+    }
 }
 
 /// The jobs of all drafts, in order.
-fn jobs_of(alloc: Global, drafts: &[Draft]) -> Result<Vec<Job>, Refusal>
-    ensures jobs { IfOk result (λ jobs. jobs.items ≡ flat_map the_jobs_of drafts.now) }
+fn all_jobs<R: Ranks>(
+    alloc: Global,
+    drafts: &[Draft],
+    change: &Change,
+    ranks: Option<&R>,
+) -> Result<Vec<Job>, Refusal>
+    requires drafts { AreDraftsOf change.now drafts.now }
+    ensures jobs { IfOk result (λ jobs. (indexes : AllIndexes) → IsLaidBy (option_map R.rank (option_copied ranks.entry)) indexes change.now → AllZip (IsJobOf indexes) (flat_map tasks_of drafts.now) jobs.items) }
     ensures refusal { OnlyNoMemory result }
 {
     let mut jobs = Vec::new(alloc);
     let mut rest = drafts;
     'rest: while let Some((draft, more)) = rest.split_first() {
-        add_jobs(&mut jobs, draft)?;
+        let mut own = jobs_of(alloc, draft, change, ranks)?;
+        jobs.append(&mut own)?;
         rest = more;
     }
     Ok(jobs)
@@ -89,22 +198,24 @@ impl Made {
     }
 }
 
-/// The group of the draft, of what was built for it.
+/// The group of the draft, of what was done for it.
 fn made_of(alloc: Global, draft: &Draft, done: &[Done]) -> Result<Group, Refusal>
-    ensures made { IfOk result (λ made. (indexes : AllIndexes) → AllZip (IsDone indexes) (the_jobs_of draft.now) done.now → IsMadeOf indexes draft.now made) }
+    requires own { HaveOwnTypes draft.now.windows.items }
+    ensures made { IfOk result (λ made. (indexes : AllIndexes) → AllZip (IsTaskDone indexes) (tasks_of draft.now) done.now → IsMadeOf indexes draft.now made) }
     ensures refusal { OnlyNoMemory result }
 {
     let windows = draft.windows.get().as_slice();
-    let made = draft.group.with_built(alloc, &draft.writes, windows, done)?;
+    let made = draft.group.with_done(alloc, &draft.writes, windows, done)?;
     Ok(made)
 }
 
-/// The groups of the drafts, each in its slot, of what was built for them, beside those that were made before.
-fn made_each(alloc: Global, before: Made, drafts: &[Draft], done: &[Done]) -> Result<Made, Refusal>
-    ensures made { IfOk result (λ made. (indexes : AllIndexes) (all : List AnyDraft) → AllZip (IsDone indexes) (flat_map the_jobs_of drafts.now) done.now → AreMadeSoFar indexes all drafts.now before.groups → AreMadeOf indexes all made.groups) }
+/// The groups of the drafts, each in its slot, of what was done for them.
+fn made_each(alloc: Global, drafts: &[Draft], done: &[Done]) -> Result<Made, Refusal>
+    requires own { (d : AnyDraft) → In d drafts.now → HaveOwnTypes d.windows.items }
+    ensures made { IfOk result (λ made. (indexes : AllIndexes) → AllZip (IsTaskDone indexes) (flat_map tasks_of drafts.now) done.now → AreMadeOf indexes drafts.now made.groups) }
     ensures refusal { OnlyNoMemory result }
 {
-    let mut made = before;
+    let mut made = Made::new();
     let mut left = done;
     let mut rest = drafts;
     'rest: while let Some((draft, more)) = rest.split_first() {
@@ -136,7 +247,8 @@ fn done_by<C: Fn(&Indexes, &[Job]) -> Result<Vec<Done>, Refusal>>(
     crew(indexes, jobs)
 }
 
-/// The group of one draft: the crew does its jobs, one for each payload type. `NoMemory` where there is no room.
+/// The group of one draft: the crew builds what its writes show inside its windows, one job for each payload type.
+/// `NoMemory` where there is no room.
 pub(crate) fn one_made_by<C: Fn(&Indexes, &[Job]) -> Result<Vec<Done>, Refusal>>(
     alloc: Global,
     indexes: &Indexes,
@@ -144,40 +256,43 @@ pub(crate) fn one_made_by<C: Fn(&Indexes, &[Job]) -> Result<Vec<Done>, Refusal>>
     draft: &Draft,
     meter: &mut Meter,
 ) -> Result<Group, Refusal>
+    requires own { HaveOwnTypes draft.now.windows.items }
     requires room { meter.old + most_repaired draft.now.windows.items draft.now.writes indexes.now < 2 ^ 128 }
     requires crew { IsCrew (λ v. v.items) (C.pre crew.now) (C.post crew.now) }
     ensures made { IfOk result (IsMadeOf indexes.now draft.now) }
     ensures compared { meter.new ≤ meter.old + most_repaired draft.now.windows.items draft.now.writes indexes.now }
     ensures refusal { OnlyNoMemory result }
 {
-    let mut jobs = Vec::new(alloc);
-    add_jobs(&mut jobs, draft)?;
+    let jobs = built_jobs(alloc, draft)?;
     let done = done_by(indexes, crew, jobs.as_slice())?;
     count(meter, done.as_slice());
     let made = made_of(alloc, draft, done.as_slice())?;
     Ok(made)
 }
 
-/// The groups of all drafts, each in its slot: some were made before, and the crew does the jobs of those that are left.
-/// `NoMemory` where there is no room.
-pub(crate) fn made_by<C: Fn(&Indexes, &[Job]) -> Result<Vec<Done>, Refusal>>(
+/// The groups of all drafts of the change, each in its slot: the crew does their jobs, which exchange events where there
+/// are ranks. `NoMemory` where there is no room.
+pub(crate) fn made_by<C: Fn(&Indexes, &[Job]) -> Result<Vec<Done>, Refusal>, R: Ranks>(
     alloc: Global,
     indexes: &Indexes,
     crew: &C,
-    before: Made,
-    left: &[Draft],
+    drafts: &[Draft],
+    change: &Change,
+    ranks: Option<&R>,
     meter: &mut Meter,
 ) -> Result<SharedMap<u64, Group>, Refusal>
-    requires room { meter.old + most_drafted indexes.now left.now < 2 ^ 128 }
+    requires drafts { AreDraftsOf change.now drafts.now }
+    requires laid { IsLaidBy (option_map R.rank (option_copied ranks)) indexes.now change.now }
+    requires room { meter.old + most_drafted indexes.now drafts.now < 2 ^ 128 }
     requires crew { IsCrew (λ v. v.items) (C.pre crew.now) (C.post crew.now) }
-    ensures made { IfOk result (λ made. (all : List AnyDraft) → AreMadeSoFar indexes.now all left.now before.groups → AreMadeOf indexes.now all made) }
-    ensures compared { meter.new ≤ meter.old + most_drafted indexes.now left.now }
+    ensures made { IfOk result (AreMadeOf indexes.now drafts.now) }
+    ensures compared { meter.new ≤ meter.old + most_drafted indexes.now drafts.now }
     ensures refusal { OnlyNoMemory result }
 {
-    let jobs = jobs_of(alloc, left)?;
+    let jobs = all_jobs(alloc, drafts, change, ranks)?;
     let done = done_by(indexes, crew, jobs.as_slice())?;
     count(meter, done.as_slice());
-    let made = made_each(alloc, before, left, done.as_slice())?;
+    let made = made_each(alloc, drafts, done.as_slice())?;
     let groups = made.groups.copy()?;
     Ok(groups)
 }

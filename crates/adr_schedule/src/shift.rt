@@ -19,7 +19,6 @@ ghost use Rattle.adr_lines.specs.Exchange.{IsIndexOf};
 use crate::change::Change;
 use crate::draft::{Drafted, drafts_of};
 use crate::exchange::exchanged;
-use crate::laying::{Laid, laid_over};
 use crate::made::made_by;
 use crate::moves::{Moves, sit};
 use crate::schedule::Schedule;
@@ -146,8 +145,7 @@ struct Remade {
 }
 
 impl Schedule {
-    /// What becomes of the groups of the places that the change touches, each in its slot: the event that comes is laid
-    /// over them, and the one that goes taken out; and the crew does the jobs of those where it cannot be laid.
+    /// What becomes of the groups of the places that the change touches, each in its slot: the crew does their jobs.
     fn made_for<C: Fn(&Indexes, &[Job]) -> Result<Vec<Done>, Refusal>, R: Ranks>(
         &self,
         alloc: Global,
@@ -170,9 +168,7 @@ impl Schedule {
     {
         let drafted = drafts_of(alloc, self.seats.get(), &self.groups, places, change)?;
         let Drafted { list, slots } = drafted;
-        let laid = laid_over(alloc, indexes, change, ranks, list, meter)?;
-        let Laid { made, left } = laid;
-        let groups = made_by(alloc, indexes, crew, made, left.as_slice(), meter)?;
+        let groups = made_by(alloc, indexes, crew, list.as_slice(), change, ranks, meter)?;
         Ok(Remade { groups, slots })
     }
 
@@ -197,16 +193,14 @@ impl Schedule {
     /// the writes of a place's group it is not any more, and where the other was not it is.
     ///
     /// Members of one group among the places stay together, and each group is made once: in its slot where all its members
-    /// are among the places, and so those of all others; else in a slot of its own, to which they move. Where there are
-    /// ranks, the event that comes is laid over the timelines of the groups, which needs no look at the index, and then the
-    /// windows of the one that goes are built anew in which it still governs. The crew repairs the groups over which the
-    /// entries cannot be laid, and all groups where there are no ranks, inside the entries of the events, one job a payload
-    /// type.
+    /// are among the places, and so those of all others; else in a slot of its own, to which they move. The crew makes the
+    /// groups, one job a payload type. Where there are ranks, the job lays the event that comes over the timeline, which
+    /// needs no look at the index, and then builds anew the windows of the one that goes in which it still governs. It
+    /// builds anew all entries of the events where the new ones cannot be laid, and where there are no ranks.
     ///
-    /// Cost: for each place a look-up; where places move, some more, and a copy of the table of seats; for each group
-    /// that is laid and each type of the events a search of the timeline for each entry, a rank for each segment that
-    /// is met, one splice, and a repair of the windows in which the event that goes governs; and that of the jobs of
-    /// the others.
+    /// Cost: for each place a look-up; where places move, some more, and a copy of the table of seats; for each group and
+    /// each type of the events a copy of the table of its timeline's chunks, a search of the timeline for each entry that
+    /// comes and a rank for each segment that is met; and that of the jobs.
     ///
     /// # Errors
     ///

@@ -35,15 +35,15 @@ create resource r1 {"resourceName":"R","venID":"v1"}
 create resource r2 {"resourceName":"Q","venID":"v1"}
 create event e1 {"programID":"p1","intervals":[{"id":0,"intervalPeriod":{"start":"2024-01-01T00:00:00Z","duration":"PT2H"},"payloads":[{"type":"PRICE","values":[10]},{"type":"X_LOAD","values":["a b",true,{"x":1,"y":2.50}]}]}],"targets":[{"type":"RESOURCE_NAME","values":["R"]}]}"#;
 
-/// Edits, how many of them go before one that has two jobs or more, and the rule for ties: changes of an event, of a
-/// ven, of a resource and of a program, and an event that comes. Under the rule of the newest an event that comes or
-/// changes is laid over what is shown, by the calling thread.
-const MEETINGS: [(&str, usize, Tie); 5] = [
-    (EDITS, 7, Tie::LatestStart),
-    (EDITS, 10, Tie::Newest),
-    (EDITS, 11, Tie::Newest),
-    (EDITS, 12, Tie::Newest),
-    (TWO_TYPES, 4, Tie::LatestStart),
+/// Edits, and how many of them go before one that has two jobs or more: changes of an event, of a ven, of a resource and of
+/// a program, an event that goes, and one that comes.
+const MEETINGS: [(&str, usize); 6] = [
+    (EDITS, 7),
+    (EDITS, 10),
+    (EDITS, 11),
+    (EDITS, 12),
+    (EDITS, 16),
+    (TWO_TYPES, 4),
 ];
 
 /// Each of two workers waits at its first job until the other has begun.
@@ -142,9 +142,11 @@ fn meet<R: AllocGlobal + Clock + Threads + Sync>(
 
 #[test]
 fn two_workers_run_at_once(rt: HostRuntime) -> Result<(), Fail> {
-    for (edits, count, tie) in MEETINGS {
-        let meeting = Meeting::new(rt.clone()?);
-        assert!(rt; meet(&rt, &meeting, tie, (edits, count))?, "{count}");
+    for edits in MEETINGS {
+        for tie in [Tie::Newest, Tie::LatestStart] {
+            let meeting = Meeting::new(rt.clone()?);
+            assert!(rt; meet(&rt, &meeting, tie, edits)?, "{}", edits.1);
+        }
     }
     Ok(())
 }

@@ -3,7 +3,8 @@ use Rattle.std.proofs.lemmas.List.Sums.{sum_by-cons}
 use Rattle.adr_schedule.specs.Moves.{asked_at}
 use Rattle.adr_schedule.specs.Shift.{most_shifted}
 use Rattle.adr_schedule.specs.Tally.{IsTallied}
-use Rattle.adr_schedule.proofs.Drafts.{next_seen}
+use Rattle.adr_schedule.proofs.Drafts.{next_seen, seen_at_end}
+use Rattle.adr_schedule.proofs.Shifts.{none_left}
 use Rattle.adr_schedule.proofs.draft.drafts_of.Goals as goal
 
 pub rest-preserved : goal.rest-preserved
@@ -28,3 +29,6 @@ rest-preserved c =
           let one = new.ensures.least indexes in
           omega (arith, parts, before, one));
     }
+
+pub returns-clause-seen : goal.returns-clause-seen
+returns-clause-seen c place slot among at = seen_at_end c.rest.rest.now place (none_left c.rest.rest.now c.in_default.ensures.cases) (c.rest.invariant.seen place slot among at)
