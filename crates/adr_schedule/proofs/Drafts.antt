@@ -13,11 +13,10 @@ use Rattle.adr_lines.specs.Grouped.{any_covers_at, entries_under}
 use Rattle.adr_lines.specs.Right.{has_number}
 use Rattle.adr_lines.specs.declared.indexes.Indexes.{Indexes}
 use Rattle.adr_lines.specs.Exchange.{IsIndexOf}
-use Rattle.adr_lines.specs.Indexes.{under}
 use Rattle.adr_group.specs.declared.job.Job.{Job}
 use Rattle.adr_group.specs.Group.{AreWindowsOf, IsRightOf, Lines}
 use Rattle.adr_group.specs.Jobs.{most_done, AreGathered, IsJobOf}
-use Rattle.adr_group.specs.Repair.{most_inside, most_possible, most_repaired}
+use Rattle.adr_group.specs.Repair.{most_possible, most_repaired}
 use Rattle.adr_group.proofs.Possible.{both_possible, possible}
 use Rattle.adr_group.proofs.Tasks.{jobs_compare, most_asked, tasks_compare}
 use Rattle.adr_shared.specs.Map.{put}

@@ -25,8 +25,8 @@ use Rattle.adr_lines.specs.declared.indexes.Indexes.{Indexes}
 use Rattle.adr_lines.specs.Indexes.{under}
 use Rattle.adr_group.specs.declared.job.Held.{Held}
 use Rattle.adr_group.specs.declared.job.Job.{Job}
-use Rattle.adr_group.specs.Group.{shown_in, Lines}
-use Rattle.adr_group.specs.Jobs.{most_done, IsJobOf, IsRightBefore, Task}
+use Rattle.adr_group.specs.Group.{shown_in}
+use Rattle.adr_group.specs.Jobs.{IsJobOf, IsRightBefore, Task}
 use Rattle.adr_group.specs.Laid.{most_exchanged, AreOwnOf, IsComing, IsHeld, IsMet}
 use Rattle.adr_group.specs.Repair.{most_inside}
 use Rattle.adr_group.specs.Writes.{changed_number, is_number}
@@ -202,6 +202,11 @@ module _ (rank : Winner → Rank) (indexes : Indexes) (k : PayloadType) (ws : Li
   come_least None writes coming has run = omega arith
   come_least (Some s) writes coming has run = inside_least indexes writes s.written (has s refl) k (come_of (Some s)) (λ e m. ((coming s refl).own k e).1 m) run
 
+-- however few are met, laying compares no more than building
+laid_least : (met come most : ℕ) → (met ≤ 2 * come) ⊎ (met + come ≤ most) → 3 * come ≤ most → met + come ≤ most
+laid_least met come most (inl few) least = omega (arith, few, least)
+laid_least met come most (inr few) least = few
+
 -- ---- the job of one type of a draft
 
 module _ (rank : Winner → Rank) (indexes : Indexes) (change : Change) (laid : IsLaidBy (Some rank) indexes change) (d : Draft) (of : IsDraftOf change d.group d) (w : TypeEntries) (m : In w d.windows.items) where
@@ -243,7 +248,7 @@ module _ (rank : Winner → Rank) (indexes : Indexes) (change : Change) (laid : 
   whole = sym (own_whole d.windows.items w of.windows.own m) ∙ (of.windows.under k ∙ under_both (entries_in gone) (entries_in come) k)
 
   module _ (job : Job) (n : ℕ) (writes : job.writes ≡ d.writes) (windows : job.windows ≡ w) (line : (t : ℤ) → shows job.line t ≡ shown_in d.group.lines k t) (count : n ≡ length left)
-      (first : IfSome job.held (λ h. h.leaving ≡ n)) (number : IfSome job.held (λ h. h.gone ≡ number_in gone)) (met : IfSome job.held (λ h. IsMet rank job.line (drop n w.entries.items) h.shown.items)) where
+      (first : IfSome job.held (λ h. h.leaving ≡ n)) (number : IfSome job.held (λ h. h.gone ≡ number_in gone)) (met : IfSome job.held (λ h. IsMet rank d.writes (under indexes k) job.line (drop n w.entries.items) h.shown.items)) where
     abbrev task : Task
     task = record { group = d.group; writes = d.writes; windows = w }
 
@@ -253,7 +258,7 @@ module _ (rank : Winner → Rank) (indexes : Indexes) (change : Change) (laid : 
     taken : take n w.entries.items ≡ left
     taken = ap (λ i. take i w.entries.items) count ∙ ap (take (length left)) whole ∙ take_front left coming
 
-    held_right : (h : Held) → h.leaving ≡ n → h.gone ≡ number_in gone → IsMet rank job.line (drop n w.entries.items) h.shown.items → IsRightBefore indexes task
+    held_right : (h : Held) → h.leaving ≡ n → h.gone ≡ number_in gone → IsMet rank d.writes (under indexes k) job.line (drop n w.entries.items) h.shown.items → IsRightBefore indexes task
         → IsHeld d.writes (under indexes k) w.entries.items job.line h
     held_right h leaving of_gone is_met right = record {
       others = ws;
@@ -274,28 +279,30 @@ module _ (rank : Winner → Rank) (indexes : Indexes) (change : Change) (laid : 
           (gone_own rank indexes k ws gone goes e i (subst (λ (o : Option ℕ). is_number o e.rank.written ≡ true) of_gone c));
     }
 
-    held_cost : (h : Held) → h.leaving ≡ n → h.gone ≡ number_in gone → IsMet rank job.line (drop n w.entries.items) h.shown.items
+    held_cost : (h : Held) → h.leaving ≡ n → h.gone ≡ number_in gone → IsMet rank d.writes (under indexes k) job.line (drop n w.entries.items) h.shown.items
         → most_exchanged d.writes (under indexes k) w.entries.items h ≤ most_inside d.writes (under indexes k) w.entries.items
     held_cost h leaving of_gone is_met =
         let parts : most_inside d.writes (under indexes k) w.entries.items ≡ most_inside d.writes (under indexes k) left + most_inside d.writes (under indexes k) coming =
-            ap (most_inside d.writes (under indexes k)) whole ∙ inside_append d.writes (under indexes k) left coming in
-        let few : length h.shown.items ≤ 2 * length coming = subst (λ xs. length h.shown.items ≤ 2 * length xs) dropped is_met.few in
+        ap (most_inside d.writes (under indexes k)) whole ∙ inside_append d.writes (under indexes k) left coming in
+        let few : (length h.shown.items ≤ 2 * length coming) ⊎ (length h.shown.items + length coming ≤ most_inside d.writes (under indexes k) coming) =
+        subst (λ xs. (length h.shown.items ≤ 2 * length xs) ⊎ (length h.shown.items + length xs ≤ most_inside d.writes (under indexes k) xs)) dropped is_met.few in
         let most = come_least rank indexes k ws come d.writes comes has (subst (λ xs. is_run xs ≡ true) dropped is_met.run) in
+        let both = laid_least (length h.shown.items) (length coming) (most_inside d.writes (under indexes k) coming) few most in
         let here : length (drop h.leaving w.entries.items) ≡ length coming = ap length (ap (λ i. drop i w.entries.items) leaving ∙ dropped) in
         let there = less h.gone in
-        omega (arith, parts, few, most, here, there)
+        omega (arith, parts, both, here, there)
       where
         less : (o : Option ℕ) → option_map_or (λ i. most_inside d.writes (under indexes k) (take h.leaving w.entries.items)) o 0 ≤ most_inside d.writes (under indexes k) left
         less None = omega arith
         less (Some i) = let same = ap (most_inside d.writes (under indexes k)) (ap (λ j. take j w.entries.items) leaving ∙ taken) in omega (arith, same)
 
-    all_cost : (vs : List ℕ) (v : TypeEntries) (o : Option Held) → vs ≡ d.writes → v ≡ w → IfSome o (λ h. h.leaving ≡ n) → IfSome o (λ h. h.gone ≡ number_in gone) → IfSome o (λ h. IsMet rank job.line (drop n w.entries.items) h.shown.items)
+    all_cost : (vs : List ℕ) (v : TypeEntries) (o : Option Held) → vs ≡ d.writes → v ≡ w → IfSome o (λ h. h.leaving ≡ n) → IfSome o (λ h. h.gone ≡ number_in gone) → IfSome o (λ h. IsMet rank d.writes (under indexes k) job.line (drop n w.entries.items) h.shown.items)
         → option_map_or (λ h. most_exchanged vs (under indexes v.payload_type) v.entries.items h) o (most_inside vs (under indexes v.payload_type) v.entries.items)
         ≤ most_inside d.writes (under indexes k) w.entries.items
     all_cost vs v None e f a b c = rw (e, f) (omega arith)
     all_cost vs v (Some h) e f a b c = rw (e, f) (held_cost h a b c)
 
-    all_held : (o : Option Held) → IfSome o (λ h. h.leaving ≡ n) → IfSome o (λ h. h.gone ≡ number_in gone) → IfSome o (λ h. IsMet rank job.line (drop n w.entries.items) h.shown.items) → IsRightBefore indexes task
+    all_held : (o : Option Held) → IfSome o (λ h. h.leaving ≡ n) → IfSome o (λ h. h.gone ≡ number_in gone) → IfSome o (λ h. IsMet rank d.writes (under indexes k) job.line (drop n w.entries.items) h.shown.items) → IsRightBefore indexes task
         → IfSome o (λ h. IsHeld d.writes (under indexes k) w.entries.items job.line h)
     all_held None a b c right = tt
     all_held (Some h) a b c right = held_right h a b c right

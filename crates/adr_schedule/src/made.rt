@@ -62,6 +62,7 @@ fn count_leaving(gone: Option<&Side>, windows: &TypeEntries) -> usize
 /// The job of one type of the draft, where there are ranks.
 fn exchange_job<R: Ranks>(
     alloc: Global,
+    indexes: &Indexes,
     draft: &Draft,
     windows: &Shared<TypeEntries>,
     change: &Change,
@@ -69,14 +70,20 @@ fn exchange_job<R: Ranks>(
 ) -> Result<Job, Refusal>
     requires draft { IsDraftOf change.now draft.now.group draft.now }
     requires own { In windows.now draft.now.windows.items }
-    ensures job { IfOk result (λ job. (indexes : AllIndexes) → IsLaidBy (Some (R.rank ranks.now)) indexes change.now → IsJobOf indexes (record { group = draft.now.group; writes = draft.now.writes; windows = windows.now }) job) }
+    ensures job { IfOk result (λ job. IsLaidBy (Some (R.rank ranks.now)) indexes.now change.now → IsJobOf indexes.now (record { group = draft.now.group; writes = draft.now.writes; windows = windows.now }) job) }
     ensures refusal { OnlyNoMemory result }
 {
     let gone = leaving(draft.group.writes(), &change.gone);
     let first = count_leaving(gone, windows.get());
-    draft
-        .group
-        .exchange_job(alloc, &draft.writes, windows, first, number(gone), ranks)
+    draft.group.exchange_job(
+        alloc,
+        indexes,
+        &draft.writes,
+        windows,
+        first,
+        number(gone),
+        ranks,
+    )
 }
 
 /// The jobs of a draft that build what its writes show inside its windows.
@@ -97,18 +104,19 @@ fn built_jobs(alloc: Global, draft: &Draft) -> Result<Vec<Job>, Refusal>
 /// The jobs of a draft that exchange events.
 fn exchange_jobs<R: Ranks>(
     alloc: Global,
+    indexes: &Indexes,
     draft: &Draft,
     change: &Change,
     ranks: &R,
 ) -> Result<Vec<Job>, Refusal>
     requires draft { IsDraftOf change.now draft.now.group draft.now }
-    ensures jobs { IfOk result (λ jobs. (indexes : AllIndexes) → IsLaidBy (Some (R.rank ranks.now)) indexes change.now → AllZip (IsJobOf indexes) (tasks_of draft.now) jobs.items) }
+    ensures jobs { IfOk result (λ jobs. IsLaidBy (Some (R.rank ranks.now)) indexes.now change.now → AllZip (IsJobOf indexes.now) (tasks_of draft.now) jobs.items) }
     ensures refusal { OnlyNoMemory result }
 {
     let mut jobs = Vec::new(alloc);
     let mut rest = draft.windows.get().as_slice();
     'rest: while let Some((windows, more)) = rest.split_first() {
-        let job = exchange_job(alloc, draft, windows, change, ranks)?;
+        let job = exchange_job(alloc, indexes, draft, windows, change, ranks)?;
         jobs.push(job)?;
         rest = more;
     }
@@ -118,16 +126,17 @@ fn exchange_jobs<R: Ranks>(
 /// The jobs of a draft: they exchange events where there are ranks.
 fn jobs_of<R: Ranks>(
     alloc: Global,
+    indexes: &Indexes,
     draft: &Draft,
     change: &Change,
     ranks: Option<&R>,
 ) -> Result<Vec<Job>, Refusal>
     requires draft { IsDraftOf change.now draft.now.group draft.now }
-    ensures jobs { IfOk result (λ jobs. (indexes : AllIndexes) → IsLaidBy (option_map R.rank (option_copied ranks.entry)) indexes change.now → AllZip (IsJobOf indexes) (tasks_of draft.now) jobs.items) }
+    ensures jobs { IfOk result (λ jobs. IsLaidBy (option_map R.rank (option_copied ranks.entry)) indexes.now change.now → AllZip (IsJobOf indexes.now) (tasks_of draft.now) jobs.items) }
     ensures refusal { OnlyNoMemory result }
 {
     match ranks {
-        Some(ranks) => exchange_jobs(alloc, draft, change, ranks),
+        Some(ranks) => exchange_jobs(alloc, indexes, draft, change, ranks),
         None => built_jobs(alloc, draft),
     }
 }
@@ -135,18 +144,19 @@ fn jobs_of<R: Ranks>(
 /// The jobs of all drafts, in order.
 fn all_jobs<R: Ranks>(
     alloc: Global,
+    indexes: &Indexes,
     drafts: &[Draft],
     change: &Change,
     ranks: Option<&R>,
 ) -> Result<Vec<Job>, Refusal>
     requires drafts { AreDraftsOf change.now drafts.now }
-    ensures jobs { IfOk result (λ jobs. (indexes : AllIndexes) → IsLaidBy (option_map R.rank (option_copied ranks.entry)) indexes change.now → AllZip (IsJobOf indexes) (flat_map tasks_of drafts.now) jobs.items) }
+    ensures jobs { IfOk result (λ jobs. IsLaidBy (option_map R.rank (option_copied ranks.entry)) indexes.now change.now → AllZip (IsJobOf indexes.now) (flat_map tasks_of drafts.now) jobs.items) }
     ensures refusal { OnlyNoMemory result }
 {
     let mut jobs = Vec::new(alloc);
     let mut rest = drafts;
     'rest: while let Some((draft, more)) = rest.split_first() {
-        let mut own = jobs_of(alloc, draft, change, ranks)?;
+        let mut own = jobs_of(alloc, indexes, draft, change, ranks)?;
         jobs.append(&mut own)?;
         rest = more;
     }
@@ -289,7 +299,7 @@ pub(crate) fn made_by<C: Fn(&Indexes, &[Job]) -> Result<Vec<Done>, Refusal>, R: 
     ensures compared { meter.new ≤ meter.old + most_drafted indexes.now drafts.now }
     ensures refusal { OnlyNoMemory result }
 {
-    let jobs = all_jobs(alloc, drafts, change, ranks)?;
+    let jobs = all_jobs(alloc, indexes, drafts, change, ranks)?;
     let done = done_by(indexes, crew, jobs.as_slice())?;
     count(meter, done.as_slice());
     let made = made_each(alloc, drafts, done.as_slice())?;

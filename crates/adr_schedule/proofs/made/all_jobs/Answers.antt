@@ -15,13 +15,13 @@ jobs_of-requires g c = record {
 pub rest-preserved : goal.rest-preserved
 rest-preserved g c = record {
   own = λ d m. c.rest.invariant.own d (subst (λ l. In d l) (sym c.in-Some.ensures.cases.0) (inr m));
-  jobs = λ indexes laid more zip. more_jobs (IsJobOf indexes) (flat_map tasks_of c.args.drafts.now) (tasks_of c.in-Some.draft.now) (flat_map tasks_of c.in-Some.more.now)
-      c.rest.jobs.items c.append.new.self.items c.in_ok-own.own.items more c.in_ok-append.ensures.items (c.in_ok-own.ensures.jobs indexes laid)
-      (λ ms z. c.rest.invariant.jobs indexes laid ms (subst (λ l. AllZip (IsJobOf indexes) (flat_map tasks_of l) ms) (sym c.in-Some.ensures.cases.0) z))
+  jobs = λ laid more zip. more_jobs (IsJobOf c.args.indexes.now) (flat_map tasks_of c.args.drafts.now) (tasks_of c.in-Some.draft.now) (flat_map tasks_of c.in-Some.more.now)
+      c.rest.jobs.items c.append.new.self.items c.in_ok-own.own.items more c.in_ok-append.ensures.items (c.in_ok-own.ensures.jobs laid)
+      (λ ms z. c.rest.invariant.jobs laid ms (subst (λ l. AllZip (IsJobOf c.args.indexes.now) (flat_map tasks_of l) ms) (sym c.in-Some.ensures.cases.0) z))
       zip;
 }
 
 pub returns-clause-jobs : goal.returns-clause-jobs
-returns-clause-jobs g c indexes laid =
-    every_job (IsJobOf indexes) (flat_map tasks_of c.args.drafts.now) c.rest.jobs.items
-    (c.rest.invariant.jobs indexes laid [] (subst (λ l. AllZip (IsJobOf indexes) (flat_map tasks_of l) []) (sym (none_left c.rest.rest.now c.in_default.ensures.cases)) tt))
+returns-clause-jobs g c laid =
+    every_job (IsJobOf c.args.indexes.now) (flat_map tasks_of c.args.drafts.now) c.rest.jobs.items
+    (c.rest.invariant.jobs laid [] (subst (λ l. AllZip (IsJobOf c.args.indexes.now) (flat_map tasks_of l) []) (sym (none_left c.rest.rest.now c.in_default.ensures.cases)) tt))

@@ -17,15 +17,15 @@ rest-preserved g c =
     let windows = c.in-Some.windows.now in
     record {
       own = λ w m. c.rest.invariant.own w (subst (λ l. In w l) (sym c.in-Some.ensures.cases.0) (inr m));
-      jobs = λ indexes laid more zip. one_job (IsJobOf indexes) (tasks_of draft) (tasks_for draft.group draft.writes c.in-Some.more.now)
+      jobs = λ laid more zip. one_job (IsJobOf c.args.indexes.now) (tasks_of draft) (tasks_for draft.group draft.writes c.in-Some.more.now)
           (record { group = draft.group; writes = draft.writes; windows = windows })
-          c.rest.jobs.items c.push.new.self.items more c.in_ok-job.job c.in_ok-push.ensures.items (c.in_ok-job.ensures.job indexes laid)
-          (λ ms z. c.rest.invariant.jobs indexes laid ms (subst (λ l. AllZip (IsJobOf indexes) (tasks_for draft.group draft.writes l) ms) (sym c.in-Some.ensures.cases.0) z))
+          c.rest.jobs.items c.push.new.self.items more c.in_ok-job.job c.in_ok-push.ensures.items (c.in_ok-job.ensures.job laid)
+          (λ ms z. c.rest.invariant.jobs laid ms (subst (λ l. AllZip (IsJobOf c.args.indexes.now) (tasks_for draft.group draft.writes l) ms) (sym c.in-Some.ensures.cases.0) z))
           zip;
     }
 
 pub returns-clause-jobs : goal.returns-clause-jobs
-returns-clause-jobs g c indexes laid =
+returns-clause-jobs g c laid =
     let draft = c.args.draft.now in
-    every_job (IsJobOf indexes) (tasks_of draft) c.rest.jobs.items
-    (c.rest.invariant.jobs indexes laid [] (subst (λ l. AllZip (IsJobOf indexes) (tasks_for draft.group draft.writes l) []) (sym (none_left c.rest.rest.now c.in_default.ensures.cases)) tt))
+    every_job (IsJobOf c.args.indexes.now) (tasks_of draft) c.rest.jobs.items
+    (c.rest.invariant.jobs laid [] (subst (λ l. AllZip (IsJobOf c.args.indexes.now) (tasks_for draft.group draft.writes l) []) (sym (none_left c.rest.rest.now c.in_default.ensures.cases)) tt))

@@ -1,8 +1,6 @@
-use Rattle.std.proofs.Common.{◌≡◌, ◌≤◌, List, flat_map, sum_by, ap, sym, subst, ◌∙◌, arith}
+use Rattle.std.proofs.Common.{flat_map, sum_by, ap, subst, arith}
 use Rattle.std.specs.List.{AllZip}
-use Rattle.adr_lines.specs.declared.indexes.Indexes.{Indexes}
-use Rattle.adr_group.specs.declared.job.Job.{Job}
-use Rattle.adr_group.specs.Jobs.{most_done, IsDone, IsJobOf}
+use Rattle.adr_group.specs.Jobs.{IsDone}
 use Rattle.adr_group.proofs.Tasks.{tasks_done}
 use Rattle.adr_schedule.specs.Draft.{tasks_of}
 use Rattle.adr_schedule.proofs.Drafts.{jobs_compare_all}
@@ -11,13 +9,13 @@ use Rattle.adr_schedule.proofs.made.made_by.Goals as goal
 pub done_by-requires-clause-room : goal.done_by-requires-clause-room
 done_by-requires-clause-room g c =
     let indexes = c.args.indexes.now in
-    let cost = jobs_compare_all indexes c.args.drafts.now c.as_slice.result.now c.in_ok-jobs.jobs.items c.as_slice.ensures.value (c.in_ok-jobs.ensures.jobs indexes c.requires.laid) in
+    let cost = jobs_compare_all indexes c.args.drafts.now c.as_slice.result.now c.in_ok-jobs.jobs.items c.as_slice.ensures.value (c.in_ok-jobs.ensures.jobs c.requires.laid) in
     omega (arith, cost, c.requires.room)
 
 pub count-requires : goal.count-requires
 count-requires g c =
     let indexes = c.args.indexes.now in
-    let cost = jobs_compare_all indexes c.args.drafts.now c.as_slice.result.now c.in_ok-jobs.jobs.items c.as_slice.ensures.value (c.in_ok-jobs.ensures.jobs indexes c.requires.laid) in
+    let cost = jobs_compare_all indexes c.args.drafts.now c.as_slice.result.now c.in_ok-jobs.jobs.items c.as_slice.ensures.value (c.in_ok-jobs.ensures.jobs c.requires.laid) in
     let same = ap (sum_by (λ d. d.compared)) c.as_slice-2.ensures.value in
     omega (arith, cost, same, c.in_ok-done.ensures.done.compared, c.requires.room)
 
@@ -27,21 +25,21 @@ made_each-requires g c = record { own = λ d m. (c.requires.drafts d m).windows.
 pub returns-in_err-made-clause-compared : goal.returns-in_err-made-clause-compared
 returns-in_err-made-clause-compared g c =
     let indexes = c.args.indexes.now in
-    let cost = jobs_compare_all indexes c.args.drafts.now c.as_slice.result.now c.in_ok-jobs.jobs.items c.as_slice.ensures.value (c.in_ok-jobs.ensures.jobs indexes c.requires.laid) in
+    let cost = jobs_compare_all indexes c.args.drafts.now c.as_slice.result.now c.in_ok-jobs.jobs.items c.as_slice.ensures.value (c.in_ok-jobs.ensures.jobs c.requires.laid) in
     let same = ap (sum_by (λ d. d.compared)) c.as_slice-2.ensures.value in
     omega (arith, cost, same, c.in_ok-done.ensures.done.compared, c.count.ensures)
 
 pub returns-clause-compared : goal.returns-clause-compared
 returns-clause-compared g c =
     let indexes = c.args.indexes.now in
-    let cost = jobs_compare_all indexes c.args.drafts.now c.as_slice.result.now c.in_ok-jobs.jobs.items c.as_slice.ensures.value (c.in_ok-jobs.ensures.jobs indexes c.requires.laid) in
+    let cost = jobs_compare_all indexes c.args.drafts.now c.as_slice.result.now c.in_ok-jobs.jobs.items c.as_slice.ensures.value (c.in_ok-jobs.ensures.jobs c.requires.laid) in
     let same = ap (sum_by (λ d. d.compared)) c.as_slice-2.ensures.value in
     omega (arith, cost, same, c.in_ok-done.ensures.done.compared, c.count.ensures)
 
 pub returns-in_err-groups-clause-compared : goal.returns-in_err-groups-clause-compared
 returns-in_err-groups-clause-compared g c =
     let indexes = c.args.indexes.now in
-    let cost = jobs_compare_all indexes c.args.drafts.now c.as_slice.result.now c.in_ok-jobs.jobs.items c.as_slice.ensures.value (c.in_ok-jobs.ensures.jobs indexes c.requires.laid) in
+    let cost = jobs_compare_all indexes c.args.drafts.now c.as_slice.result.now c.in_ok-jobs.jobs.items c.as_slice.ensures.value (c.in_ok-jobs.ensures.jobs c.requires.laid) in
     let same = ap (sum_by (λ d. d.compared)) c.as_slice-2.ensures.value in
     omega (arith, cost, same, c.in_ok-done.ensures.done.compared, c.count.ensures)
 
@@ -51,5 +49,5 @@ returns-clause-made g c =
     let jobs = c.in_ok-jobs.jobs.items in
     let done = c.in_ok-done.done.items in
     let each = subst (λ l. AllZip (IsDone indexes) l done) c.as_slice.ensures.value c.in_ok-done.ensures.done.each in
-    let tasks = tasks_done indexes (flat_map tasks_of c.args.drafts.now) jobs done (c.in_ok-jobs.ensures.jobs indexes c.requires.laid) each in
+    let tasks = tasks_done indexes (flat_map tasks_of c.args.drafts.now) jobs done (c.in_ok-jobs.ensures.jobs c.requires.laid) each in
     rw (c.in_ok-groups.ensures) (c.in_ok-made.ensures.made indexes (rw (c.as_slice-3.ensures.value) tasks))

@@ -1,4 +1,4 @@
-use Rattle.std.proofs.Common.{List, flat_map, length}
+use Rattle.std.proofs.Common.{flat_map, length}
 use Rattle.std.specs.List.{AllZip}
 use Rattle.adr_model.specs.Lists.{In}
 use Rattle.adr_lines.specs.declared.indexes.Indexes.{Indexes}

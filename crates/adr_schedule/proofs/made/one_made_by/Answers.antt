@@ -1,6 +1,6 @@
-use Rattle.std.proofs.Common.{◌≡◌, ◌≤◌, List, sum_by, ap, sym, subst, ◌∙◌, arith}
+use Rattle.std.proofs.Common.{sum_by, ap, subst, arith}
 use Rattle.std.specs.List.{AllZip}
-use Rattle.adr_group.specs.Jobs.{most_done, IsDone, IsJobOf}
+use Rattle.adr_group.specs.Jobs.{IsDone}
 use Rattle.adr_group.proofs.Tasks.{tasks_done}
 use Rattle.adr_schedule.specs.Draft.{tasks_of}
 use Rattle.adr_schedule.proofs.Drafts.{jobs_compare_one}
