@@ -1,5 +1,5 @@
 //! A reader's thread.
-ghost use Rattle.std.specs.Prelude.{◌≡◌, IfSome};
+ghost use Rattle.std.specs.Prelude.{◌≡◌, ◌<◌, ◌≤◌, length, IfSome};
 ghost use mathlib.Core.List.{IsPrefix};
 ghost use Rattle.adr_resolver.specs.Text.{answer_line};
 ghost use Rattle.adr_model.specs.Queries.{answer as answer_of};
@@ -58,7 +58,8 @@ fn reply_from(alloc: Global, snapshot: &PublishedSnapshot, sent: Sent) -> Reply
     }
 }
 
-/// The reply to a query, from the publication that is shown now. None where there is none to be had.
+/// The reply to a query, from the publication that is shown now, and never from one before the latest that the reader
+/// replied from. None where there is none to be had.
 fn reply_to<J: Naming>(
     alloc: Global,
     reader: &mut Reader<J>,
@@ -67,6 +68,7 @@ fn reply_to<J: Naming>(
 ) -> Option<Reply>
     ensures seen { IsPrefix reader.old.seen reader.new.seen }
     ensures reply { IfSome result (IsTrueReply J.tie reader.new.seen) }
+    ensures order { latest < length reader.old.seen → IfSome result (λ reply. latest ≤ reply.shown) }
 {
     match reader.look() {
         Ok(snapshot) => Some(reply_from(alloc, &snapshot, sent)),
