@@ -25,6 +25,9 @@ use adr_shared::{Shared, SharedMap};
 use adr_value::Refusal;
 use std::alloc::Global;
 
+/// How many groups are looked at for one that has the same writes: a place that is like no other pays for each.
+const MOST_LOOKED_AT: usize = 256;
+
 /// The groups but that of the slot, where no place has it.
 fn without_unused(
     alloc: Global,
@@ -175,10 +178,36 @@ impl Schedule {
         }
     }
 
+    /// The slot of the group at that place among the groups, where it has these writes.
+    fn slot_at(&self, at: usize, writes: &Writes) -> Option<u64>
+        ensures { IfSome result (IsSlotWith self.now writes.now) }
+    {
+        let slot = *self.groups.key_at(at)?;
+        let taken = self.seats.get().is_taken(slot);
+        match self.groups.get(&slot) {
+            Some(group) if taken && group.writes().same(writes) => Some(slot),
+            _ => None,
+        }
+    }
+
+    /// The first slot whose group has these writes, among the first groups.
+    fn slot_among(&self, writes: &Writes) -> Option<u64>
+        ensures { IfSome result (IsSlotWith self.now writes.now) }
+    {
+        for at in 0..self.groups.len().min(MOST_LOOKED_AT) {
+            let found = self.slot_at(at, writes);
+            if found.is_some() {
+                return found;
+            }
+        }
+        None
+    }
+
     /// The schedule where the place has these writes, if nothing is to be built for them: it shares the group of the
-    /// place `like` where that one has them, and keeps its own where that has.
+    /// place `like` where that one has them, keeps its own where that has, and else shares one of the first groups that
+    /// has.
     ///
-    /// Cost: a copy of what is written of the table of seats.
+    /// Cost: a copy of what is written of the table of seats, and a look at each of the first 256 groups.
     ///
     /// # Errors
     ///
@@ -207,6 +236,10 @@ impl Schedule {
         }
         if group.writes().same(writes) {
             let after = self.copy()?;
+            return Ok(Some(after));
+        }
+        if let Some(next) = self.slot_among(writes) {
+            let after = self.beside(alloc, place, slot, next)?;
             return Ok(Some(after));
         }
         Ok(None)
