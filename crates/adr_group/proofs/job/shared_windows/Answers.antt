@@ -14,7 +14,7 @@ returns-clause-gathered c =
     let more = c.args.more.now in
     let types = c.gather_all-2.new.types.items in
     let alike = both_alike c.gather_all.new.types.items windows types more
-        (subst (λ l. AreAlike c.gather_all.new.types.items (l ++ windows)) c.new-types.ensures.items c.in_ok-gather_all.ensures.alike)
-        c.in_ok-gather_all-2.ensures.alike in
+    (subst (λ l. AreAlike c.gather_all.new.types.items (l ++ windows)) c.new-types.ensures.items c.in_ok-gather_all.ensures.alike)
+    c.in_ok-gather_all-2.ensures.alike in
     subst (λ l. AreGathered l (windows ++ more)) (sym c.in_ok-shared.ensures.same)
     (record { own = c.in_ok-gather_all-2.ensures.own; under = alike.under; covers = alike.covers; cost = alike.cost })
