@@ -29,7 +29,7 @@
  *                    "\"intervalPeriod\":{\"start\":\"2024-01-01T00:00:00Z\",\"duration\":\"PT1H\"}}]}")) return 1;
  *         if (kuvteleg_publish(&editor, &number, &version) || kuvteleg_look(&editor, &reader)) return 1;
  *         if (kuvteleg_governor(&reader, (const uint8_t *)"r1", 2, (const uint8_t *)"PRICE", 5, 1704069000, 0, &state, out, sizeof out, &len)) return 1;
- *         if (state.is_governed)
+ *         if (state.is_governed && len <= sizeof out)
  *             printf("event %.*s interval %lld until %lld values %.*s\n", (int)state.event_len, (char *)out, (long long)state.interval,
  *                    (long long)state.until_seconds, (int)state.values_len, (char *)out + state.event_len);
  *         kuvteleg_leave(&reader);
@@ -61,8 +61,9 @@ extern "C" {
 typedef struct { uint8_t is_open; void *at; } kuvteleg_editor;
 typedef struct { uint8_t is_open; void *at; } kuvteleg_reader;
 
-/* What a call answers: 0, or why it is refused. A refused call changes nothing, and of several faults the least is answered;
- * KUVTELEG_NO_MEMORY may come in place of any, and the same call may do better later. */
+/* What a call answers: 0, or why it is refused. A refused call changes no object and no publication; a refused line, query
+ * or kuvteleg_governor drops the reply that its handle held. Of several faults the least is answered; KUVTELEG_NO_MEMORY may
+ * come in place of any, and the same call may do better later. */
 enum {
     KUVTELEG_OK = 0,
     KUVTELEG_LONG_LINE = 1,         /* a line of more than 4,194,304 bytes */
@@ -101,6 +102,25 @@ enum {
     KUVTELEG_BAD_KIND = 103         /* no such kind of object */
 };
 
+/* The name of a code, as in docs/SCRIPT.md. That of 0 is "Ok", and that of a number that is no code is "Unknown". */
+static inline const char *kuvteleg_name(uint32_t code) {
+    static const char *const low[] = {
+        "Ok", "LongLine", "BadLine", "BadMoment", "BadId", "BadNumber", "BadJson", "NotObject", "WrongKind", "IdMismatch",
+        "Missing", "WrongType", "BadText", "BadDateTime", "BadDuration", "NegativeDuration", "BadPriority", "BadShape", "TooMany",
+        "NoStart", "AfterEndless", "TimeRange", "Exists", "NotThere", "NoProgram", "NoVen", "InUse", "Full", "BadWindow",
+        "UnknownResource"
+    };
+    switch (code) {
+    case 98: return "NoRuntime";
+    case KUVTELEG_NO_MEMORY: return "NoMemory";
+    case KUVTELEG_CLOSED: return "Closed";
+    case KUVTELEG_OPEN: return "Open";
+    case KUVTELEG_BAD_TIE: return "BadTie";
+    case KUVTELEG_BAD_KIND: return "BadKind";
+    default: return code < sizeof low / sizeof *low ? low[code] : "Unknown";
+    }
+}
+
 /* Which of two intervals of one priority governs: that of the event written last, or the one that starts latest. */
 enum { KUVTELEG_NEWEST = 0, KUVTELEG_LATEST_START = 1 };
 
@@ -113,8 +133,9 @@ enum { KUVTELEG_PROGRAM = 0, KUVTELEG_EVENT = 1, KUVTELEG_VEN = 2, KUVTELEG_RESO
 /* Opens an editor with no objects, published as number 0, in a closed handle. */
 uint32_t kuvteleg_open(kuvteleg_editor *editor, uint32_t tie);
 
-/* Edits at a moment: an event's start of zeros means it. The id and the body are bytes, the body a JSON object of the kind.
- * `version` is told how many edits were accepted so far. The object of a change takes the place of the whole object. */
+/* Edits at a moment, for which an event's zero starts stand; a delete has none. The id and the body are bytes, the body a JSON
+ * object of the kind. `version` is told how many edits were accepted so far. The object of a change takes the place of the whole
+ * object. */
 uint32_t kuvteleg_create(kuvteleg_editor *editor, int64_t seconds, uint32_t nanoseconds, uint32_t kind,
                          const uint8_t *id, size_t id_len, const uint8_t *body, size_t body_len, uint64_t *version);
 uint32_t kuvteleg_change(kuvteleg_editor *editor, int64_t seconds, uint32_t nanoseconds, uint32_t kind,
@@ -128,8 +149,9 @@ uint32_t kuvteleg_publish(kuvteleg_editor *editor, uint64_t *number, uint64_t *v
  * counts from there on. */
 uint32_t kuvteleg_condense(kuvteleg_editor *editor, uint64_t *version);
 
-/* Answers a line of the script, without its line feed. *len is the length of the reply, which is in `out` where it is at most
- * `room`; else kuvteleg_reply gives the same reply once more, to more room. A refused line has no reply. */
+/* Answers a line of the script, without its line feed. *len is the length of the reply, its line feed counted. The reply is in
+ * `out` where *len is at most `room`; else `out` is left alone, the code is 0 all the same, and kuvteleg_reply gives the same reply
+ * once more, to more room. A refused line has no reply, and a length of 0. */
 uint32_t kuvteleg_line(kuvteleg_editor *editor, const uint8_t *line, size_t line_len, uint8_t *out, size_t room, size_t *len);
 uint32_t kuvteleg_reply(kuvteleg_editor *editor, uint8_t *out, size_t room, size_t *len);
 

@@ -2,4 +2,4 @@
 
 /// The version, the first digits of the checksum of the sources, and the toolchain that they are proved with.
 pub(crate) const RELEASE: &str =
-    "1.0.0 (sources 4ff89c38f5c4, rattle-kit-13b logic dac8208d650f15bf)";
+    "1.1.0 (sources 0fd3b4054b96, rattle-kit-13b logic dac8208d650f15bf)";
