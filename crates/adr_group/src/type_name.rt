@@ -36,8 +36,19 @@ impl TryClone for TypeName {
 impl Key for TypeName {
     ghost code = { λ k. name_of k.payload_type };
 
+    ghost lead_of = { λ _. 0 };
+
     fn compare(&self, other: &TypeName) -> Ordering {
         self.payload_type.name().cmp(other.payload_type.name())
+    }
+
+    // Types are few, and most names lie in one table: a lead would spare nothing.
+    fn lead(&self) -> u64 {
+        0
+    }
+
+    fn compare_led(&self, _lead: u64, other: &TypeName, _other_lead: u64) -> Ordering {
+        self.compare(other)
     }
 }
 

@@ -3,9 +3,10 @@ ghost use Rattle.std.specs.Prelude.{◌≡◌, ◌↔◌, IsTrue, if◌then◌el
 ghost use Rattle.std.specs.List.{list_all};
 ghost use Rattle.adr_refusal.specs.Answer.{Answers};
 ghost use Rattle.adr_refusal.specs.Copy.{IsCopyOf};
+ghost use Rattle.adr_shared.specs.Lead.{lead_of_text};
 ghost use Rattle.adr_object.specs.Id.{is_id_byte, is_id, id_named};
 
-use adr_shared::Key;
+use adr_shared::{Key, text_lead, text_lead_laws};
 use adr_value::{Refusal, Text, TryClone};
 use std::alloc::Global;
 use std::cmp::Ordering;
@@ -124,7 +125,24 @@ impl TryClone for Id {
 impl Key for Id {
     ghost code = { λ id. id };
 
+    ghost lead_of = { lead_of_text };
+
     fn compare(&self, other: &Id) -> Ordering {
         self.text().cmp(other.text())
+    }
+
+    fn lead(&self) -> u64 {
+        text_lead(self.text())
+    }
+
+    fn compare_led(&self, lead: u64, other: &Id, other_lead: u64) -> Ordering {
+        text_lead_laws();
+        let _ = &self.text;
+        let _ = &other.text;
+        match lead.cmp(&other_lead) {
+            Ordering::Less => Ordering::Less,
+            Ordering::Equal => self.compare(other),
+            Ordering::Greater => Ordering::Greater,
+        }
     }
 }

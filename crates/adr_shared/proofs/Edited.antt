@@ -10,12 +10,12 @@ abbrev pub IsBalancedHeight : ℕ → ℕ → ℕ → Type 0
 IsBalancedHeight l r h = (max l r ≤ h) × (h ≤ max l r + 1) × (DifferByAtMost 1 l r → h ≡ max l r + 1)
 
 module _ {V : Type 0} where
-  pub rebalanced : (result : Result (List (List ℕ × V) × ℕ) Refusal) (left right : List (List ℕ × V) × ℕ) (code : List ℕ) (value : V) (entries : List (List ℕ × V)) (low high : ℕ)
-      → entries ≡ left.0 ++ (code, value) ∷ right.0 → ((h : ℕ) → IsBalancedHeight left.1 right.1 h → (low ≤ h) × (h ≤ high))
-      → IsBalanced result left code value right → IsEdited result entries low high
-  rebalanced (Ok tree) left right code value entries low high same heights b =
+  pub rebalanced : (result : Result (List (List ℕ × V) × ℕ) Refusal) (left right : List (List ℕ × V) × ℕ) (entry : List ℕ × V) (entries : List (List ℕ × V)) (low high : ℕ)
+      → entries ≡ left.0 ++ entry ∷ right.0 → ((h : ℕ) → IsBalancedHeight left.1 right.1 h → (low ≤ h) × (h ≤ high))
+      → IsBalanced result left entry right → IsEdited result entries low high
+  rebalanced (Ok tree) left right entry entries low high same heights b =
       let p = heights tree.1 (b.1, b.2, b.3) in (b.0 ∙ sym same, p.0, p.1)
-  rebalanced (Err refusal) left right code value entries low high same heights b = b
+  rebalanced (Err refusal) left right entry entries low high same heights b = b
 
   pub retold : (result : Result (List (List ℕ × V) × ℕ) Refusal) (entries others : List (List ℕ × V)) (low high least most : ℕ)
       → others ≡ entries → least ≤ low → high ≤ most → IsEdited result entries low high → IsEdited result others least most

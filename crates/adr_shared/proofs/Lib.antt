@@ -6,3 +6,4 @@ pub mod Leaned
 pub mod LookUps
 pub mod Last
 pub mod Crossing
+pub mod Leads

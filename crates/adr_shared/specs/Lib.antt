@@ -3,3 +3,4 @@ pub mod Tree
 pub mod Node
 pub mod Sides
 pub mod Laws
+pub mod Lead

@@ -10,16 +10,16 @@ abbrev pub IsEdited : {E : Type 0} → Result (List E × ℕ) Refusal → List E
 IsEdited result entries low high =
     MatchResult result (λ tree. (tree.0 ≡ entries) × (low ≤ tree.1) × (tree.1 ≤ high)) (λ refusal. refusal ≡ NoMemory)
 
--- the result has the entries of both sides round the code and value, it is as high as the higher side or one level higher, and one higher where they differ by at most one
-abbrev pub IsBalanced : {V : Type 0} → Result (List (List ℕ × V) × ℕ) Refusal → List (List ℕ × V) × ℕ → List ℕ → V → List (List ℕ × V) × ℕ → Type 0
-IsBalanced result left code value right =
+-- the result has the entries of both sides round the entry, it is as high as the higher side or one level higher, and one higher where they differ by at most one
+abbrev pub IsBalanced : {E : Type 0} → Result (List E × ℕ) Refusal → List E × ℕ → E → List E × ℕ → Type 0
+IsBalanced result left entry right =
     MatchResult result
-    (λ tree. (tree.0 ≡ left.0 ++ (code, value) ∷ right.0) × (max left.1 right.1 ≤ tree.1) × (tree.1 ≤ max left.1 right.1 + 1)
+    (λ tree. (tree.0 ≡ left.0 ++ entry ∷ right.0) × (max left.1 right.1 ≤ tree.1) × (tree.1 ≤ max left.1 right.1 + 1)
     × (DifferByAtMost 1 left.1 right.1 → tree.1 ≡ max left.1 right.1 + 1))
     (λ refusal. refusal ≡ NoMemory)
 
 -- the first entry and the rest, which is as high as the tree or one lower; none where the tree has none
-abbrev pub IsSplit : {K V : Type 0} → (K → List ℕ) → List (List ℕ × V) × ℕ → Option (First K V) → Type 0
-IsSplit code tree split =
+abbrev pub IsSplit : {K V : Type 0} → List (List ℕ × V) × ℕ → Option (First K V) → Type 0
+IsSplit tree split =
     MatchOption split ((tree.0 ≡ []) × (tree.1 ≡ 0))
-    (λ first. (tree.0 ≡ (code first.key, first.value) ∷ first.rest.0) × (first.rest.1 ≤ tree.1) × (tree.1 ≤ first.rest.1 + 1))
+    (λ first. (tree.0 ≡ first.entry ∷ first.rest.0) × (first.rest.1 ≤ tree.1) × (tree.1 ≤ first.rest.1 + 1))

@@ -10,18 +10,44 @@ use std::cmp::Ordering;
 ///
 /// A code is what a key is compared by: a list of numbers. The lexicographic order of the codes is the order of
 /// the keys, and keys with one code are one key.
+///
+/// A lead is a number kept beside a key, so that most comparisons need not follow the key to its memory: the key with
+/// the smaller lead is the smaller key, and only keys with one lead have to be compared themselves. A good lead is made
+/// of the code's beginning.
 pub trait Key: TryClone {
     ghost code: { Self → List ℕ };
 
+    ghost lead_of: { Self → ℕ };
+
     /// The order of two keys: that of their codes.
     fn compare(&self, other: &Self) -> Ordering
+        ensures { result ≡ slice_cmp nat_cmp (code self.now) (code other.now) };
+
+    /// The key's lead.
+    fn lead(&self) -> u64
+        ensures { result ≡ lead_of self.now };
+
+    /// The order of two keys whose leads are at hand. It looks into the keys only where the leads are equal.
+    fn compare_led(&self, lead: u64, other: &Self, other_lead: u64) -> Ordering
+        requires own { lead ≡ lead_of self.now }
+        requires other { other_lead ≡ lead_of other.now }
         ensures { result ≡ slice_cmp nat_cmp (code self.now) (code other.now) };
 }
 
 impl Key for u64 {
     ghost code = { λ n. n ∷ [] };
 
+    ghost lead_of = { λ n. n };
+
     fn compare(&self, other: &u64) -> Ordering {
         self.cmp(other)
+    }
+
+    fn lead(&self) -> u64 {
+        *self
+    }
+
+    fn compare_led(&self, lead: u64, _other: &u64, other_lead: u64) -> Ordering {
+        lead.cmp(&other_lead)
     }
 }

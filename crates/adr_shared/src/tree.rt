@@ -8,6 +8,7 @@ ghost use Rattle.adr_shared.specs.Map.{IsAscending, lookup, put, without, place_
 ghost use Rattle.adr_shared.specs.Tree.{IsEdited, IsBalanced, IsSplit};
 ghost use Rattle.adr_shared.specs.Sides.{DifferByAtMost};
 
+use crate::entry::Entry;
 use crate::key::Key;
 use adr_refusal::{Refusal, TryClone};
 use std::alloc::Global;
@@ -19,19 +20,30 @@ use std::sync::Arc;
 #[cycle(tree)]
 #[derive(Drop)]
 pub struct Tree<K: Key, V: TryClone> {
-    node: Option<Arc<Node<K, V>>>,
+    root: Root<K, V>,
 }
 
-// A key and its value, between the entries below it and those above it.
+// The root's node. The height and the count stand beside its pointer, so that whoever holds a tree knows them without
+// a look at the node; before the pointer they take no room of their own.
+#[cycle(tree)]
+#[derive(Drop)]
+enum Root<K: Key, V: TryClone> {
+    Empty,
+    Fork {
+        height: u8,
+        count: u32,
+        node: Arc<Node<K, V>>,
+    },
+}
+
+// An entry between the entries below it and those above it. What a look-up reads comes first: the sides, and the
+// entry's lead.
 #[cycle(tree)]
 #[derive(Drop)]
 struct Node<K: Key, V: TryClone> {
     left: Tree<K, V>,
-    key: K,
-    value: V,
-    height: u8,
-    count: u32,
     right: Tree<K, V>,
+    entry: Entry<K, V>,
 }
 
 impl<K: Key, V: TryClone> Model for Tree<K, V> {
@@ -39,13 +51,11 @@ impl<K: Key, V: TryClone> Model for Tree<K, V> {
 
     ghost Value = { List (List ℕ × V) × ℕ };
 
-    ghost use Rattle.std.specs.Prelude.{option_map};
-    ghost use Rattle.std.specs.Arc.{arc_value};
-    ghost use Rattle.adr_shared.specs.Node.{entries_and_height, IsNode};
+    ghost use Rattle.adr_shared.specs.Node.{entries_and_height, IsRoot};
 
-    ghost view = { λ t. entries_and_height K.code (option_map arc_value t.node) };
+    ghost view = { λ t. entries_and_height t.root };
 
-    ghost invariant = { λ t. IsNode (option_map arc_value t.node) };
+    ghost invariant = { λ t. IsRoot t.root };
 
     ghost size = { λ d. length d.0 };
 
@@ -59,7 +69,7 @@ impl<K: Key, V: TryClone> Tree<K, V> {
     pub fn new() -> Tree<K, V>
         ensures { result ≡ ([], 0) }
     {
-        Tree { node: None }
+        Tree { root: Root::Empty }
     }
 
     /// How many nodes the longest path has: at most 65.
@@ -67,9 +77,9 @@ impl<K: Key, V: TryClone> Tree<K, V> {
         ensures value { result ≡ self.now.1 }
         ensures limit { result ≤ 65 }
     {
-        match &self.node {
-            None => 0,
-            Some(node) => node.height,
+        match &self.root {
+            Root::Empty => 0,
+            Root::Fork { height, .. } => *height,
         }
     }
 
@@ -78,9 +88,9 @@ impl<K: Key, V: TryClone> Tree<K, V> {
         ensures value { result ≡ length self.now.0 }
         ensures low { 2 ^ (self.now.1 / 2) ≤ length self.now.0 + 1 }
     {
-        match &self.node {
-            None => 0,
-            Some(node) => node.count,
+        match &self.root {
+            Root::Empty => 0,
+            Root::Fork { count, .. } => *count,
         }
     }
 
@@ -92,10 +102,18 @@ impl<K: Key, V: TryClone> Tree<K, V> {
     pub fn copy(&self) -> Result<Tree<K, V>, Refusal>
         ensures { IsCopyOf result self.now }
     {
-        match &self.node {
-            None => Ok(Tree { node: None }),
-            Some(node) => Ok(Tree {
-                node: Some(node.clone()?),
+        match &self.root {
+            Root::Empty => Ok(Tree::new()),
+            Root::Fork {
+                height,
+                count,
+                node,
+            } => Ok(Tree {
+                root: Root::Fork {
+                    height: *height,
+                    count: *count,
+                    node: node.clone()?,
+                },
             }),
         }
     }
@@ -105,14 +123,23 @@ impl<K: Key, V: TryClone> Tree<K, V> {
         requires { IsAscending self.now.0 }
         ensures { option_copied result ≡ lookup (K.code key.now) self.now.0 }
     {
-        match &self.node {
-            None => None,
-            Some(node) => {
+        self.get_led(key, key.lead())
+    }
+
+    // As `get`, of a key whose lead is at hand.
+    fn get_led(&self, key: &K, lead: u64) -> Option<&V>
+        requires ascends { IsAscending self.now.0 }
+        requires led { lead ≡ K.lead_of key.now }
+        ensures { option_copied result ≡ lookup (K.code key.now) self.now.0 }
+    {
+        match &self.root {
+            Root::Empty => None,
+            Root::Fork { node, .. } => {
                 let node: &Node<K, V> = node;
-                match key.compare(&node.key) {
-                    Ordering::Less => node.left.get(key),
-                    Ordering::Equal => Some(&node.value),
-                    Ordering::Greater => node.right.get(key),
+                match node.entry.order_of(key, lead) {
+                    Ordering::Less => node.left.get_led(key, lead),
+                    Ordering::Equal => Some(node.entry.value()),
+                    Ordering::Greater => node.right.get_led(key, lead),
                 }
             }
         }
@@ -122,16 +149,16 @@ impl<K: Key, V: TryClone> Tree<K, V> {
     pub fn at(&self, place: usize) -> Option<&V>
         ensures { option_copied result ≡ option_map (λ e. e.1) (slice_get self.now.0 place) }
     {
-        match &self.node {
-            None => None,
-            Some(node) => {
+        match &self.root {
+            Root::Empty => None,
+            Root::Fork { node, .. } => {
                 let before = node.left.count() as usize;
                 if place < before {
                     node.left.at(place)
                 } else if place > before {
                     node.right.at(place - before - 1)
                 } else {
-                    Some(&node.value)
+                    Some(node.entry.value())
                 }
             }
         }
@@ -141,16 +168,16 @@ impl<K: Key, V: TryClone> Tree<K, V> {
     pub fn key_at(&self, place: usize) -> Option<&K>
         ensures { option_map K.code (option_copied result) ≡ option_map (λ e. e.0) (slice_get self.now.0 place) }
     {
-        match &self.node {
-            None => None,
-            Some(node) => {
+        match &self.root {
+            Root::Empty => None,
+            Root::Fork { node, .. } => {
                 let before = node.left.count() as usize;
                 if place < before {
                     node.left.key_at(place)
                 } else if place > before {
                     node.right.key_at(place - before - 1)
                 } else {
-                    Some(&node.key)
+                    Some(node.entry.key())
                 }
             }
         }
@@ -159,18 +186,27 @@ impl<K: Key, V: TryClone> Tree<K, V> {
     /// The place of a key.
     pub fn place(&self, key: &K) -> Option<usize>
         requires { IsAscending self.now.0 }
+        ensures { result ≡ place_of (K.code key.now) self.now.0 }
+    {
+        self.place_led(key, key.lead())
+    }
+
+    // As `place`, of a key whose lead is at hand.
+    fn place_led(&self, key: &K, lead: u64) -> Option<usize>
+        requires ascends { IsAscending self.now.0 }
+        requires led { lead ≡ K.lead_of key.now }
         ensures value { result ≡ place_of (K.code key.now) self.now.0 }
         ensures within { IfSome result (λ place. place < length self.now.0) }
     {
-        match &self.node {
-            None => None,
-            Some(node) => {
+        match &self.root {
+            Root::Empty => None,
+            Root::Fork { node, .. } => {
                 let node: &Node<K, V> = node;
                 let before = node.left.count() as usize;
-                match key.compare(&node.key) {
-                    Ordering::Less => node.left.place(key),
+                match node.entry.order_of(key, lead) {
+                    Ordering::Less => node.left.place_led(key, lead),
                     Ordering::Equal => Some(before),
-                    Ordering::Greater => match node.right.place(key) {
+                    Ordering::Greater => match node.right.place_led(key, lead) {
                         None => None,
                         Some(place) => Some(before + 1 + place),
                     },
@@ -189,14 +225,24 @@ impl<K: Key, V: TryClone> Tree<K, V> {
         requires { IsAscending self.now.0 }
         ensures { IsEdited result (put (K.code key) value self.now.0) self.now.1 (self.now.1 + 1) }
     {
-        match &self.node {
-            None => fork(alloc, Tree::new(), key, value, Tree::new()),
-            Some(shared) => {
+        self.put_entry(alloc, Entry::new(key, value))
+    }
+
+    // As `put`, of an entry.
+    fn put_entry(&self, alloc: Global, entry: Entry<K, V>) -> Result<Tree<K, V>, Refusal>
+        requires { IsAscending self.now.0 }
+        ensures { IsEdited result (put entry.0 entry.1 self.now.0) self.now.1 (self.now.1 + 1) }
+    {
+        match &self.root {
+            Root::Empty => fork(alloc, Tree::new(), entry, Tree::new()),
+            Root::Fork { node: shared, .. } => {
                 let node: &Node<K, V> = shared;
-                match key.compare(&node.key) {
-                    Ordering::Less => node.with_left(alloc, node.left.put(alloc, key, value)?),
-                    Ordering::Equal => with_entry(alloc, shared, key, value),
-                    Ordering::Greater => node.with_right(alloc, node.right.put(alloc, key, value)?),
+                match node.entry.order_of_entry(&entry) {
+                    Ordering::Less => node.with_left(alloc, node.left.put_entry(alloc, entry)?),
+                    Ordering::Equal => with_entry(alloc, shared, entry),
+                    Ordering::Greater => {
+                        node.with_right(alloc, node.right.put_entry(alloc, entry)?)
+                    }
                 }
             }
         }
@@ -212,14 +258,27 @@ impl<K: Key, V: TryClone> Tree<K, V> {
         requires { IsAscending self.now.0 }
         ensures { IsEdited result (without (K.code key.now) self.now.0) (self.now.1 - 1) self.now.1 }
     {
-        match &self.node {
-            None => Ok(Tree::new()),
-            Some(node) => {
+        self.without_led(alloc, key, key.lead())
+    }
+
+    // As `without`, of a key whose lead is at hand.
+    fn without_led(&self, alloc: Global, key: &K, lead: u64) -> Result<Tree<K, V>, Refusal>
+        requires ascends { IsAscending self.now.0 }
+        requires led { lead ≡ K.lead_of key.now }
+        ensures { IsEdited result (without (K.code key.now) self.now.0) (self.now.1 - 1) self.now.1 }
+    {
+        match &self.root {
+            Root::Empty => Ok(Tree::new()),
+            Root::Fork { node, .. } => {
                 let node: &Node<K, V> = node;
-                match key.compare(&node.key) {
-                    Ordering::Less => node.with_left(alloc, node.left.without(alloc, key)?),
+                match node.entry.order_of(key, lead) {
+                    Ordering::Less => {
+                        node.with_left(alloc, node.left.without_led(alloc, key, lead)?)
+                    }
                     Ordering::Equal => join(alloc, &node.left, &node.right),
-                    Ordering::Greater => node.with_right(alloc, node.right.without(alloc, key)?),
+                    Ordering::Greater => {
+                        node.with_right(alloc, node.right.without_led(alloc, key, lead)?)
+                    }
                 }
             }
         }
@@ -227,24 +286,19 @@ impl<K: Key, V: TryClone> Tree<K, V> {
 
     // The least entry and the rest, where there is an entry.
     fn split_first(&self, alloc: Global) -> Result<Option<First<K, V>>, Refusal>
-        ensures { MatchResult result (IsSplit K.code self.now) (λ refusal. refusal ≡ NoMemory) }
+        ensures { MatchResult result (IsSplit self.now) (λ refusal. refusal ≡ NoMemory) }
     {
-        let Some(node) = &self.node else {
+        let Root::Fork { node, .. } = &self.root else {
             return Ok(None);
         };
         let node: &Node<K, V> = node;
         match node.left.split_first(alloc)? {
-            None => {
-                let (key, value) = node.entry()?;
-                Ok(Some(First {
-                    key,
-                    value,
-                    rest: node.right.copy()?,
-                }))
-            }
+            None => Ok(Some(First {
+                entry: node.entry.copy()?,
+                rest: node.right.copy()?,
+            })),
             Some(first) => Ok(Some(First {
-                key: first.key,
-                value: first.value,
+                entry: first.entry,
                 rest: node.with_left(alloc, first.rest)?,
             })),
         }
@@ -254,35 +308,27 @@ impl<K: Key, V: TryClone> Tree<K, V> {
 // A tree's least entry, and the tree of the others.
 #[derive(Drop)]
 struct First<K: Key, V: TryClone> {
-    key: K,
-    value: V,
+    entry: Entry<K, V>,
     rest: Tree<K, V>,
 }
 
 impl<K: Key, V: TryClone> Node<K, V> {
-    // Copies of the key and the value.
-    fn entry(&self) -> Result<(K, V), Refusal>
-        ensures { IsCopyOf result (self.now.key, self.now.value) }
-    {
-        Ok((self.key.try_clone()?, self.value.try_clone()?))
-    }
-
     // The tree with this node's entry and right side, and another left side.
     fn with_left(&self, alloc: Global, left: Tree<K, V>) -> Result<Tree<K, V>, Refusal>
         requires { DifferByAtMost 2 left.1 self.now.right.1 }
-        ensures { IsBalanced result left (K.code self.now.key) self.now.value self.now.right }
+        ensures { IsBalanced result left self.now.entry self.now.right }
     {
-        let (key, value) = self.entry()?;
-        balance(alloc, left, key, value, self.right.copy()?)
+        let entry = self.entry.copy()?;
+        balance(alloc, left, entry, self.right.copy()?)
     }
 
     // The tree with this node's entry and left side, and another right side.
     fn with_right(&self, alloc: Global, right: Tree<K, V>) -> Result<Tree<K, V>, Refusal>
         requires { DifferByAtMost 2 self.now.left.1 right.1 }
-        ensures { IsBalanced result self.now.left (K.code self.now.key) self.now.value right }
+        ensures { IsBalanced result self.now.left self.now.entry right }
     {
-        let (key, value) = self.entry()?;
-        balance(alloc, self.left.copy()?, key, value, right)
+        let entry = self.entry.copy()?;
+        balance(alloc, self.left.copy()?, entry, right)
     }
 
     // The tree of this node's entry between two other sides, whose heights differ by at most one.
@@ -293,16 +339,15 @@ impl<K: Key, V: TryClone> Node<K, V> {
         right: Tree<K, V>,
     ) -> Result<Tree<K, V>, Refusal>
         requires { DifferByAtMost 1 left.1 right.1 }
-        ensures { IsCopyOf result (left.0 ++ (K.code self.now.key, self.now.value) ∷ right.0, max left.1 right.1 + 1) }
+        ensures { IsCopyOf result (left.0 ++ self.now.entry ∷ right.0, max left.1 right.1 + 1) }
     {
-        let (key, value) = self.entry()?;
-        fork(alloc, left, key, value, right)
+        fork(alloc, left, self.entry.copy()?, right)
     }
 
     // As `fork`, with its own right side.
     fn fork_left(&self, alloc: Global, left: Tree<K, V>) -> Result<Tree<K, V>, Refusal>
         requires { DifferByAtMost 1 left.1 self.now.right.1 }
-        ensures { IsCopyOf result (left.0 ++ (K.code self.now.key, self.now.value) ∷ self.now.right.0, max left.1 self.now.right.1 + 1) }
+        ensures { IsCopyOf result (left.0 ++ self.now.entry ∷ self.now.right.0, max left.1 self.now.right.1 + 1) }
     {
         self.fork(alloc, left, self.right.copy()?)
     }
@@ -310,7 +355,7 @@ impl<K: Key, V: TryClone> Node<K, V> {
     // As `fork`, with its own left side.
     fn fork_right(&self, alloc: Global, right: Tree<K, V>) -> Result<Tree<K, V>, Refusal>
         requires { DifferByAtMost 1 self.now.left.1 right.1 }
-        ensures { IsCopyOf result (self.now.left.0 ++ (K.code self.now.key, self.now.value) ∷ right.0, max self.now.left.1 right.1 + 1) }
+        ensures { IsCopyOf result (self.now.left.0 ++ self.now.entry ∷ right.0, max self.now.left.1 right.1 + 1) }
     {
         self.fork(alloc, self.left.copy()?, right)
     }
@@ -320,27 +365,25 @@ impl<K: Key, V: TryClone> Node<K, V> {
         &self,
         alloc: Global,
         left: Tree<K, V>,
-        key: K,
-        value: V,
+        entry: Entry<K, V>,
     ) -> Result<Tree<K, V>, Refusal>
         requires { DifferByAtMost 1 left.1 self.now.left.1 }
-        ensures { IsCopyOf result (left.0 ++ (K.code key, value) ∷ self.now.left.0, max left.1 self.now.left.1 + 1) }
+        ensures { IsCopyOf result (left.0 ++ entry ∷ self.now.left.0, max left.1 self.now.left.1 + 1) }
     {
-        fork(alloc, left, key, value, self.left.copy()?)
+        fork(alloc, left, entry, self.left.copy()?)
     }
 
     // The tree of another entry between this node's right side and another.
     fn fork_after(
         &self,
         alloc: Global,
-        key: K,
-        value: V,
+        entry: Entry<K, V>,
         right: Tree<K, V>,
     ) -> Result<Tree<K, V>, Refusal>
         requires { DifferByAtMost 1 self.now.right.1 right.1 }
-        ensures { IsCopyOf result (self.now.right.0 ++ (K.code key, value) ∷ right.0, max self.now.right.1 right.1 + 1) }
+        ensures { IsCopyOf result (self.now.right.0 ++ entry ∷ right.0, max self.now.right.1 right.1 + 1) }
     {
-        fork(alloc, self.right.copy()?, key, value, right)
+        fork(alloc, self.right.copy()?, entry, right)
     }
 }
 
@@ -348,25 +391,23 @@ impl<K: Key, V: TryClone> Node<K, V> {
 fn with_entry<K: Key, V: TryClone>(
     alloc: Global,
     node: &Arc<Node<K, V>>,
-    key: K,
-    value: V,
+    entry: Entry<K, V>,
 ) -> Result<Tree<K, V>, Refusal>
     requires { DifferByAtMost 1 (arc_value node.now).left.1 (arc_value node.now).right.1 }
-    ensures { IsCopyOf result ((arc_value node.now).left.0 ++ (K.code key, value) ∷ (arc_value node.now).right.0, max (arc_value node.now).left.1 (arc_value node.now).right.1 + 1) }
+    ensures { IsCopyOf result ((arc_value node.now).left.0 ++ entry ∷ (arc_value node.now).right.0, max (arc_value node.now).left.1 (arc_value node.now).right.1 + 1) }
 {
-    fork(alloc, node.left.copy()?, key, value, node.right.copy()?)
+    fork(alloc, node.left.copy()?, entry, node.right.copy()?)
 }
 
 // The tree of an entry between two sides whose heights differ by at most one.
 fn fork<K: Key, V: TryClone>(
     alloc: Global,
     left: Tree<K, V>,
-    key: K,
-    value: V,
+    entry: Entry<K, V>,
     right: Tree<K, V>,
 ) -> Result<Tree<K, V>, Refusal>
     requires { DifferByAtMost 1 left.1 right.1 }
-    ensures { IsCopyOf result (left.0 ++ (K.code key, value) ∷ right.0, max left.1 right.1 + 1) }
+    ensures { IsCopyOf result (left.0 ++ entry ∷ right.0, max left.1 right.1 + 1) }
 {
     let Some(count) = left.count().checked_add(right.count()) else {
         return Err(Refusal::NoMemory);
@@ -375,16 +416,13 @@ fn fork<K: Key, V: TryClone>(
         return Err(Refusal::NoMemory);
     };
     let height = left.height().max(right.height()) + 1;
-    let node = Node {
-        left,
-        key,
-        value,
-        height,
-        count,
-        right,
-    };
+    let node = Node { left, right, entry };
     Ok(Tree {
-        node: Some(Arc::new(alloc, node)?),
+        root: Root::Fork {
+            height,
+            count,
+            node: Arc::new(alloc, node)?,
+        },
     })
 }
 
@@ -392,19 +430,18 @@ fn fork<K: Key, V: TryClone>(
 fn balance<K: Key, V: TryClone>(
     alloc: Global,
     left: Tree<K, V>,
-    key: K,
-    value: V,
+    entry: Entry<K, V>,
     right: Tree<K, V>,
 ) -> Result<Tree<K, V>, Refusal>
     requires { DifferByAtMost 2 left.1 right.1 }
-    ensures { IsBalanced result left (K.code key) value right }
+    ensures { IsBalanced result left entry right }
 {
     if left.height() > right.height() + 1 {
-        lean_left(alloc, &left, key, value, right)
+        lean_left(alloc, &left, entry, right)
     } else if right.height() > left.height() + 1 {
-        lean_right(alloc, left, key, value, &right)
+        lean_right(alloc, left, entry, &right)
     } else {
-        fork(alloc, left, key, value, right)
+        fork(alloc, left, entry, right)
     }
 }
 
@@ -412,26 +449,25 @@ fn balance<K: Key, V: TryClone>(
 fn lean_left<K: Key, V: TryClone>(
     alloc: Global,
     left: &Tree<K, V>,
-    key: K,
-    value: V,
+    entry: Entry<K, V>,
     right: Tree<K, V>,
 ) -> Result<Tree<K, V>, Refusal>
     requires { left.now.1 ≡ right.1 + 2 }
-    ensures { IsBalanced result left.now (K.code key) value right }
+    ensures { IsBalanced result left.now entry right }
 {
-    let Some(outer) = &left.node else {
+    let Root::Fork { node: outer, .. } = &left.root else {
         unreachable!()
     };
     let outer: &Node<K, V> = outer;
     if outer.left.height() >= outer.right.height() {
-        let side = outer.fork_after(alloc, key, value, right)?;
+        let side = outer.fork_after(alloc, entry, right)?;
         return outer.fork_right(alloc, side);
     }
-    let Some(inner) = &outer.right.node else {
+    let Root::Fork { node: inner, .. } = &outer.right.root else {
         unreachable!()
     };
     let inner: &Node<K, V> = inner;
-    let above = inner.fork_after(alloc, key, value, right)?;
+    let above = inner.fork_after(alloc, entry, right)?;
     let below = outer.fork_right(alloc, inner.left.copy()?)?;
     inner.fork(alloc, below, above)
 }
@@ -440,26 +476,25 @@ fn lean_left<K: Key, V: TryClone>(
 fn lean_right<K: Key, V: TryClone>(
     alloc: Global,
     left: Tree<K, V>,
-    key: K,
-    value: V,
+    entry: Entry<K, V>,
     right: &Tree<K, V>,
 ) -> Result<Tree<K, V>, Refusal>
     requires { right.now.1 ≡ left.1 + 2 }
-    ensures { IsBalanced result left (K.code key) value right.now }
+    ensures { IsBalanced result left entry right.now }
 {
-    let Some(outer) = &right.node else {
+    let Root::Fork { node: outer, .. } = &right.root else {
         unreachable!()
     };
     let outer: &Node<K, V> = outer;
     if outer.right.height() >= outer.left.height() {
-        let side = outer.fork_before(alloc, left, key, value)?;
+        let side = outer.fork_before(alloc, left, entry)?;
         return outer.fork_left(alloc, side);
     }
-    let Some(inner) = &outer.left.node else {
+    let Root::Fork { node: inner, .. } = &outer.left.root else {
         unreachable!()
     };
     let inner: &Node<K, V> = inner;
-    let below = inner.fork_before(alloc, left, key, value)?;
+    let below = inner.fork_before(alloc, left, entry)?;
     let above = outer.fork_left(alloc, inner.right.copy()?)?;
     inner.fork(alloc, below, above)
 }
@@ -475,6 +510,6 @@ fn join<K: Key, V: TryClone>(
 {
     match right.split_first(alloc)? {
         None => left.copy(),
-        Some(first) => balance(alloc, left.copy()?, first.key, first.value, first.rest),
+        Some(first) => balance(alloc, left.copy()?, first.entry, first.rest),
     }
 }

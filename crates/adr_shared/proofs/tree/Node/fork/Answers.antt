@@ -7,5 +7,5 @@ fork-requires g c = c.requires
 
 pub returns : goal.returns
 returns g c =
-    subst (λ entry. IsCopyOf c.fork.result (c.args.left.0 ++ (g.K.Key.code entry.0, entry.1) ∷ c.args.right.0, max c.args.left.1 c.args.right.1 + 1)) c.in_ok-key.ensures
-    c.fork.ensures
+    subst (λ entry. IsCopyOf c.fork-2.result (c.args.left.0 ++ entry ∷ c.args.right.0, max c.args.left.1 c.args.right.1 + 1)) c.in_ok-copy.ensures
+    c.fork-2.ensures

@@ -8,5 +8,5 @@ fork-requires g c = subst (λ side. DifferByAtMost 1 c.args.left.1 side.1) (sym 
 
 pub returns : goal.returns
 returns g c =
-    subst (λ side. IsCopyOf c.fork-2.result (c.args.left.0 ++ (g.K.Key.code c.args.key, c.args.value) ∷ side.0, max c.args.left.1 side.1 + 1)) c.in_ok-copy.ensures
+    subst (λ side. IsCopyOf c.fork-2.result (c.args.left.0 ++ c.args.entry ∷ side.0, max c.args.left.1 side.1 + 1)) c.in_ok-copy.ensures
     c.fork-2.ensures

@@ -8,5 +8,5 @@ fork-requires g c = subst (λ side. DifferByAtMost 1 side.1 c.args.right.1) (sym
 
 pub returns : goal.returns
 returns g c =
-    subst (λ side. IsCopyOf c.fork.result (side.0 ++ (g.K.Key.code c.args.self.now.key, c.args.self.now.value) ∷ c.args.right.0, max side.1 c.args.right.1 + 1)) c.in_ok-copy.ensures
+    subst (λ side. IsCopyOf c.fork.result (side.0 ++ c.args.self.now.entry ∷ c.args.right.0, max side.1 c.args.right.1 + 1)) c.in_ok-copy.ensures
     c.fork.ensures

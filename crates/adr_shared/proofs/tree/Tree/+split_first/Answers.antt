@@ -1,16 +1,15 @@
 use Rattle.std.proofs.Common.{arith, subst}
-use Rattle.std.specs.Arc.{arc_value}
 use Rattle.adr_shared.specs.Tree.{IsSplit}
 use Rattle.adr_shared.proofs.Opened.{left_shorter, node_holds}
 use Rattle.adr_shared.proofs.tree.Tree.+split_first.Goals as goal
 
 pub split_first-requires : goal.split_first-requires
 split_first-requires g t c κs within =
-    let shorter = left_shorter g.K.Key.code arc_value _ _ c.deref-node.result.now _ c.self.view_is c.in-Some.is c.deref-node.ensures in
+    let shorter = left_shorter c.deref-node.result.now c.self.view_is c.in-Fork.is c.deref-node.ensures in
     (omega (arith, shorter), (within.0, within.1))
 
 pub with_left-requires : goal.with_left-requires
 with_left-requires g t c =
-    let node = node_holds g.K.Key.code arc_value _ _ c.deref-node.result.now c.self.invariant c.in-Some.is c.deref-node.ensures in
-    let split = subst (IsSplit g.K.Key.code c.deref-node.result.now.left) c.in-Some-2.is c.in_ok-split_first.ensures in
+    let node = node_holds c.deref-node.result.now c.self.invariant c.in-Fork.is c.deref-node.ensures in
+    let split = subst (IsSplit c.deref-node.result.now.left) c.in-Some.is c.in_ok-split_first.ensures in
     (omega (arith, node.0, split), omega (arith, node.0, split))

@@ -1,0 +1,96 @@
+//! Entries of trees.
+ghost use Rattle.std.specs.Prelude.{◌≡◌};
+ghost use Rattle.adr_refusal.specs.Copy.{IsCopyOf};
+ghost use Rattle.adr_shared.specs.Map.{code_cmp};
+
+use crate::key::Key;
+use adr_refusal::{Refusal, TryClone};
+use std::cmp::Ordering;
+use std::marker::Model;
+
+/// A key and its value, and the key's lead beside them. Contracts see the key's code and the value.
+pub struct Entry<K: Key, V: TryClone> {
+    lead: u64,
+    key: K,
+    value: V,
+}
+
+// A function of its own, so that callers that let a value go need not look into it.
+impl<K: Key, V: TryClone> Drop for Entry<K, V> {
+    fn drop(self) {
+        let Entry {
+            lead: _,
+            key,
+            value,
+        } = self;
+        drop(key);
+        drop(value);
+    }
+}
+
+impl<K: Key, V: TryClone> Model for Entry<K, V> {
+    ghost use Rattle.std.specs.Prelude.{◌≡◌, ℕ, List};
+
+    ghost Value = { List ℕ × V };
+
+    ghost view = { λ e. (K.code e.key, e.value) };
+
+    ghost invariant = { λ e. e.lead ≡ K.lead_of e.key };
+}
+
+impl<K: Key, V: TryClone> Entry<K, V> {
+    /// The entry of a key and a value.
+    pub fn new(key: K, value: V) -> Entry<K, V>
+        ensures { result ≡ (K.code key, value) }
+    {
+        Entry {
+            lead: key.lead(),
+            key,
+            value,
+        }
+    }
+
+    /// The key.
+    pub fn key(&self) -> &K
+        ensures { K.code result.now ≡ self.now.0 }
+    {
+        &self.key
+    }
+
+    /// The value.
+    pub fn value(&self) -> &V
+        ensures { result.now ≡ self.now.1 }
+    {
+        &self.value
+    }
+
+    /// The order of a key, whose lead is at hand, and the entry's.
+    pub fn order_of(&self, key: &K, lead: u64) -> Ordering
+        requires { lead ≡ K.lead_of key.now }
+        ensures { result ≡ code_cmp (K.code key.now) self.now.0 }
+    {
+        key.compare_led(lead, &self.key, self.lead)
+    }
+
+    /// The order of another entry's key and this one's.
+    pub fn order_of_entry(&self, other: &Entry<K, V>) -> Ordering
+        ensures { result ≡ code_cmp other.now.0 self.now.0 }
+    {
+        self.order_of(&other.key, other.lead)
+    }
+
+    /// A copy. The lead is taken over, and not made anew.
+    ///
+    /// # Errors
+    ///
+    /// `NoMemory` where there is no room for what the key's or the value's copy takes.
+    pub fn copy(&self) -> Result<Entry<K, V>, Refusal>
+        ensures { IsCopyOf result self.now }
+    {
+        Ok(Entry {
+            lead: self.lead,
+            key: self.key.try_clone()?,
+            value: self.value.try_clone()?,
+        })
+    }
+}
