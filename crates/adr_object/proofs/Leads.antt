@@ -26,22 +26,14 @@ are_bytes (b ∷ text) h = (is_byte b (first (is_id_byte b) (list_all is_id_byte
 id_bytes : (text : List ℕ) → IsTrue (is_id text) → AreBytes text
 id_bytes text h = are_bytes text (second (nat_le 1 (length text) && nat_le (length text) 128) (list_all is_id_byte text) h)
 
-less_of : (m n : ℕ) → nat_cmp m n ≡ Less → m < n
-less_of m n e = grind (arith, e)
-
-greater_of : (m n : ℕ) → nat_cmp m n ≡ Greater → n < m
-greater_of m n e = grind (arith, e)
-
 module _ (laws : LeadsFollowTexts) (id other : List ℕ) (form : IsTrue (is_id id)) (other_form : IsTrue (is_id other)) (m n : ℕ) (lead : m ≡ lead_of_text id) (other_lead : n ≡ lead_of_text other) where
   -- the smaller lead is of the smaller id
-  pub smaller_lead : nat_cmp m n ≡ Less → slice_cmp nat_cmp id other ≡ Less
-  smaller_lead e =
-      let less = less_of m n e in
+  pub smaller_lead : m < n → slice_cmp nat_cmp id other ≡ Less
+  smaller_lead less =
       laws id other (id_bytes id form) (id_bytes other other_form) (subst (λ k. lead_of_text id < k) other_lead (subst (λ k. k < n) lead less))
 
   -- and the greater of the greater
-  pub greater_lead : nat_cmp m n ≡ Greater → slice_cmp nat_cmp id other ≡ Greater
-  greater_lead e =
-      let less = greater_of m n e in
+  pub greater_lead : n < m → slice_cmp nat_cmp id other ≡ Greater
+  greater_lead less =
       nat_list_cmp_total.antisymm id other
       ∙ ap ordering_reverse (laws other id (id_bytes other other_form) (id_bytes id form) (subst (λ k. lead_of_text other < k) lead (subst (λ k. k < m) other_lead less)))

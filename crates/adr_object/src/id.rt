@@ -127,22 +127,28 @@ impl Key for Id {
 
     ghost lead_of = { lead_of_text };
 
+    // Out of line, so that a look-up has only the comparison of leads in its loop.
+    #[inline(never)]
     fn compare(&self, other: &Id) -> Ordering {
         self.text().cmp(other.text())
     }
 
+    #[inline(always)]
     fn lead(&self) -> u64 {
         text_lead(self.text())
     }
 
+    #[inline(always)]
     fn compare_led(&self, lead: u64, other: &Id, other_lead: u64) -> Ordering {
         text_lead_laws();
         let _ = &self.text;
         let _ = &other.text;
-        match lead.cmp(&other_lead) {
-            Ordering::Less => Ordering::Less,
-            Ordering::Equal => self.compare(other),
-            Ordering::Greater => Ordering::Greater,
+        if lead == other_lead {
+            self.compare(other)
+        } else if lead < other_lead {
+            Ordering::Less
+        } else {
+            Ordering::Greater
         }
     }
 }

@@ -7,3 +7,4 @@ pub mod LookUps
 pub mod Last
 pub mod Crossing
 pub mod Leads
+mod Path

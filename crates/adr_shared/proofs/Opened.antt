@@ -1,5 +1,5 @@
 -- What a tree is, from its root's node.
-use Rattle.std.proofs.Common.{◌≡◌, ℕ, List, ◌∷◌, ◌++◌, ◌<◌, length, length-append, arith, sym, ap, ◌∙◌, subst, Global}
+use Rattle.std.proofs.Common.{◌≡◌, ℕ, List, ◌∷◌, ◌++◌, ◌+◌, ◌<◌, length, length-append, arith, sym, ap, ◌∙◌, subst, Global}
 use Rattle.std.specs.Arc.{arc_value}
 use Rattle.std.specs.declared.sync.Arc.{Arc}
 use Rattle.adr_shared.specs.Map.{IsAscending}
@@ -28,3 +28,7 @@ module _ {K V : Type 0} {root : Root K V} {height count : ℕ} {a : Arc (Node K 
 
     pub right_shorter : entries_and_height root ≡ tree → root ≡ Fork height count a → n ≡ arc_value a → length n.right.0 < length tree.0
     right_shorter view is same = subst (λ t. length n.right.0 < length t.0) (sym (opened view is same)) (omega (arith, length-append n.left.0 (n.entry ∷ n.right.0)))
+
+    -- the entries of the sides and the node's own are as many as the tree's
+    pub parts_counted : entries_and_height root ≡ tree → root ≡ Fork height count a → n ≡ arc_value a → length tree.0 ≡ length n.left.0 + 1 + length n.right.0
+    parts_counted view is same = ap (λ t. length t.0) (opened view is same) ∙ omega (arith, length-append n.left.0 (n.entry ∷ n.right.0))

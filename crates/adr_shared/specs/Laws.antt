@@ -1,5 +1,5 @@
 -- What a look-up finds after an edit of a map.
-use Rattle.std.specs.Prelude.{◌≡◌, ℕ, List, Option, Some, None, if◌then◌else◌}
+use Rattle.std.specs.Prelude.{◌≡◌, ℕ, List, Some, None, if◌then◌else◌}
 use Rattle.std.specs.Str.{bytes_eq}
 use Rattle.adr_shared.specs.Map.{lookup, put, without}
 

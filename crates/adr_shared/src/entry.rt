@@ -58,6 +58,7 @@ impl<K: Key, V: TryClone> Entry<K, V> {
     }
 
     /// The value.
+    #[inline(always)]
     pub fn value(&self) -> &V
         ensures { result.now ≡ self.now.1 }
     {
@@ -65,6 +66,7 @@ impl<K: Key, V: TryClone> Entry<K, V> {
     }
 
     /// The order of a key, whose lead is at hand, and the entry's.
+    #[inline(always)]
     pub fn order_of(&self, key: &K, lead: u64) -> Ordering
         requires { lead ≡ K.lead_of key.now }
         ensures { result ≡ code_cmp (K.code key.now) self.now.0 }

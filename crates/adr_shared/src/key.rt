@@ -43,10 +43,12 @@ impl Key for u64 {
         self.cmp(other)
     }
 
+    #[inline(always)]
     fn lead(&self) -> u64 {
         *self
     }
 
+    #[inline(always)]
     fn compare_led(&self, lead: u64, _other: &u64, other_lead: u64) -> Ordering {
         lead.cmp(&other_lead)
     }

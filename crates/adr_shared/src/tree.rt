@@ -1,5 +1,5 @@
 //! Balanced trees whose copies share their nodes.
-ghost use Rattle.std.specs.Prelude.{◌≡◌, ◌+◌, ◌/◌, ◌^◌, ◌≤◌, max, [], ◌∷◌, ◌++◌, length, slice_get, option_map, ◌-◌, ◌<◌, IfSome, MatchResult};
+ghost use Rattle.std.specs.Prelude.{◌≡◌, ◌+◌, ◌/◌, ◌^◌, ◌≤◌, max, [], ◌∷◌, ◌++◌, length, slice_get, option_map, ◌-◌, ◌<◌, MatchResult};
 ghost use Rattle.std.specs.Arc.{arc_value};
 ghost use Rattle.std.specs.Option.{option_copied};
 ghost use Rattle.adr_refusal.specs.Copy.{IsCopyOf};
@@ -84,6 +84,7 @@ impl<K: Key, V: TryClone> Tree<K, V> {
     }
 
     /// How many entries there are. The height is at most twice the logarithm of one more.
+    #[inline(always)]
     pub fn count(&self) -> u32
         ensures value { result ≡ length self.now.0 }
         ensures low { 2 ^ (self.now.1 / 2) ≤ length self.now.0 + 1 }
@@ -132,55 +133,52 @@ impl<K: Key, V: TryClone> Tree<K, V> {
         requires led { lead ≡ K.lead_of key.now }
         ensures { option_copied result ≡ lookup (K.code key.now) self.now.0 }
     {
-        match &self.root {
-            Root::Empty => None,
-            Root::Fork { node, .. } => {
-                let node: &Node<K, V> = node;
-                match node.entry.order_of(key, lead) {
-                    Ordering::Less => node.left.get_led(key, lead),
-                    Ordering::Equal => Some(node.entry.value()),
-                    Ordering::Greater => node.right.get_led(key, lead),
-                }
-            }
+        let mut rest = self;
+        'path: while let Root::Fork { node, .. } = &rest.root {
+            let node: &Node<K, V> = node;
+            rest = match node.entry.order_of(key, lead) {
+                Ordering::Less => &node.left,
+                Ordering::Equal => return Some(node.entry.value()),
+                Ordering::Greater => &node.right,
+            };
         }
+        None
     }
 
     /// The value at a place.
     pub fn at(&self, place: usize) -> Option<&V>
         ensures { option_copied result ≡ option_map (λ e. e.1) (slice_get self.now.0 place) }
     {
-        match &self.root {
-            Root::Empty => None,
-            Root::Fork { node, .. } => {
-                let before = node.left.count() as usize;
-                if place < before {
-                    node.left.at(place)
-                } else if place > before {
-                    node.right.at(place - before - 1)
-                } else {
-                    Some(node.entry.value())
-                }
-            }
-        }
+        Some(self.entry_at(place)?.value())
     }
 
     /// The key at a place.
     pub fn key_at(&self, place: usize) -> Option<&K>
         ensures { option_map K.code (option_copied result) ≡ option_map (λ e. e.0) (slice_get self.now.0 place) }
     {
-        match &self.root {
-            Root::Empty => None,
-            Root::Fork { node, .. } => {
-                let before = node.left.count() as usize;
-                if place < before {
-                    node.left.key_at(place)
-                } else if place > before {
-                    node.right.key_at(place - before - 1)
-                } else {
-                    Some(node.entry.key())
-                }
+        Some(self.entry_at(place)?.key())
+    }
+
+    // The entry at a place.
+    #[inline(always)]
+    fn entry_at(&self, place: usize) -> Option<&Entry<K, V>>
+        ensures { option_copied result ≡ slice_get self.now.0 place }
+    {
+        let mut rest = self;
+        let mut offset = place;
+        'path: while let Root::Fork { node, .. } = &rest.root {
+            let node: &Node<K, V> = node;
+            let before = node.left.count() as usize;
+            if offset < before {
+                rest = &node.left;
+            } else if offset > before {
+                offset -= before + 1;
+                rest = &node.right;
+            } else {
+                return Some(&node.entry);
             }
         }
+        None
     }
 
     /// The place of a key.
@@ -195,24 +193,23 @@ impl<K: Key, V: TryClone> Tree<K, V> {
     fn place_led(&self, key: &K, lead: u64) -> Option<usize>
         requires ascends { IsAscending self.now.0 }
         requires led { lead ≡ K.lead_of key.now }
-        ensures value { result ≡ place_of (K.code key.now) self.now.0 }
-        ensures within { IfSome result (λ place. place < length self.now.0) }
+        ensures { result ≡ place_of (K.code key.now) self.now.0 }
     {
-        match &self.root {
-            Root::Empty => None,
-            Root::Fork { node, .. } => {
-                let node: &Node<K, V> = node;
-                let before = node.left.count() as usize;
-                match node.entry.order_of(key, lead) {
-                    Ordering::Less => node.left.place_led(key, lead),
-                    Ordering::Equal => Some(before),
-                    Ordering::Greater => match node.right.place_led(key, lead) {
-                        None => None,
-                        Some(place) => Some(before + 1 + place),
-                    },
+        let _count = self.count();
+        let mut rest = self;
+        let mut passed = 0;
+        'path: while let Root::Fork { node, .. } = &rest.root {
+            let node: &Node<K, V> = node;
+            match node.entry.order_of(key, lead) {
+                Ordering::Less => rest = &node.left,
+                Ordering::Equal => return Some(passed + node.left.count() as usize),
+                Ordering::Greater => {
+                    passed += node.left.count() as usize + 1;
+                    rest = &node.right;
                 }
             }
         }
+        None
     }
 
     /// The tree with this value at the key, in place of the key's old value if it has one.

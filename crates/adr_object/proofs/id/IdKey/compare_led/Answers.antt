@@ -1,16 +1,16 @@
-use Rattle.std.proofs.Common.{IsTrue, sym, subst, ◌∙◌}
+use Rattle.std.proofs.Common.{IsTrue, arith, sym, subst}
 use Rattle.adr_object.specs.Id.{is_id}
 use Rattle.adr_object.proofs.Leads.{smaller_lead, greater_lead}
 use Rattle.adr_object.proofs.id.IdKey.compare_led.Goals as goal
 
-pub returns-in-Less : goal.returns-in-Less
-returns-in-Less c =
+pub returns-then-lead-other_lead-2 : goal.returns-then-lead-other_lead-2
+returns-then-lead-other_lead-2 c =
     let own = subst (λ text. IsTrue (is_id text)) c.self.view_is c.self.invariant in
     let other = subst (λ text. IsTrue (is_id text)) c.other.view_is c.other.invariant in
-    sym (smaller_lead c.text_lead_laws.ensures c.args.self.now c.args.other.now own other c.args.lead c.args.other_lead c.requires.own c.requires.other (sym c.cmp.ensures ∙ c.in-Less.is))
+    sym (smaller_lead c.text_lead_laws.ensures c.args.self.now c.args.other.now own other c.args.lead c.args.other_lead c.requires.own c.requires.other c.if-lead-other_lead-2.true)
 
-pub returns-in-Greater : goal.returns-in-Greater
-returns-in-Greater c =
+pub returns-else-lead-other_lead-2 : goal.returns-else-lead-other_lead-2
+returns-else-lead-other_lead-2 c =
     let own = subst (λ text. IsTrue (is_id text)) c.self.view_is c.self.invariant in
     let other = subst (λ text. IsTrue (is_id text)) c.other.view_is c.other.invariant in
-    sym (greater_lead c.text_lead_laws.ensures c.args.self.now c.args.other.now own other c.args.lead c.args.other_lead c.requires.own c.requires.other (sym c.cmp.ensures ∙ c.in-Greater.is))
+    sym (greater_lead c.text_lead_laws.ensures c.args.self.now c.args.other.now own other c.args.lead c.args.other_lead c.requires.own c.requires.other (omega (arith, c.if-lead-other_lead.false, c.if-lead-other_lead-2.false)))

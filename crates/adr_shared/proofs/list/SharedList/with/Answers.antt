@@ -1,6 +1,4 @@
-use Rattle.std.proofs.Common.{◌∙◌, ◌∷◌, ◌++◌, [], ap, subst, sym}
-use Rattle.std.specs.Map.{values_of}
-use Rattle.adr_shared.specs.Map.{AreBelow}
+use Rattle.std.proofs.Common.{◌∙◌, ◌∷◌, ◌++◌, [], ap}
 use Rattle.adr_shared.proofs.Last.{pushed_below, pushed_values}
 use Rattle.adr_shared.proofs.list.SharedList.with.Goals as goal
 
