@@ -4,7 +4,7 @@ use Rattle.std.proofs.lemmas.Int.{ints}
 use Rattle.std.proofs.Math.Nat.{min-le_left}
 use Rattle.std.proofs.lemmas.Nat.{mul-le}
 use Rattle.std.specs.Int.{int_max}
-use Rattle.adr_time.specs.Spans.{earlier_end, meets}
+use Rattle.adr_time.specs.Spans.{covers, earlier_end, meets}
 use Rattle.adr_time.specs.declared.span.End.{End}
 use Rattle.adr_time.specs.declared.span.End.TheVariants.{At, Endless}
 use Rattle.adr_time.specs.declared.span.Span.{Span}
@@ -28,6 +28,16 @@ part_meets a w s e h = by a.start w.start a.end w.end e h
     by b v Endless (At y) Endless h = grind (arith, ints)
     by b v Endless Endless (At z) h = grind (arith, ints)
     by b v Endless Endless Endless h = grind (arith, ints)
+
+-- what two spans both cover is covered by what they have in common
+pub both_cover : (w v : Span) (t : ℤ) → covers w t ≡ true → covers v t ≡ true → covers (record { start = int_max w.start v.start; end = earlier_end w.end v.end }) t ≡ true
+both_cover w v t h k = by w.start v.start w.end v.end h k
+  where
+    by : (a b : ℤ) (e f : End) → covers (record { start = a; end = e }) t ≡ true → covers (record { start = b; end = f }) t ≡ true → covers (record { start = int_max a b; end = earlier_end e f }) t ≡ true
+    by a b (At x) (At y) h k = grind (arith, ints)
+    by a b (At x) Endless h k = grind (arith, ints)
+    by a b Endless (At y) h k = grind (arith, ints)
+    by a b Endless Endless h k = grind (arith, ints)
 
 -- no more meet the part than the window
 part_fewer : (es : List Entry) (part w : Span) → ((s : Span) → meets s part ≡ true → meets s w ≡ true) → length (meeting es part) ≤ length (meeting es w)

@@ -208,6 +208,93 @@ kept_all windows rest spans left kept none so_far t h k = by (so_far.holds t h k
     by (inl c) = c
     by (inr p) = absurd (false≢true (subst (λ (es : List Entry). any_covers_at es t ≡ true) none p.0))
 
+-- ---- parts of windows
+
+-- what a part that was added covers, the parts cover
+pub part_added : (kept new : List Entry) (p : Entry) (t : ℤ) → new ≡ kept ++ p ∷ [] → (any_covers_at kept t ≡ true) ⊎ (covers p.span t ≡ true) → any_covers_at new t ≡ true
+part_added kept new p t made h = ap (λ (xs : List Entry). any_covers_at xs t) made ∙ (entries_append kept (p ∷ []) t ∙ by (any_covers_at kept t) (covers p.span t) refl refl h)
+  where
+    by : (a b : Bool) → any_covers_at kept t ≡ a → covers p.span t ≡ b → (any_covers_at kept t ≡ true) ⊎ (covers p.span t ≡ true) → (a || (b || false)) ≡ true
+    by true b i j h = refl
+    by false true i j h = refl
+    by false false i j (inl k) = absurd (both_ways (any_covers_at kept t) i k)
+    by false false i j (inr k) = absurd (both_ways (covers p.span t) j k)
+
+-- the parts, and what is left of the spans, hold what the spans cover inside the window
+pub record ArePartsOf (window : Span) (spans rest : List Span) (old parts : List Entry) : Type 0 where
+  pub order : AreInOrder rest
+  pub kept : (t : ℤ) → any_covers_at old t ≡ true → any_covers_at parts t ≡ true
+  pub holds : (t : ℤ) → covers window t ≡ true → any_covers spans t ≡ true → (any_covers_at parts t ≡ true) ⊎ (any_covers rest t ≡ true)
+
+in_order_rest : (s : Span) (ss : List Span) → AreInOrder (s ∷ ss) → AreInOrder ss
+in_order_rest s ss order = from_order s.start ss order
+
+module _ (window : Span) (spans rest more : List Span) (s : Span) (old parts new : List Entry) (p : Entry) (is : rest ≡ s ∷ more) (so_far : ArePartsOf window spans rest old parts) where
+  -- a part is added
+  pub part_taken : new ≡ parts ++ p ∷ [] → ((t : ℤ) → covers window t ≡ true → covers s t ≡ true → covers p.span t ≡ true) → ArePartsOf window spans more old new
+  part_taken made both = record {
+    order = in_order_rest s more (subst AreInOrder is so_far.order);
+    kept = λ t h. part_added parts new p t made (inl (so_far.kept t h));
+    holds = λ t h k. by t h (so_far.holds t h k);
+  }
+    where
+      either : (t : ℤ) (b : Bool) → covers s t ≡ b → covers window t ≡ true → (b || any_covers more t) ≡ true → (any_covers_at new t ≡ true) ⊎ (any_covers more t ≡ true)
+      either t true c h k = inl (part_added parts new p t made (inr (both t h c)))
+      either t false c h k = inr k
+
+      by : (t : ℤ) → covers window t ≡ true → (any_covers_at parts t ≡ true) ⊎ (any_covers rest t ≡ true) → (any_covers_at new t ≡ true) ⊎ (any_covers more t ≡ true)
+      by t h (inl k) = inl (part_added parts new p t made (inl k))
+      by t h (inr k) = either t (covers s t) refl h (ap (λ (ss : List Span). any_covers ss t) (sym is) ∙ k)
+
+-- the spans that are left start when the window has ended, or none is left
+pub parts_whole : (window : Span) (spans rest : List Span) (old parts : List Entry) → ArePartsOf window spans rest old parts
+    → ((t : ℤ) → covers window t ≡ true → any_covers rest t ≡ false)
+    → (t : ℤ) → covers window t ≡ true → any_covers spans t ≡ true → any_covers_at parts t ≡ true
+parts_whole window spans rest old parts so_far none t h k = by (so_far.holds t h k)
+  where
+    by : (any_covers_at parts t ≡ true) ⊎ (any_covers rest t ≡ true) → any_covers_at parts t ≡ true
+    by (inl c) = c
+    by (inr c) = absurd (both_ways (any_covers rest t) (none t h) c)
+
+-- the parts, and what is left of the windows and the spans, hold what the spans cover inside the windows
+pub record HaveParts (windows rest : List Entry) (spans left : List Span) (parts : List Entry) : Type 0 where
+  pub run : is_run rest ≡ true
+  pub order : AreInOrder left
+  pub holds : (t : ℤ) → any_covers_at windows t ≡ true → any_covers spans t ≡ true → (any_covers_at parts t ≡ true) ⊎ ((any_covers_at rest t ≡ true) × (any_covers left t ≡ true))
+
+-- the parts of a window are added
+pub window_parted : (windows rest more : List Entry) (w : Entry) (spans left after : List Span) (parts new : List Entry) → rest ≡ w ∷ more → HaveParts windows rest spans left parts
+    → AreInOrder after → ((t : ℤ) → w.span.start ≤ℤ t → any_covers after t ≡ any_covers left t)
+    → ((t : ℤ) → any_covers_at parts t ≡ true → any_covers_at new t ≡ true)
+    → ((t : ℤ) → covers w.span t ≡ true → any_covers after t ≡ true → any_covers_at new t ≡ true)
+    → HaveParts windows more spans after new
+window_parted windows rest more w spans left after parts new is so_far order same kept holds = record {
+  run = (run_parts w more run).2;
+  order = order;
+  holds = λ t h k. by t (so_far.holds t h k);
+}
+  where
+    run : is_run (w ∷ more) ≡ true
+    run = ap is_run (sym is) ∙ so_far.run
+
+    either : (t : ℤ) (b : Bool) → covers w.span t ≡ b → (b || any_covers_at more t) ≡ true → any_covers after t ≡ true → (any_covers_at new t ≡ true) ⊎ ((any_covers_at more t ≡ true) × (any_covers after t ≡ true))
+    either t true c h k = inl (holds t c k)
+    either t false c h k = inr (h, k)
+
+    by : (t : ℤ) → (any_covers_at parts t ≡ true) ⊎ ((any_covers_at rest t ≡ true) × (any_covers left t ≡ true)) → (any_covers_at new t ≡ true) ⊎ ((any_covers_at more t ≡ true) × (any_covers after t ≡ true))
+    by t (inl h) = inl (kept t h)
+    by t (inr p) =
+        let c : any_covers_at (w ∷ more) t ≡ true = ap (λ (es : List Entry). any_covers_at es t) (sym is) ∙ p.0 in
+        either t (covers w.span t) refl c (same t (run_starts w more t run c) ∙ p.1)
+
+pub all_parted : (windows rest : List Entry) (spans left : List Span) (parts : List Entry) → rest ≡ [] → HaveParts windows rest spans left parts
+    → (t : ℤ) → any_covers_at windows t ≡ true → any_covers spans t ≡ true → any_covers_at parts t ≡ true
+all_parted windows rest spans left parts none so_far t h k = by (so_far.holds t h k)
+  where
+    by : (any_covers_at parts t ≡ true) ⊎ ((any_covers_at rest t ≡ true) × (any_covers left t ≡ true)) → any_covers_at parts t ≡ true
+    by (inl c) = c
+    by (inr p) = absurd (false≢true (subst (λ (es : List Entry). any_covers_at es t ≡ true) none p.0))
+
 -- ---- the windows in which a line shows the event
 
 pub spans_cover : (es : List Entry) (t : ℤ) → any_covers (spans_of es) t ≡ any_covers_at es t

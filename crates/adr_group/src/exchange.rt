@@ -98,7 +98,8 @@ fn left_line(
     ensures compared { meter.new ≤ meter.old + most_inside writes.now (under indexes.now payload_type.now) leaving.now }
     ensures memory { OnlyNoMemory result }
 {
-    let windows = governed_windows(alloc, &line, leaving, number)?;
+    let given = Given::of(indexes, payload_type, writes);
+    let windows = governed_windows(alloc, &given, &line, leaving, number)?;
     if windows.is_empty() {
         return Ok(line);
     }

@@ -1,5 +1,6 @@
 //! The windows of an event in which timelines show it.
 ghost use Rattle.std.specs.Prelude.{◌≡◌, ◌≤◌, ◌++◌, ◌≤ℤ◌, ℕ, ℤ, List, true, false, IfOk, IsTrue, OnOk};
+ghost use Rattle.std.specs.Option.{option_copied};
 ghost use Rattle.adr_refusal.specs.Answer.{OnlyNoMemory};
 ghost use Rattle.adr_time.specs.Spans.{covers};
 ghost use Rattle.adr_model.specs.declared.entry.Entry.{Entry as AnyEntry};
@@ -8,8 +9,10 @@ ghost use Rattle.adr_timeline.specs.Steps.{is_run as comes_in_turn};
 ghost use Rattle.adr_timeline.specs.Windows.{any_covers};
 ghost use Rattle.adr_lines.specs.Grouped.{any_covers_at};
 ghost use Rattle.adr_group.specs.Governed.{is_of, own_spans, AreInOrder};
-ghost use Rattle.adr_group.specs.Repair.{most_inside};
+ghost use Rattle.adr_group.specs.Repair.{indexed, most_inside};
 
+use crate::line::Given;
+use crate::parts::{may_build, parts_of};
 use adr_model::Entry;
 use adr_time::{Moment, Span};
 use adr_timeline::{PackedSegment, Timeline, is_run};
@@ -50,7 +53,7 @@ fn governed_spans(alloc: Global, line: &Timeline, number: u64) -> Result<Vec<Spa
 }
 
 /// The spans but for the first ones that have ended by the moment.
-fn open_spans<'a>(spans: &'a [Span], at: Moment) -> &'a [Span]
+pub(crate) fn open_spans<'a>(spans: &'a [Span], at: Moment) -> &'a [Span]
     requires { AreInOrder spans.now }
     ensures order { AreInOrder result.now }
     ensures covers { (t : ℤ) → at ≤ℤ t → any_covers result.now t ≡ any_covers spans.now t }
@@ -97,16 +100,53 @@ fn met_windows(alloc: Global, windows: &[Entry], spans: &[Span]) -> Result<Vec<E
     Ok(kept)
 }
 
-/// The windows in which the line shows the event of that number; all of them where they don't come in turn. `NoMemory`
-/// where there is no room for them. Cost: that of `Timeline::met`, and a look at each window and at what it meets.
+/// Of how many windows at most their parts are built where that compares no more: an event of more intervals has short
+/// ones, which hold little else.
+const FEW: usize = 4;
+
+/// Whether one window is all that one span covers.
+fn is_whole(windows: &[Entry], spans: &[Span]) -> bool {
+    match (windows, spans) {
+        ([window], [span]) => window.span == *span,
+        _ => false,
+    }
+}
+
+/// Of windows that come in turn those that hold what some of the spans cover inside any of them, or the parts that they
+/// cover, where there are few windows and building inside their parts surely compares no more.
+fn covered_windows(
+    alloc: Global,
+    given: &Given,
+    windows: &[Entry],
+    spans: &[Span],
+) -> Result<Vec<Entry>, Refusal>
+    requires in_turn { IsTrue (comes_in_turn windows.now) }
+    requires order { AreInOrder spans.now }
+    ensures holds { IfOk result (λ kept. (t : ℤ) → any_covers_at windows.now t ≡ true → any_covers spans.now t ≡ true → any_covers_at kept.items t ≡ true) }
+    ensures cost { IfOk result (λ kept. most_inside given.now.writes.now (indexed (option_copied given.now.index)) kept.items ≤ most_inside given.now.writes.now (indexed (option_copied given.now.index)) windows.now) }
+    ensures memory { OnlyNoMemory result }
+{
+    if windows.len() <= FEW && !is_whole(windows, spans) {
+        let parts = parts_of(alloc, windows, spans)?;
+        if may_build(alloc, given, windows, &parts)? {
+            return Ok(parts);
+        }
+    }
+    met_windows(alloc, windows, spans)
+}
+
+/// The windows in which the line shows the event of that number, or of a few windows the parts in which it does; all of
+/// them where they don't come in turn. `NoMemory` where there is no room for them. Cost: that of `Timeline::met`, and a
+/// look at each window and at what it meets; of a few windows also that of `may_build`.
 pub(crate) fn governed_windows(
     alloc: Global,
+    given: &Given,
     line: &Timeline,
     windows: &[Entry],
     number: u64,
 ) -> Result<Vec<Entry>, Refusal>
     ensures holds { IfOk result (λ kept. (t : ℤ) → any_covers_at windows.now t ≡ true → any_covers_at kept.items t ≡ false → is_of number (shows line.now t) ≡ false) }
-    ensures cost { IfOk result (λ kept. (writes : List ℕ) (entries : List AnyEntry) → most_inside writes entries kept.items ≤ most_inside writes entries windows.now) }
+    ensures cost { IfOk result (λ kept. most_inside given.now.writes.now (indexed (option_copied given.now.index)) kept.items ≤ most_inside given.now.writes.now (indexed (option_copied given.now.index)) windows.now) }
     ensures memory { OnlyNoMemory result }
 {
     if !is_run(windows) {
@@ -114,5 +154,5 @@ pub(crate) fn governed_windows(
     }
     let met = line.met(windows)?;
     let spans = governed_spans(alloc, &met, number)?;
-    met_windows(alloc, windows, &spans)
+    covered_windows(alloc, given, windows, &spans)
 }

@@ -10,6 +10,7 @@ mod job;
 mod laws;
 mod line;
 mod met;
+mod parts;
 mod repair;
 mod share;
 mod timelines;

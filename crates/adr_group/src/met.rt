@@ -1,8 +1,8 @@
 //! What an event that comes meets of a timeline, and whether it may be laid over it.
-ghost use Rattle.std.specs.Prelude.{◌≡◌, ◌+◌, ◌≤◌, true, length, IfOk, IfSome};
+ghost use Rattle.std.specs.Prelude.{◌≡◌, ◌+◌, ◌≤◌, ℤ, true, length, IfOk, IfSome};
 ghost use Rattle.std.specs.Option.{option_copied};
 ghost use Rattle.adr_refusal.specs.Answer.{OnlyNoMemory};
-ghost use Rattle.adr_time.specs.Spans.{meets};
+ghost use Rattle.adr_time.specs.Spans.{covers, meets};
 ghost use Rattle.adr_time.specs.declared.span.Span.{Span as AnySpan};
 ghost use Rattle.adr_group.specs.Laid.{IsMet};
 ghost use Rattle.adr_group.specs.Repair.{indexed, most_inside};
@@ -14,21 +14,51 @@ use adr_timeline::{Ranks, Source, Timeline, is_run};
 use adr_value::Refusal;
 use std::alloc::Global;
 
-/// The part of the window in which the first eighth of the entries lies, and a few more.
-fn first_part(window: &Span, shown: &[Entry]) -> Span
-    ensures { (span : AnySpan) → meets span result ≡ true → meets span window.now ≡ true }
+/// What two spans have in common, where they do.
+pub(crate) fn common(a: &Span, b: &Span) -> Span
+    ensures covers { (t : ℤ) → covers a.now t ≡ true → covers b.now t ≡ true → covers result t ≡ true }
+    ensures meets { (span : AnySpan) → meets span result ≡ true → meets span a.now ≡ true }
 {
-    let (Some(first), Some(last)) = (shown.first(), shown.get(shown.len() / 8 + 8)) else {
-        return *window;
-    };
     Span {
-        start: window.start.later(first.span.start),
-        end: window.end.earlier(last.span.end),
+        start: a.start.later(b.start),
+        end: a.end.earlier(b.end),
     }
 }
 
-/// Whether building inside the entries may compare as often as both have entries: it may where enough of those that are
-/// given meet a part of the first of them.
+/// Whether building inside the windows compares at least so often: it does where enough of the entries that are given
+/// meet what the first of them has in common with a span.
+pub(crate) fn compares_enough(
+    alloc: Global,
+    given: &Given,
+    windows: &[Entry],
+    near: &Span,
+    wanted: u128,
+) -> Result<bool, Refusal>
+    ensures enough { IfOk result (λ enough. enough ≡ true → wanted ≤ most_inside given.now.writes.now (indexed (option_copied given.now.index)) windows.now) }
+    ensures memory { OnlyNoMemory result }
+{
+    let Some((window, _)) = windows.split_first() else {
+        return Ok(false);
+    };
+    let found = given.meeting(alloc, common(&window.span, near))?;
+    let count = found.len() as u128;
+    let most = count.saturating_mul(count.saturating_mul(2).saturating_add(1));
+    Ok(wanted <= most)
+}
+
+/// From the start of the first entry to the end of that behind the first eighth of them and a few more; the window where
+/// there is none.
+fn first_part(window: &Span, shown: &[Entry]) -> Span {
+    match (shown.first(), shown.get(shown.len() / 8 + 8)) {
+        (Some(first), Some(behind)) => Span {
+            start: first.span.start,
+            end: behind.span.end,
+        },
+        _ => *window,
+    }
+}
+
+/// Whether building inside the entries surely compares as often as both have entries.
 fn may_compare(
     alloc: Global,
     given: &Given,
@@ -38,13 +68,12 @@ fn may_compare(
     ensures may { IfOk result (λ may. may ≡ true → length shown.now + length entries.now ≤ most_inside given.now.writes.now (indexed (option_copied given.now.index)) entries.now) }
     ensures memory { OnlyNoMemory result }
 {
-    let Some((window, _)) = entries.split_first() else {
+    let Some(first) = entries.first() else {
         return Ok(false);
     };
-    let found = given.meeting(alloc, first_part(&window.span, shown))?;
-    let count = found.len() as u128;
-    let most = count.saturating_mul(count.saturating_mul(2).saturating_add(1));
-    Ok(shown.len() as u128 + entries.len() as u128 <= most)
+    let near = first_part(&first.span, shown);
+    let wanted = shown.len() as u128 + entries.len() as u128;
+    compares_enough(alloc, given, entries, &near, wanted)
 }
 
 /// What the entries meet of the timeline, as entries by rank. None where they don't come in turn, or meet more than twice as
