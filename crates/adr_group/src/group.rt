@@ -130,8 +130,8 @@ impl Group {
 
     /// The group of those writes, made of this one by repair inside the windows of both lists: if this one is right of
     /// the events that are indexed, and the windows hold the entries of each event on which the writes differ, then the
-    /// new one is right of them too. The same holds where events come and go, and the new ones are indexed: then the
-    /// windows hold the entries of those that go and of those that come. Timelines of other types are shared.
+    /// new one is right of them too. So it is where events come and go, and the new ones are indexed: then the windows
+    /// hold the entries of those that go and of those that come. Timelines of other types are shared.
     ///
     /// Ranks are compared by `before` alone, which counts each comparison. Cost: for each window a search of the index
     /// and a timeline of the entries of those writes that meet it, and for each type of a list one splice where its
@@ -201,8 +201,8 @@ impl Group {
         })
     }
 
-    /// The same where one event goes and another comes: so many of the windows, the first ones, are entries of the event
-    /// that goes, which has that number, and the others are those of the one that comes. These are laid over the timeline,
+    /// A job where one event goes and another comes: so many of the windows, the first ones, are entries of the event that
+    /// goes, which has that number, and the others are those of the one that comes. These are laid over the timeline,
     /// and compete with what it shows by the ranks of its winners; then what the writes show is built in those windows in
     /// which the event that goes governs. Where the entries that come don't come in turn, or meet so many segments that
     /// laying them might compare more than building may, what the writes show is built in all windows.

@@ -5,8 +5,8 @@ ghost use Rattle.adr_lines.specs.Exchange.{AreApart, FillsTheIndex, FitsTheIndex
 
 /// Where the indexes hold the entries of the old events, and some of those go and others come, `Indexes::exchange`
 /// may be called, and then they hold the entries of the new ones; and they hold those of the old ones as long as no
-/// entry changes, as where room is made. The same exchange the other way round is one too, which has its room
-/// wherever room was made for both. The body does nothing.
+/// entry changes, as where room is made. Its reverse may be called too, and has its room wherever room was made for
+/// both. The body does nothing.
 pub fn exchange_laws()
     ensures fits { (tie : Tie) → FitsTheIndex tie }
     ensures makes { (tie : Tie) → MakesTheIndex tie }

@@ -63,8 +63,8 @@ pub fn books_are_whole()
 {}
 
 /// No limit is ever passed: after any list of edits the programs, vens, resources, events and entries are at most
-/// as many as their limits, and the version is at most the greatest. The same holds of any limits, on a base that
-/// is within them.
+/// as many as their limits, and the version is at most the greatest. So it is of any limits, on a base that is within
+/// them.
 pub fn books_are_within_limits()
     ensures any { EditsKeepLimits }
     ensures after { BooksAreWithin }

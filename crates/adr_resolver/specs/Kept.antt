@@ -1,4 +1,4 @@
--- The same machine, seen by what the plain machine keeps: the objects, and not the batches that left them.
+-- The machine of the script, seen by what the plain machine keeps: the objects, and not the batches that left them.
 use Rattle.std.specs.Prelude.{◌≡◌, ℕ, ◌+◌, nat_lt, List, [], length, Option, Some, None, Result, Ok, Err, if◌then◌else◌}
 use Rattle.adr_value.specs.declared.limits.TheConstants.{MOST_PUBLICATIONS}
 use Rattle.adr_refusal.specs.declared.refusal.Refusal.{Refusal}
