@@ -4,6 +4,7 @@ pub mod Found
 pub mod Fresh
 pub mod Grown
 pub mod Mended
+pub mod Merged
 pub mod Ordered
 pub mod Placed
 pub mod Runs
@@ -11,4 +12,3 @@ pub mod Scanned
 pub mod Searched
 pub mod Sorted
 pub mod Spent
-pub mod Taken

@@ -3,7 +3,7 @@ use Rattle.std.proofs.Common.{◌≡◌, ℕ, zero, suc, ◌+◌, ◌-◌, ◌<�
 use Rattle.std.specs.Ordering.{int_eq}
 use Rattle.std.specs.List.{AllByRecursion, insert, list_any}
 use Rattle.std.proofs.lemmas.Int.{ints}
-use Rattle.std.proofs.lemmas.List.{append-nil, append_assoc, length-append}
+use Rattle.std.proofs.lemmas.List.{append-nil, append_assoc, length-append, take-append-drop}
 use Rattle.std.proofs.lemmas.List.Elements.{filter-append}
 use Rattle.std.proofs.lemmas.Bool.{cases_Bool, or_cases, or_parts, and_parts, false≢true, not-true}
 use Rattle.std.proofs.lemmas.Bool.Decides.{nat_tests, Decides-int_eq}
@@ -100,7 +100,7 @@ ordered_listed (e ∷ (f ∷ es)) o (suc k) d lt = let next : suc k + 1 ≡ suc 
 
 -- ---- an entry more, an entry less
 
-all_filter : (P : Entry → Type 0) (p : Entry → Bool) (es : List Entry) → AllByRecursion P es → AllByRecursion P (filter p es)
+pub all_filter : (P : Entry → Type 0) (p : Entry → Bool) (es : List Entry) → AllByRecursion P es → AllByRecursion P (filter p es)
 all_filter P p [] h = tt
 all_filter P p (e ∷ es) h = either (p e) (all_filter P p es h.1)
   where
@@ -133,7 +133,7 @@ all_append : (P : Entry → Type 0) (xs : List Entry) (e : Entry) (ys : List Ent
 all_append P [] e ys h p k = (p, k)
 all_append P (x ∷ xs) e ys h p k = (h.0, all_append P xs e ys h.1 p k)
 
-ordered_middle : (xs : List Entry) (e : Entry) (ys : List Entry) → IsOrdered xs → AllByRecursion (λ f. is_listed_before f e ≡ true) xs → AllByRecursion (λ f. is_listed_before e f ≡ true) ys → IsOrdered ys → IsOrdered (xs ++ e ∷ ys)
+pub ordered_middle : (xs : List Entry) (e : Entry) (ys : List Entry) → IsOrdered xs → AllByRecursion (λ f. is_listed_before f e ≡ true) xs → AllByRecursion (λ f. is_listed_before e f ≡ true) ys → IsOrdered ys → IsOrdered (xs ++ e ∷ ys)
 ordered_middle [] e ys o b a p = (a, p)
 ordered_middle (x ∷ xs) e ys o b a p = (
   all_append (λ f. is_listed_before x f ≡ true) xs e ys o.0 b.0 (all_more (λ f. is_listed_before e f ≡ true) (λ f. is_listed_before x f ≡ true) (λ f h. listed_trans x e f b.0 h) ys a),
@@ -259,6 +259,12 @@ pub ordered_right : (xs ys : List Entry) → IsOrdered (xs ++ ys) → IsOrdered 
 ordered_right [] ys o = o
 ordered_right (x ∷ xs) ys o = ordered_right xs ys o.1
 
+pub ordered_later : (n : ℕ) (es : List Entry) → IsOrdered es → IsOrdered (drop n es)
+ordered_later n es o = ordered_right (take n es) (drop n es) (rw (take-append-drop n es) o)
+
+pub ordered_first : (n : ℕ) (es : List Entry) → IsOrdered es → IsOrdered (take n es)
+ordered_first n es o = ordered_left (take n es) (drop n es) (rw (take-append-drop n es) o)
+
 -- each of the first part comes before the second
 across : (xs ys : List Entry) (j : ℕ) (x : Entry) → IsOrdered (xs ++ ys) → j < length xs → x ≡ slice_index_or xs j x → AllByRecursion (λ f. is_listed_before x f ≡ true) ys
 across [] ys j x o lt read = absurd (omega arith)
@@ -266,7 +272,7 @@ across (z ∷ zs) ys zero x o lt read = rw read (all_right (λ f. is_listed_befo
 across (z ∷ zs) ys (suc j) x o lt read = across zs ys j x o.1 (omega arith) read
 
 -- where the last comes before an entry, so do all
-up_to_last : (xs : List Entry) (j : ℕ) (x e : Entry) → IsOrdered xs → length xs ≡ suc j → x ≡ slice_index_or xs j x → is_listed_before x e ≡ true → AllByRecursion (λ f. is_listed_before f e ≡ true) xs
+pub up_to_last : (xs : List Entry) (j : ℕ) (x e : Entry) → IsOrdered xs → length xs ≡ suc j → x ≡ slice_index_or xs j x → is_listed_before x e ≡ true → AllByRecursion (λ f. is_listed_before f e ≡ true) xs
 up_to_last [] j x e o l read h = absurd (omega arith)
 up_to_last (z ∷ []) zero x e o l read h = (rw (← read) h, tt)
 up_to_last (z ∷ []) (suc j) x e o l read h = absurd (omega arith)
@@ -296,7 +302,7 @@ pub filter_all : (p : Entry → Bool) (es : List Entry) → AllByRecursion (λ f
 filter_all p [] h = refl
 filter_all p (e ∷ es) h = rw h.0 (ap (λ (xs : List Entry). e ∷ xs) (filter_all p es h.1))
 
-filter_out : (p : Entry → Bool) (es : List Entry) → AllByRecursion (λ f. p f ≡ false) es → filter p es ≡ []
+pub filter_out : (p : Entry → Bool) (es : List Entry) → AllByRecursion (λ f. p f ≡ false) es → filter p es ≡ []
 filter_out p [] h = refl
 filter_out p (e ∷ es) h = rw h.0 (filter_out p es h.1)
 

@@ -34,6 +34,9 @@ module _ (cs : List Chunk) (k : ℕ) (c : Chunk) (inside : k < length cs) (read 
       ∙ (flat_map-append listed (take k cs) (get_or cs k c ∷ [])
       ∙ (ap (λ (d : Chunk). all_listed (take k cs) ++ (listed d ++ [])) (sym read) ∙ ap (λ (xs : List Entry). all_listed (take k cs) ++ xs) (append-nil (listed c))))
 
+  pub chunk_ordered : IsOrdered (all_listed cs) → IsOrdered (listed c)
+  chunk_ordered o = ordered_left (listed c) (all_listed (drop (k + 1) cs)) (ordered_right (all_listed (take k cs)) (listed c ++ all_listed (drop (k + 1) cs)) (rw around at o))
+
   module _ (e : Entry) (some : 0 < length (listed c)) (order : IsOrdered (all_listed cs)) where
     pub goes_right : EndsBefore c e true → AllByRecursion (λ x. is_listed_before x e ≡ true) (all_listed (take (k + 1) cs))
     goes_right ends =
@@ -61,9 +64,6 @@ all_removed (d ∷ cs) zero c lt = refl
 all_removed (d ∷ cs) (suc k) c lt = let next : suc k + 1 ≡ suc (k + 1) = omega arith in rw next (ap (λ (xs : List Entry). listed d ++ xs) (all_removed cs k c (omega arith)) ∙ sym (append_assoc (listed d) (all_listed (take k cs)) (all_listed (drop (k + 1) cs))))
 
 module _ (cs : List Chunk) (k : ℕ) (c new : Chunk) (e : Entry) (inside : k < length cs) (read : c ≡ get_or cs k c) where
-  pub chunk_ordered : IsOrdered (all_listed cs) → IsOrdered (listed c)
-  chunk_ordered o = ordered_left (listed c) (all_listed (drop (k + 1) cs)) (ordered_right (all_listed (take k cs)) (listed c ++ all_listed (drop (k + 1) cs)) (rw (around cs k c inside read) at o))
-
   module _ (before : AllByRecursion (λ x. is_listed_before x e ≡ true) (all_listed (take k cs))) (after : AllByRecursion (λ x. is_listed_before e x ≡ true) (all_listed (drop (k + 1) cs))) where
     pub put_one : listed new ++ [] ≡ inserted e (listed c) → all_listed (set cs k new) ≡ inserted e (all_listed cs)
     put_one h = rw (all_set cs k new inside, around cs k c inside read, inserted_between (all_listed (take k cs)) (listed c) (all_listed (drop (k + 1) cs)) e before after, ← h) (ap (λ (xs : List Entry). all_listed (take k cs) ++ (xs ++ all_listed (drop (k + 1) cs))) (sym (append-nil (listed new))))

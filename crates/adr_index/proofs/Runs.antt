@@ -1,14 +1,13 @@
 -- Entries of one chunk that are taken out or added together.
-use Rattle.std.proofs.Common.{◌≡◌, ℕ, zero, suc, ◌+◌, ◌<◌, ◌≤◌, Bool, true, false, List, [], ◌∷◌, ◌++◌, length, take, drop, get_or, set, refl, sym, ◌∙◌, ap, arith}
-use Rattle.std.specs.List.{AllByRecursion, list_any, remove}
-use Rattle.std.proofs.lemmas.Bool.{or_parts}
+use Rattle.std.proofs.Common.{◌≡◌, ℕ, zero, suc, ◌+◌, ◌-◌, ◌<◌, ◌≤◌, true, false, List, [], ◌∷◌, ◌++◌, length, take, drop, get_or, set, refl, sym, ◌∙◌, ap, arith}
+use Rattle.std.specs.List.{AllByRecursion, remove}
 use Rattle.std.proofs.lemmas.List.{take-append-drop, length-append}
 use Rattle.adr_model.specs.declared.entry.Entry.{Entry}
 use Rattle.adr_model.specs.Entries.{is_listed_before}
 use Rattle.adr_index.specs.declared.chunk.Chunk.{Chunk}
-use Rattle.adr_index.specs.Chunks.{all_listed, listed, GoTogether}
-use Rattle.adr_index.specs.Index.{inserted, inserted_all, is_entry, others, others_all, AreNew, IsOrdered}
-use Rattle.adr_index.proofs.Ordered.{all_more, inserted_between, length_inserted, listed_trans, ordered_inserted, ordered_others, others_between}
+use Rattle.adr_index.specs.Chunks.{all_listed, listed, EndsBefore, GoTogether}
+use Rattle.adr_index.specs.Index.{inserted, inserted_all, others, others_all, AreNew, IsOrdered}
+use Rattle.adr_index.proofs.Ordered.{all_joined, all_left, all_more, inserted_between, length_inserted, listed_trans, ordered_first, ordered_inserted, ordered_middle, ordered_others, others_between, up_to_last}
 use Rattle.adr_index.proofs.Placed.{all_removed, all_set, around, goes_left}
 
 -- ---- one run behind another
@@ -17,31 +16,25 @@ pub others_parts : (xs ys es : List Entry) → others_all (xs ++ ys) es ≡ othe
 others_parts [] ys es = refl
 others_parts (x ∷ xs) ys es = others_parts xs ys (others x es)
 
-pub others_rest : (n : ℕ) (e : Entry) (es xs : List Entry) → others_all (drop n es) (others_all (e ∷ take n es) xs) ≡ others_all (e ∷ es) xs
-others_rest n e es xs = sym (others_parts (take n es) (drop n es) (others e xs)) ∙ ap (λ (ys : List Entry). others_all ys (others e xs)) (take-append-drop n es)
+pub others_rest : (n : ℕ) (es xs : List Entry) → others_all (drop n es) (others_all (take n es) xs) ≡ others_all es xs
+others_rest n es xs = sym (others_parts (take n es) (drop n es) xs) ∙ ap (λ (ys : List Entry). others_all ys xs) (take-append-drop n es)
 
-inserted_parts : (xs ys es : List Entry) → inserted_all (xs ++ ys) es ≡ inserted_all ys (inserted_all xs es)
+pub inserted_parts : (xs ys es : List Entry) → inserted_all (xs ++ ys) es ≡ inserted_all ys (inserted_all xs es)
 inserted_parts [] ys es = refl
 inserted_parts (x ∷ xs) ys es = inserted_parts xs ys (inserted x es)
 
-pub inserted_rest : (n : ℕ) (e : Entry) (es xs : List Entry) → inserted_all (drop n es) (inserted_all (e ∷ take n es) xs) ≡ inserted_all (e ∷ es) xs
-inserted_rest n e es xs = sym (inserted_parts (take n es) (drop n es) (inserted e xs)) ∙ ap (λ (ys : List Entry). inserted_all ys (inserted e xs)) (take-append-drop n es)
+pub inserted_rest : (n : ℕ) (es xs : List Entry) → inserted_all (drop n es) (inserted_all (take n es) xs) ≡ inserted_all es xs
+inserted_rest n es xs = sym (inserted_parts (take n es) (drop n es) xs) ∙ ap (λ (ys : List Entry). inserted_all ys xs) (take-append-drop n es)
 
-new_first : (n : ℕ) (es xs : List Entry) → AreNew es xs → AreNew (take n es) xs
+pub new_first : (n : ℕ) (es xs : List Entry) → AreNew es xs → AreNew (take n es) xs
 new_first zero es xs h = tt
 new_first (suc n) [] xs h = tt
 new_first (suc n) (e ∷ es) xs h = (h.0, new_first n es (inserted e xs) h.1)
 
-pub new_start : (n : ℕ) (e : Entry) (es xs : List Entry) → AreNew (e ∷ es) xs → AreNew (e ∷ take n es) xs
-new_start n e es xs h = (h.0, new_first n es (inserted e xs) h.1)
-
-new_later : (n : ℕ) (es xs : List Entry) → AreNew es xs → AreNew (drop n es) (inserted_all (take n es) xs)
-new_later zero es xs h = h
-new_later (suc n) [] xs h = tt
-new_later (suc n) (e ∷ es) xs h = new_later n es (inserted e xs) h.1
-
-pub new_rest : (n : ℕ) (e : Entry) (es xs : List Entry) → AreNew (e ∷ es) xs → AreNew (drop n es) (inserted_all (e ∷ take n es) xs)
-new_rest n e es xs h = new_later n es (inserted e xs) h.1
+pub new_rest : (n : ℕ) (es xs : List Entry) → AreNew es xs → AreNew (drop n es) (inserted_all (take n es) xs)
+new_rest zero es xs h = h
+new_rest (suc n) [] xs h = tt
+new_rest (suc n) (e ∷ es) xs h = new_rest n es (inserted e xs) h.1
 
 -- ---- the first of a run
 
@@ -51,10 +44,26 @@ take_fewer (suc n) zero xs le = absurd (omega (arith, le))
 take_fewer (suc n) (suc m) [] le = refl
 take_fewer (suc n) (suc m) (x ∷ xs) le = ap (λ (ys : List Entry). x ∷ ys) (take_fewer n m xs (omega (arith, le)))
 
-pub first_together : (first : Entry) (c : Chunk) (n : ℕ) (es : List Entry) → GoTogether first c es → GoTogether first c (take n es)
-first_together first c zero es h = tt
-first_together first c (suc n) [] h = tt
-first_together first c (suc n) (e ∷ es) h = (h.0, first_together first c n es h.1)
+pub first_together : (c : Chunk) (n : ℕ) (es : List Entry) → GoTogether c es → GoTogether c (take n es)
+first_together c zero es h = tt
+first_together c (suc n) [] h = tt
+first_together c (suc n) (e ∷ es) h = (ordered_first (suc n) (e ∷ es) h.0, all_left (λ f. EndsBefore c f false) (take n es) (drop n es) (rw (take-append-drop n es) h.1))
+
+pub together_ordered : (c : Chunk) (es : List Entry) → GoTogether c es → IsOrdered es
+together_ordered c [] h = tt
+together_ordered c (e ∷ es) h = h.0
+
+pub together_one : (c : Chunk) (es : List Entry) → GoTogether c (take 1 es)
+together_one c [] = tt
+together_one c (e ∷ es) = ((tt, tt), tt)
+
+-- one more, behind the last
+pub together_more : (c : Chunk) (es : List Entry) (x e : Entry) → 0 < length es → x ≡ get_or es (length es - 1) x → GoTogether c es → is_listed_before x e ≡ true → EndsBefore c e false → GoTogether c (es ++ e ∷ [])
+together_more c [] x e some read h k ends = absurd (omega (arith, some))
+together_more c (f ∷ es) x e some read h k ends = (
+  ordered_middle (f ∷ es) e [] h.0 (up_to_last (f ∷ es) (length (f ∷ es) - 1) x e h.0 (omega arith) read k) tt tt,
+  all_joined (λ g. EndsBefore c g false) es (e ∷ []) h.1 (ends, tt),
+)
 
 -- ---- what a run leaves
 
@@ -75,7 +84,7 @@ length_put (e ∷ run) es = rw (length_put run (inserted e es), length_inserted 
 abbrev Stands : List Entry → List Entry → Entry → Type 0
 Stands front back e = AllByRecursion (λ x. is_listed_before x e ≡ true) front × AllByRecursion (λ x. is_listed_before e x ≡ true) back
 
-taken_between : (front middle back run : List Entry) → AllByRecursion (Stands front back) run → others_all run (front ++ (middle ++ back)) ≡ front ++ (others_all run middle ++ back)
+pub taken_between : (front middle back run : List Entry) → AllByRecursion (Stands front back) run → others_all run (front ++ (middle ++ back)) ≡ front ++ (others_all run middle ++ back)
 taken_between front middle back [] h = refl
 taken_between front middle back (e ∷ run) h = rw (others_between front middle back e h.0.0 h.0.1) (taken_between front (others e middle) back run h.1)
 
@@ -83,60 +92,49 @@ put_between : (front middle back run : List Entry) → AllByRecursion (Stands fr
 put_between front middle back [] h = refl
 put_between front middle back (e ∷ run) h = rw (inserted_between front middle back e h.0.0 h.0.1) (put_between front (inserted e middle) back run h.1)
 
-none_right : (p : Entry → Bool) (xs ys : List Entry) → list_any p (xs ++ ys) ≡ false → list_any p ys ≡ false
-none_right p [] ys h = h
-none_right p (x ∷ xs) ys h = none_right p xs ys (or_parts (p x) (list_any p (xs ++ ys)) h).1
-
-none_left : (p : Entry → Bool) (xs ys : List Entry) → list_any p (xs ++ ys) ≡ false → list_any p xs ≡ false
-none_left p [] ys h = refl
-none_left p (x ∷ xs) ys h = rw (or_parts (p x) (list_any p (xs ++ ys)) h).0 (none_left p xs ys (or_parts (p x) (list_any p (xs ++ ys)) h).1)
-
-new_between : (front middle back run : List Entry) → AllByRecursion (Stands front back) run → AreNew run (front ++ (middle ++ back)) → AreNew run middle
-new_between front middle back [] h n = tt
-new_between front middle back (e ∷ run) h n = (
-  none_left (is_entry e.rank.written e.rank.place) middle back (none_right (is_entry e.rank.written e.rank.place) front (middle ++ back) n.0),
-  new_between front (inserted e middle) back run h.1 (rw (← inserted_between front middle back e h.0.0 h.0.1) n.1),
-)
-
 -- ---- in a chunk
 
-module _ (cs : List Chunk) (k : ℕ) (c new : Chunk) (first : Entry) (run : List Entry) (inside : k < length cs) (read : c ≡ get_or cs k c) (some : 0 < length (listed c)) (order : IsOrdered (all_listed cs)) (before : AllByRecursion (λ x. is_listed_before x first ≡ true) (all_listed (take k cs))) (after : AllByRecursion (λ x. is_listed_before first x ≡ true) (all_listed (drop (k + 1) cs))) (together : GoTogether first c run) where
-  all_stand : AllByRecursion (Stands (all_listed (take k cs)) (all_listed (drop (k + 1) cs))) (first ∷ run)
-  all_stand = ((before, after), each run together)
+module _ (cs : List Chunk) (k : ℕ) (c : Chunk) (inside : k < length cs) (read : c ≡ get_or cs k c) (some : 0 < length (listed c)) (order : IsOrdered (all_listed cs)) where
+  -- those that go together with the first of them, which belongs to the chunk
+  pub all_stand : (first : Entry) (es : List Entry) (n : ℕ) → first ≡ get_or es 0 first → AllByRecursion (λ x. is_listed_before x first ≡ true) (all_listed (take k cs)) → AllByRecursion (λ x. is_listed_before first x ≡ true) (all_listed (drop (k + 1) cs)) → GoTogether c (take n es) → AllByRecursion (Stands (all_listed (take k cs)) (all_listed (drop (k + 1) cs))) (take n es)
+  all_stand first es zero is before after together = tt
+  all_stand first [] (suc n) is before after together = tt
+  all_stand first (e ∷ es) (suc n) is before after together = ((front, rw (← is) after), each (take n es) together.0.0 together.1)
     where
-      each : (es : List Entry) → GoTogether first c es → AllByRecursion (Stands (all_listed (take k cs)) (all_listed (drop (k + 1) cs))) es
-      each [] h = tt
-      each (e ∷ es) h = (
+      front : AllByRecursion (λ x. is_listed_before x e ≡ true) (all_listed (take k cs))
+      front = rw (← is) before
+
+      each : (fs : List Entry) → AllByRecursion (λ f. is_listed_before e f ≡ true) fs → AllByRecursion (λ f. EndsBefore c f false) fs → AllByRecursion (Stands (all_listed (take k cs)) (all_listed (drop (k + 1) cs))) fs
+      each [] h t = tt
+      each (f ∷ fs) h t = (
         (
-          all_more (λ x. is_listed_before x first ≡ true) (λ x. is_listed_before x e ≡ true) (λ x b. listed_trans x first e b h.0.0) (all_listed (take k cs)) before,
-          goes_left cs k c inside read e some order h.0.1,
+          all_more (λ x. is_listed_before x e ≡ true) (λ x. is_listed_before x f ≡ true) (λ x b. listed_trans x e f b h.0) (all_listed (take k cs)) front,
+          goes_left cs k c inside read f some order t.0,
         ),
-        each es h.1,
+        each fs h.1 t.1,
       )
 
-  pub fresh_there : AreNew (first ∷ run) (all_listed cs) → AreNew (first ∷ run) (listed c)
-  fresh_there n = new_between (all_listed (take k cs)) (listed c) (all_listed (drop (k + 1) cs)) (first ∷ run) all_stand (rw (around cs k c inside read) at n)
+module _ (cs : List Chunk) (k : ℕ) (c new : Chunk) (run : List Entry) (inside : k < length cs) (read : c ≡ get_or cs k c) (stand : AllByRecursion (Stands (all_listed (take k cs)) (all_listed (drop (k + 1) cs))) run) where
+  pub put_run : listed new ≡ inserted_all run (listed c) → all_listed (set cs k new) ≡ inserted_all run (all_listed cs)
+  put_run h = rw (all_set cs k new inside, around cs k c inside read, put_between (all_listed (take k cs)) (listed c) (all_listed (drop (k + 1) cs)) run stand, ← h) refl
 
-  pub put_run : listed new ≡ inserted_all (first ∷ run) (listed c) → all_listed (set cs k new) ≡ inserted_all (first ∷ run) (all_listed cs)
-  put_run h = rw (all_set cs k new inside, around cs k c inside read, put_between (all_listed (take k cs)) (listed c) (all_listed (drop (k + 1) cs)) (first ∷ run) all_stand, ← h) refl
+  module _ (h : listed new ≡ others_all run (listed c)) where
+    pub take_run : all_listed (set cs k new) ≡ others_all run (all_listed cs)
+    take_run = rw (all_set cs k new inside, around cs k c inside read, taken_between (all_listed (take k cs)) (listed c) (all_listed (drop (k + 1) cs)) run stand, ← h) refl
 
-  module _ (h : listed new ≡ others_all (first ∷ run) (listed c)) where
-    pub take_run : all_listed (set cs k new) ≡ others_all (first ∷ run) (all_listed cs)
-    take_run = rw (all_set cs k new inside, around cs k c inside read, taken_between (all_listed (take k cs)) (listed c) (all_listed (drop (k + 1) cs)) (first ∷ run) all_stand, ← h) refl
-
-    pub take_gone : length (listed new) ≡ 0 → all_listed (remove (set cs k new) k) ≡ others_all (first ∷ run) (all_listed cs)
-    take_gone none = rw (all_removed cs k new inside, around cs k c inside read, taken_between (all_listed (take k cs)) (listed c) (all_listed (drop (k + 1) cs)) (first ∷ run) all_stand, ← h, no_length (listed new) none) refl
+    pub take_gone : length (listed new) ≡ 0 → all_listed (remove (set cs k new) k) ≡ others_all run (all_listed cs)
+    take_gone none = rw (all_removed cs k new inside, around cs k c inside read, taken_between (all_listed (take k cs)) (listed c) (all_listed (drop (k + 1) cs)) run stand, ← h, no_length (listed new) none) refl
       where
         no_length : (xs : List Entry) → length xs ≡ 0 → xs ≡ []
         no_length [] h = refl
         no_length (x ∷ xs) h = absurd (omega arith)
 
     -- how many are left
-    pub take_count : length (others_all (first ∷ run) (all_listed cs)) + length (listed c) ≡ length (all_listed cs) + length (listed new)
+    pub take_count : length (others_all run (all_listed cs)) + length (listed c) ≡ length (all_listed cs) + length (listed new)
     take_count =
         rw (
           around cs k c inside read,
-          taken_between (all_listed (take k cs)) (listed c) (all_listed (drop (k + 1) cs)) (first ∷ run) all_stand,
+          taken_between (all_listed (take k cs)) (listed c) (all_listed (drop (k + 1) cs)) run stand,
           ← h,
           length-append (all_listed (take k cs)) (listed new ++ all_listed (drop (k + 1) cs)),
           length-append (listed new) (all_listed (drop (k + 1) cs)),

@@ -1,10 +1,11 @@
 -- The chunks of an index.
-use Rattle.std.specs.Prelude.{◌≡◌, ℕ, ℤ, ◌^◌, ◌-◌, ◌<◌, ◌≤◌, Bool, true, false, List, [], length, slice_index_or, sum_by, Option, Some, None, vec_capacity}
+use Rattle.std.specs.Prelude.{◌≡◌, ℕ, ℤ, ◌^◌, ◌-◌, ◌<◌, ◌≤◌, Bool, false, ⊤, List, [], ◌∷◌, length, slice_index_or, sum_by, Option, Some, None, vec_capacity}
 use Rattle.std.specs.List.{AllByRecursion, flat_map}
 use Rattle.adr_time.specs.declared.span.End.{End}
 use Rattle.adr_model.specs.declared.entry.Entry.{Entry}
 use Rattle.adr_model.specs.Entries.{is_listed_before}
 use Rattle.adr_index.specs.declared.chunk.Chunk.{Chunk}
+use Rattle.adr_index.specs.Index.{IsOrdered}
 use Rattle.adr_index.specs.Tree.{only, IsGreatest, IsTree}
 
 -- the entries of a chunk
@@ -62,6 +63,7 @@ ArePooled cs = AllByRecursion IsPooled cs
 abbrev pub EndsBefore : Chunk → Entry → Bool → Type 0
 EndsBefore c e answer = (d : Entry) → is_listed_before (slice_index_or (listed c) (length (listed c) - 1) d) e ≡ answer
 
--- the entries come behind the first and not behind the chunk's last entry, and so belong to the chunk too, if the first does
-abbrev pub GoTogether : Entry → Chunk → List Entry → Type 0
-GoTogether first c es = AllByRecursion (λ e. (is_listed_before first e ≡ true) × EndsBefore c e false) es
+-- the entries are in order, and those behind the first do not come behind the chunk's last entry, and so belong to the chunk too, if the first does
+abbrev pub GoTogether : Chunk → List Entry → Type 0
+GoTogether c [] = ⊤
+GoTogether c (e ∷ es) = IsOrdered (e ∷ es) × AllByRecursion (λ f. EndsBefore c f false) es

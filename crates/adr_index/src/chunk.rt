@@ -1,9 +1,10 @@
 //! A chunk of an index: some entries in order, under a tree of their ends.
-ghost use Rattle.std.specs.Prelude.{◌≡◌, ◌+◌, ◌*◌, ◌<◌, ◌≤◌, ◌++◌, ◌∷◌, [], ◌^◌, IfNone, IfOk, IfSome, OnOk, length, vec_capacity};
+ghost use Rattle.std.specs.Prelude.{◌≡◌, ◌+◌, ◌-◌, ◌*◌, ◌<◌, ◌≤◌, ◌++◌, ◌∷◌, [], ◌^◌, IfNone, IfOk, IfSome, OnOk, length, vec_capacity};
+ghost use Rattle.std.specs.List.{remove_range};
 ghost use Rattle.adr_index.specs.Chunks.{listed, listed_too, ArePooled, HasEnds, IsChunk, IsPooled, IsRoomy, StartsLast};
 ghost use Rattle.adr_index.specs.Query.{any_late, hits, looks};
 ghost use Rattle.adr_index.specs.Tree.{IsByStart};
-ghost use Rattle.adr_index.specs.Index.{inserted, inserted_all, others, others_all, AreNew, IsOrdered};
+ghost use Rattle.adr_index.specs.Index.{inserted, inserted_all, others_all, IsOrdered};
 
 use crate::order::{comes_before, place_of};
 use crate::query::Query;
@@ -37,53 +38,71 @@ fn last_start(entries: &[Entry]) -> Moment
     }
 }
 
-/// Takes out the entry that stands in the same place, if there is one, and answers where that is or would be. The
-/// search begins at `near`, if it can.
-fn take_out(entries: &mut Vec<Entry>, near: usize, entry: &Entry) -> usize
-    requires order { IsOrdered entries.old.items }
-    requires near { near ≤ length entries.old.items }
-    ensures entries { entries.new.items ≡ others entry.now entries.old.items }
-    ensures within { result ≤ length entries.new.items }
-    ensures fewer { length entries.new.items ≤ length entries.old.items }
+/// Takes out those from a place up to another.
+fn take_between(entries: &mut Vec<Entry>, from: usize, to: usize)
+    requires order { from ≤ to }
+    requires within { to ≤ length entries.old.items }
+    ensures entries { entries.new.items ≡ remove_range entries.old.items from to }
+    ensures fewer { length entries.new.items + (to - from) ≡ length entries.old.items }
     ensures room { vec_capacity entries.old ≤ vec_capacity entries.new }
 {
-    let place = place_of(entries, near, entry);
-    if place == entries.len() || comes_before(entry, &entries[place]) {
-        return place;
-    }
-    let _ = entries.remove(place);
-    place
+    let left = entries.len() - (to - from);
+    entries.copy_within(to.., from);
+    entries.truncate(left);
 }
 
-/// Takes out what stands in the places of these entries, of which the first is searched for from `near` on, if it can,
-/// and each later one from where the one before it stood.
-fn take_each(entries: &mut Vec<Entry>, near: usize, run: &[Entry])
+/// Takes out what stands in the places of the entries of the run, which are in order. It is gone through once, and what
+/// stays behind the first of them is moved once.
+fn take_each(entries: &mut Vec<Entry>, run: &[Entry])
     requires order { IsOrdered entries.old.items }
-    requires near { near ≤ length entries.old.items }
+    requires run { IsOrdered run.now }
+    requires some { 0 < length run.now }
     ensures entries { entries.new.items ≡ others_all run.now entries.old.items }
     ensures fewer { length entries.new.items ≤ length entries.old.items }
     ensures room { vec_capacity entries.old ≤ vec_capacity entries.new }
 {
-    let mut near = near;
-    for entry in run {
-        near = take_out(entries, near, entry);
+    let mut kept = place_of(entries, entries.len() / 2, &run[0]);
+    let mut read = kept;
+    let mut taken = 0;
+    while read < entries.len() && taken < run.len() {
+        let entry = entries[read];
+        let gone = &run[taken];
+        if comes_before(&entry, gone) {
+            entries[kept] = entry;
+            kept += 1;
+            read += 1;
+        } else if comes_before(gone, &entry) {
+            taken += 1;
+        } else {
+            read += 1;
+            taken += 1;
+        }
     }
+    take_between(entries, kept, read);
 }
 
-/// Adds these entries, for which there is room, each in its place, which is searched for as `take_each` does.
-fn insert_each(entries: &mut Vec<Entry>, near: usize, run: &[Entry])
+/// Adds the entries of the run, which are in order and for which there is room, each in its place. It is merged from
+/// behind, so that what stands behind the first of them is moved once.
+fn insert_each(entries: &mut Vec<Entry>, run: &[Entry])
     requires order { IsOrdered entries.old.items }
-    requires near { near ≤ length entries.old.items }
+    requires run { IsOrdered run.now }
     requires room { length entries.old.items + length run.now ≤ vec_capacity entries.old }
-    requires fresh { AreNew run.now entries.old.items }
     ensures entries { entries.new.items ≡ inserted_all run.now entries.old.items }
-    ensures room { vec_capacity entries.old ≤ vec_capacity entries.new }
     ensures more { length entries.new.items ≡ length entries.old.items + length run.now }
+    ensures room { vec_capacity entries.old ≤ vec_capacity entries.new }
 {
-    let mut near = near;
-    for entry in run {
-        near = place_of(entries, near, entry);
-        let _ = entries.insert(near, *entry);
+    let mut left = entries.len();
+    let mut coming = run.len();
+    let _ = entries.extend_from_slice(run);
+    while coming > 0 {
+        let last = left + coming - 1;
+        if left > 0 && !comes_before(&entries[left - 1], &run[coming - 1]) {
+            left -= 1;
+            entries[last] = entries[left];
+        } else {
+            coming -= 1;
+            entries[last] = run[coming];
+        }
     }
 }
 
@@ -170,34 +189,32 @@ impl Chunk {
         Some(other)
     }
 
-    /// Takes out what stands in the places of the first entry and of the others.
-    pub(crate) fn take(&mut self, first: &Entry, run: &[Entry])
+    /// Takes out what stands in the places of the entries of the run, which are in order.
+    pub(crate) fn take(&mut self, run: &[Entry])
         requires chunk { IsChunk self.old }
         requires order { IsOrdered self.old.entries.items }
-        ensures entries { self.new.entries.items ≡ others_all (first.now ∷ run.now) self.old.entries.items }
+        requires run { IsOrdered run.now }
+        requires some { 0 < length run.now }
+        ensures entries { self.new.entries.items ≡ others_all run.now self.old.entries.items }
         ensures fewer { length self.new.entries.items ≤ length self.old.entries.items }
         ensures room { IsRoomy self.new }
         ensures chunk { 0 < length self.new.entries.items → IsChunk self.new }
     {
-        let middle = self.entries.len() / 2;
-        let near = take_out(&mut self.entries, middle, first);
-        take_each(&mut self.entries, near, run);
+        take_each(&mut self.entries, run);
         self.refresh();
     }
 
-    /// Adds the first entry and the others, for which there is room.
-    pub(crate) fn put_each(&mut self, first: &Entry, run: &[Entry])
+    /// Adds the entries of the run, which are in order and for which there is room.
+    pub(crate) fn put_each(&mut self, run: &[Entry])
         requires chunk { IsChunk self.old }
         requires order { IsOrdered self.old.entries.items }
-        requires room { length self.old.entries.items + length run.now < 64 }
-        requires fresh { AreNew (first.now ∷ run.now) self.old.entries.items }
-        ensures entries { self.new.entries.items ≡ inserted_all (first.now ∷ run.now) self.old.entries.items }
+        requires run { IsOrdered run.now }
+        requires room { length self.old.entries.items + length run.now ≤ 64 }
+        ensures entries { self.new.entries.items ≡ inserted_all run.now self.old.entries.items }
         ensures chunk { IsChunk self.new }
-        ensures more { length self.new.entries.items ≡ length self.old.entries.items + (length run.now + 1) }
+        ensures more { length self.new.entries.items ≡ length self.old.entries.items + length run.now }
     {
-        let place = place_of(&self.entries, self.entries.len() / 2, first);
-        let _ = self.entries.insert(place, *first);
-        insert_each(&mut self.entries, place, run);
+        insert_each(&mut self.entries, run);
         self.refresh();
     }
 

@@ -135,12 +135,12 @@ fn take_all(table: &mut Table, tops: &mut [Reach], old: &[Entry]) -> Stretch
     let mut stretch = Stretch::none();
     let mut near = 0;
     let mut rest = old;
-    while let Some((first, later)) = rest.split_first() {
-        let run = table.take(near, first, later);
+    while !rest.is_empty() {
+        let run = table.take(near, rest);
         stretch = stretch.with(run.place, table.chunks.len());
         stretch = write_far(&table.chunks, tops, stretch, is_far);
         near = run.place.unwrap_or(0);
-        (_, rest) = later.split_at(run.given);
+        (_, rest) = rest.split_at(run.given);
     }
     stretch
 }
@@ -164,12 +164,12 @@ fn put_all(table: &mut Table, tops: &mut [Reach], new: &[Entry], changed: Stretc
     let mut stretch = changed;
     let mut near = 0;
     let mut rest = new;
-    while let Some((first, later)) = rest.split_first() {
-        let run = table.put_run(near, first, later);
+    while !rest.is_empty() {
+        let run = table.put_run(near, rest);
         stretch = stretch.with(run.place, table.chunks.len());
         stretch = write_far(&table.chunks, tops, stretch, is_far);
         near = run.place.unwrap_or(0);
-        (_, rest) = later.split_at(run.given);
+        (_, rest) = rest.split_at(run.given);
     }
     stretch
 }
@@ -321,11 +321,12 @@ impl Index {
     /// Takes out what stands in the place of an old entry, with its start, written number and place, and adds the new
     /// ones, as when an event is written again. It takes no memory: a chunk that is emptied is kept for later.
     ///
-    /// Cost: each entry moves those behind it in its chunk, at most 64. For entries that come in order each chunk of
-    /// theirs is searched once, and its tree written once. The tree over the chunks is written once, from the first of
-    /// theirs to the last, a step for each of these, or, where there are 32 chunks and more for each entry, along the
-    /// paths to theirs. Where a chunk is parted or emptied it is written whole, a step for each chunk, and the chunks
-    /// behind that one are moved.
+    /// Cost: for entries that come in order each chunk of theirs is searched once, those of its entries, at most 64, that
+    /// stand from the first of theirs on are gone through and moved once, and its tree is written once; entries in another
+    /// order are taken out and added one by one. The tree over the chunks is written once, from the first of theirs to the
+    /// last, a step for each of these, or, where there are 32 chunks and more for each entry, along the paths to theirs.
+    /// Where a chunk is parted or emptied it is written whole, a step for each chunk, and the chunks behind that one are
+    /// moved.
     pub fn replace(&mut self, old: &[Entry], new: &[Entry])
         requires room { length new.now ≤ self.old.spare }
         requires fresh { AreNew new.now (others_all old.now self.old.entries) }

@@ -43,7 +43,7 @@ fn begin(entries: &[Entry], near: usize, entry: &Entry) -> usize
 
 /// How many of the entries come before the new one. They are gone through in turn, which for those of a chunk is
 /// faster than to halve them again and again: they are read from far memory, and in order that is foreseen. Where all
-/// before `near` come before it, as for the next of a run or behind the middle, they are gone through from there on.
+/// before `near` come before it, as behind the middle, they are gone through from there on.
 pub(crate) fn place_of(entries: &[Entry], near: usize, entry: &Entry) -> usize
     requires order { IsOrdered entries.now }
     requires near { near ≤ length entries.now }

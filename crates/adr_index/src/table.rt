@@ -147,16 +147,18 @@ pub(crate) struct Run {
     pub(crate) place: Option<usize>,
 }
 
-/// How many of the later entries, one after the other, belong to the chunk of the first too.
-fn run_into(chunk: &Chunk, first: &Entry, later: &[Entry]) -> usize
-    requires { IsChunk chunk.now }
-    ensures within { result ≤ length later.now }
-    ensures together { GoTogether first.now chunk.now (take result later.now) }
+/// How many of the entries, from the first on, are in order and belong to the chunk of the first.
+fn run_into(chunk: &Chunk, entries: &[Entry]) -> usize
+    requires chunk { IsChunk chunk.now }
+    requires some { 0 < length entries.now }
+    ensures some { 0 < result }
+    ensures within { result ≤ length entries.now }
+    ensures together { GoTogether chunk.now (take result entries.now) }
 {
-    let mut count = 0;
-    while count < later.len()
-        && comes_before(first, &later[count])
-        && !ends_before(chunk, &later[count])
+    let mut count = 1;
+    while count < entries.len()
+        && comes_before(&entries[count - 1], &entries[count])
+        && !ends_before(chunk, &entries[count])
     {
         count += 1;
     }
@@ -170,17 +172,18 @@ pub(crate) fn take_among(
     chunks: &mut Vec<Chunk>,
     pool: &mut Vec<Chunk>,
     near: usize,
-    first: &Entry,
-    later: &[Entry],
+    entries: &[Entry],
 ) -> (usize, Run)
     requires some { 0 < length chunks.old.items }
+    requires any { 0 < length entries.now }
     requires chunks { AreChunks chunks.old.items }
     requires order { IsOrdered (all_listed chunks.old.items) }
     requires pool { ArePooled pool.old.items }
     requires kept { length chunks.old.items + length pool.old.items ≤ vec_capacity pool.old }
-    ensures given { result.1.given ≤ length later.now }
+    ensures some { 0 < result.1.given }
+    ensures given { result.1.given ≤ length entries.now }
     ensures chunks { AreChunks chunks.new.items }
-    ensures entries { all_listed chunks.new.items ≡ others_all (first.now ∷ take result.1.given later.now) (all_listed chunks.old.items) }
+    ensures entries { all_listed chunks.new.items ≡ others_all (take result.1.given entries.now) (all_listed chunks.old.items) }
     ensures count { length (all_listed chunks.new.items) + result.0 ≡ length (all_listed chunks.old.items) }
     ensures pool { ArePooled pool.new.items }
     ensures spends { Spends 0 chunks.old.items pool.old.items chunks.new.items pool.new.items }
@@ -188,11 +191,11 @@ pub(crate) fn take_among(
     ensures kept { vec_capacity pool.old ≤ vec_capacity pool.new }
     ensures changed { IfSome result.1.place (λ place. IsChangedAt place chunks.old.items chunks.new.items) }
 {
-    let place = home(chunks, near, first);
-    let given = run_into(&chunks[place], first, later);
-    let (run, _) = later.split_at(given);
+    let place = home(chunks, near, &entries[0]);
+    let given = run_into(&chunks[place], entries);
+    let (run, _) = entries.split_at(given);
     let count = chunks[place].entries.len();
-    chunks[place].take(first, run);
+    chunks[place].take(run);
     let left = chunks[place].entries.len();
     if left > 0 {
         let place = Some(place);
@@ -204,36 +207,32 @@ pub(crate) fn take_among(
     (count, Run { given, place })
 }
 
-/// Adds the first entry and those behind it to the chunk to which they belong, as far as it has room; None where it has
-/// none, and nothing is changed.
-fn put_behind(
-    chunks: &mut Vec<Chunk>,
-    near: usize,
-    first: &Entry,
-    later: &[Entry],
-) -> Option<(usize, usize)>
+/// Adds the first entry and those behind it to the chunk to which they belong, as far as it has room, and answers how
+/// many, and its place; None where it has no room, and nothing is changed.
+fn put_behind(chunks: &mut Vec<Chunk>, near: usize, entries: &[Entry]) -> Option<(usize, usize)>
+    requires any { 0 < length entries.now }
     requires chunks { AreChunks chunks.old.items }
     requires order { IsOrdered (all_listed chunks.old.items) }
-    requires fresh { AreNew (first.now ∷ later.now) (all_listed chunks.old.items) }
     ensures none { IfNone result (chunks.new ≡ chunks.old) }
-    ensures given { IfSome result (λ r. r.0 ≤ length later.now) }
+    ensures some { IfSome result (λ r. 0 < r.0) }
+    ensures given { IfSome result (λ r. r.0 ≤ length entries.now) }
     ensures chunks { AreChunks chunks.new.items }
-    ensures entries { IfSome result (λ r. all_listed chunks.new.items ≡ inserted_all (first.now ∷ take r.0 later.now) (all_listed chunks.old.items)) }
-    ensures spends { IfSome result (λ r. (pool : List AnyChunk) → Spends (r.0 + 1) chunks.old.items pool chunks.new.items pool) }
+    ensures entries { IfSome result (λ r. all_listed chunks.new.items ≡ inserted_all (take r.0 entries.now) (all_listed chunks.old.items)) }
+    ensures spends { IfSome result (λ r. (pool : List AnyChunk) → Spends r.0 chunks.old.items pool chunks.new.items pool) }
     ensures room { vec_capacity chunks.old ≤ vec_capacity chunks.new }
     ensures changed { IfSome result (λ r. IsChangedAt r.1 chunks.old.items chunks.new.items) }
 {
     if chunks.is_empty() {
         return None;
     }
-    let place = home(chunks, near, first);
+    let place = home(chunks, near, &entries[0]);
     let room = chunks[place].room();
     if room == 0 {
         return None;
     }
-    let given = run_into(&chunks[place], first, later).min(room - 1);
-    let (run, _) = later.split_at(given);
-    chunks[place].put_each(first, run);
+    let given = run_into(&chunks[place], entries).min(room);
+    let (run, _) = entries.split_at(given);
+    chunks[place].put_each(run);
     Some((given, place))
 }
 
@@ -320,45 +319,50 @@ impl Table {
         changed
     }
 
-    /// Adds the first entry and some of those behind it, and answers how many of these, and the place of their chunk,
-    /// which is searched for behind that at `near` first.
-    pub(crate) fn put_run(&mut self, near: usize, first: &Entry, later: &[Entry]) -> Run
+    /// Adds the first entry and some of those behind it, and answers how many, and the place of their chunk, which is
+    /// searched for behind that at `near` first.
+    pub(crate) fn put_run(&mut self, near: usize, entries: &[Entry]) -> Run
+        requires any { 0 < length entries.now }
         requires table { IsTable self.old }
-        requires spare { length later.now < self.old.spare }
-        requires fresh { AreNew (first.now ∷ later.now) (all_listed self.old.chunks.items) }
-        ensures given { result.given ≤ length later.now }
+        requires spare { length entries.now ≤ self.old.spare }
+        requires fresh { AreNew entries.now (all_listed self.old.chunks.items) }
+        ensures some { 0 < result.given }
+        ensures given { result.given ≤ length entries.now }
         ensures table { IsTable self.new }
-        ensures entries { all_listed self.new.chunks.items ≡ inserted_all (first.now ∷ take result.given later.now) (all_listed self.old.chunks.items) }
-        ensures spare { self.old.spare ≤ self.new.spare + (result.given + 1) }
+        ensures entries { all_listed self.new.chunks.items ≡ inserted_all (take result.given entries.now) (all_listed self.old.chunks.items) }
+        ensures spare { self.old.spare ≤ self.new.spare + result.given }
         ensures sum { length self.new.chunks.items + length self.new.pool.items ≤ length self.old.chunks.items + length self.old.pool.items }
         ensures changed { IfSome result.place (λ place. IsChangedAt place self.old.chunks.items self.new.chunks.items) }
     {
-        if let Some((given, place)) = put_behind(&mut self.chunks, near, first, later) {
-            self.count += given + 1;
-            self.spare -= given + 1;
+        if let Some((given, place)) = put_behind(&mut self.chunks, near, entries) {
+            self.count += given;
+            self.spare -= given;
             let place = Some(place);
             return Run { given, place };
         }
-        let place = self.put(*first);
-        Run { given: 0, place }
+        let place = self.put(entries[0]);
+        Run { given: 1, place }
     }
 
-    /// Takes out what stands in the place of the first entry, and of some of those behind it, and answers how many of
-    /// these, and the place of their chunk, which is searched for behind that at `near` first.
-    pub(crate) fn take(&mut self, near: usize, first: &Entry, later: &[Entry]) -> Run
-        requires { IsTable self.old }
-        ensures given { result.given ≤ length later.now }
+    /// Takes out what stands in the place of the first entry, and of some of those behind it, and answers of how many,
+    /// and the place of their chunk, which is searched for behind that at `near` first.
+    pub(crate) fn take(&mut self, near: usize, entries: &[Entry]) -> Run
+        requires any { 0 < length entries.now }
+        requires table { IsTable self.old }
+        ensures some { 0 < result.given }
+        ensures given { result.given ≤ length entries.now }
         ensures table { IsTable self.new }
-        ensures entries { all_listed self.new.chunks.items ≡ others_all (first.now ∷ take result.given later.now) (all_listed self.old.chunks.items) }
+        ensures entries { all_listed self.new.chunks.items ≡ others_all (take result.given entries.now) (all_listed self.old.chunks.items) }
         ensures spare { self.old.spare ≤ self.new.spare }
         ensures sum { length self.new.chunks.items + length self.new.pool.items ≤ length self.old.chunks.items + length self.old.pool.items }
         ensures changed { IfSome result.place (λ place. IsChangedAt place self.old.chunks.items self.new.chunks.items) }
     {
         if self.chunks.is_empty() {
+            let given = entries.len();
             let place = None;
-            return Run { given: 0, place };
+            return Run { given, place };
         }
-        let (count, run) = take_among(&mut self.chunks, &mut self.pool, near, first, later);
+        let (count, run) = take_among(&mut self.chunks, &mut self.pool, near, entries);
         self.count -= count;
         run
     }
@@ -374,7 +378,7 @@ impl Table {
     {
         let mut is_found = false;
         while let Some(entry) = find(&self.chunks, written, place) {
-            let _ = self.take(0, &entry, &[]);
+            let _ = self.take(0, &[entry]);
             is_found = true;
         }
         is_found

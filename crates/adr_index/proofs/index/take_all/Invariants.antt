@@ -4,8 +4,8 @@ use Rattle.adr_index.specs.Index.{others_all}
 use Rattle.adr_index.specs.Tables.{HasTopsBut, IsTable}
 use Rattle.adr_index.proofs.index.take_all.Given as goal
 
-abbrev pub invariant-loop-first : goal.invariant-loop-first
-invariant-loop-first l = record {
+abbrev pub invariant-loop-rest : goal.invariant-loop-rest
+invariant-loop-rest l = record {
   table : IsTable l.table;
   entries : others_all l.rest (all_listed l.table.chunks.items) ≡ others_all l.old (all_listed l.fn.table.chunks.items);
   spare : l.fn.table.spare ≤ l.table.spare;
@@ -14,5 +14,5 @@ invariant-loop-first l = record {
   tops : HasTopsBut l.stretch.from l.stretch.to l.table.chunks.items l.tops;
 }
 
-abbrev pub decreases-loop-first : goal.decreases-loop-first
-decreases-loop-first l = length l.rest
+abbrev pub decreases-loop-rest : goal.decreases-loop-rest
+decreases-loop-rest l = length l.rest

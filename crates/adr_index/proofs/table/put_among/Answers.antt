@@ -7,7 +7,7 @@ pub put-later-requires-clause-order : goal.put-later-requires-clause-order
 put-later-requires-clause-order c =
     let inside : c.home-place.result < length c.args.chunks.now.items = search rules in
     let read : c.index_mut.result.now ≡ get_or c.args.chunks.now.items c.home-place.result c.index_mut.result.now = search rules in
-    chunk_ordered c.args.chunks.now.items c.home-place.result c.index_mut.result.now c.index_mut.result.now c.args.entry inside read c.requires.order
+    chunk_ordered c.args.chunks.now.items c.home-place.result c.index_mut.result.now inside read c.requires.order
 
 pub returns-in-Some-clause-entries : goal.returns-in-Some-clause-entries
 returns-in-Some-clause-entries c =

@@ -1,26 +1,28 @@
-use Rattle.std.proofs.Common.{◌≡◌, ◌<◌, true, false, [], ◌∷◌, length, get_or, take, sym, subst, ◌∙◌, arith}
-use Rattle.std.proofs.lemmas.List.{get_or_read, take_more}
+use Rattle.std.proofs.Common.{◌≡◌, ◌<◌, ◌-◌, false, [], ◌∷◌, length, get_or, take, sym, subst, ◌∙◌, arith, ap, ◌++◌}
+use Rattle.std.proofs.lemmas.List.{get_or_read, get_or-take, length-take-le, take_more}
 use Rattle.adr_model.specs.declared.entry.Entry.{Entry}
-use Rattle.adr_model.specs.Entries.{is_listed_before}
-use Rattle.adr_index.specs.Chunks.{EndsBefore}
-use Rattle.adr_index.proofs.Ordered.{all_joined}
+use Rattle.adr_index.specs.Chunks.{EndsBefore, GoTogether}
+use Rattle.adr_index.proofs.Runs.{together_more, together_one}
 use Rattle.adr_index.proofs.table.run_into.Goals as goal
+
+pub loop-count-init : goal.loop-count-init
+loop-count-init c = record { some = omega arith; inside = omega (arith, c.requires.some); together = together_one c.args.chunk.now c.args.entries.now }
 
 pub loop-count-preserved : goal.loop-count-preserved
 loop-count-preserved c =
     let n = c.loop-count.count in
-    let es = c.args.later.now in
+    let es = c.args.entries.now in
+    let x = c.index-entries-count.result in
+    let e = c.index-entries-count-in-loop-count.result in
     let inside : n < length es = omega arith in
-    let one = c.index-later-count.is in
-    let two = c.index-later-count-then-comes_before.is in
+    let count : length (take n es) ≡ n = length-take-le n es (omega arith) in
+    let read : x ≡ get_or (take n es) (length (take n es) - 1) x = rw count (c.index-entries-count.is ∙ sym (get_or-take n es (n - 1) x (omega (arith, c.loop-count.invariant.some)))) in
+    let one : c.index-entries-count-then-comes_before.result ≡ e = get_or_read es n c.index-entries-count-then-comes_before.result inside c.index-entries-count-then-comes_before.is e ∙ sym c.index-entries-count-in-loop-count.is in
+    let ends = subst (λ (f : Entry). EndsBefore c.args.chunk.now f false) one c.if-not-ends_before.ensures in
     record {
+      some = omega arith;
       inside = omega arith;
       together =
-          rw (take_more es n c.index-later-count.result inside) (all_joined (λ e. (is_listed_before c.args.first.now e ≡ true) × EndsBefore c.args.chunk.now e false) (take n es) (get_or es n c.index-later-count.result ∷ []) c.loop-count.invariant.together (
-            (
-              subst (λ (e : Entry). is_listed_before c.args.first.now e ≡ true) one (sym c.comes_before.ensures ∙ c.if-comes_before.true),
-              subst (λ (e : Entry). EndsBefore c.args.chunk.now e false) (get_or_read es n c.index-later-count-then-comes_before.result inside two c.index-later-count.result) c.if-not-ends_before.ensures,
-            ),
-            tt,
-          ));
+          subst (GoTogether c.args.chunk.now) (sym (take_more es n e inside ∙ ap (λ (f : Entry). take n es ++ f ∷ []) (sym c.index-entries-count-in-loop-count.is)))
+          (together_more c.args.chunk.now (take n es) x e (rw count c.loop-count.invariant.some) read c.loop-count.invariant.together (sym c.comes_before.ensures ∙ c.if-comes_before.true) ends);
     }

@@ -13,10 +13,10 @@ or_there false y all h k = sym h ∙ k
 pub loop-entry-preserved : goal.loop-entry-preserved
 loop-entry-preserved c =
     let found : IsFound c.args.written c.args.place c.in-Some.entry (all_listed c.loop-entry.self.chunks.items) = rw c.deref.ensures.value at c.in-Some.ensures.some in
-    let none : c.take.result.given ≡ 0 = omega (arith, c.take.ensures.given) in
+    let one : c.take.result.given ≡ 1 = omega (arith, c.take.ensures.some, c.take.ensures.given) in
     record {
       table = c.take.ensures.table;
-      entries = rw (c.take.ensures.entries, none) (without_others c.args.written c.args.place c.in-Some.entry found.named (all_listed c.loop-entry.self.chunks.items) ∙ c.loop-entry.invariant.entries);
+      entries = rw (c.take.ensures.entries, one) (without_others c.args.written c.args.place c.in-Some.entry found.named (all_listed c.loop-entry.self.chunks.items) ∙ c.loop-entry.invariant.entries);
       answer = or_there c.loop-entry.is_found (list_any (is_entry c.args.written c.args.place) (all_listed c.loop-entry.self.chunks.items)) _ found.any c.loop-entry.invariant.answer;
       spare = omega (arith, c.take.ensures.spare, c.loop-entry.invariant.spare);
       sum = omega (arith, c.take.ensures.sum, c.loop-entry.invariant.sum);
