@@ -27,7 +27,12 @@ fn begin(chunks: &[Chunk], near: usize, entry: &Entry) -> usize
     }
 }
 
-/// The last place that needs to be looked at from `low` on: that itself, where its chunk does not end before the entry.
+/// How many chunks on the next entry of an event is looked for before all are: where events of a day stand close, those
+/// of the next hour begin a few chunks on.
+const NEXT: usize = 16;
+
+/// The last place that needs to be looked at from `low` on: that itself, where its chunk does not end before the entry,
+/// or that of a chunk not far behind it.
 fn end(chunks: &[Chunk], low: usize, entry: &Entry) -> usize
     requires low { low < length chunks.now }
     requires chunks { AreChunks chunks.now }
@@ -36,11 +41,13 @@ fn end(chunks: &[Chunk], low: usize, entry: &Entry) -> usize
     ensures within { result < length chunks.now }
     ensures after { AllByRecursion (λ x. is_listed_before entry.now x ≡ true) (all_listed (drop (result + 1) chunks.now)) }
 {
-    if ends_before(&chunks[low], entry) {
-        chunks.len() - 1
-    } else {
-        low
+    if !ends_before(&chunks[low], entry) {
+        return low;
     }
+    if chunks.len() - low > NEXT && !ends_before(&chunks[low + NEXT], entry) {
+        return low + NEXT;
+    }
+    chunks.len() - 1
 }
 
 /// The place of the chunk to which the entry belongs. The chunk behind that at `near` is tried first, which is mostly
