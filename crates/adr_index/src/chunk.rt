@@ -38,7 +38,7 @@ fn last_start(entries: &[Entry]) -> Moment
     }
 }
 
-/// Takes out those from a place up to another.
+/// Takes out those from a place up to another. One alone is removed, which is faster than to copy those behind it.
 fn take_between(entries: &mut Vec<Entry>, from: usize, to: usize)
     requires order { from ≤ to }
     requires within { to ≤ length entries.old.items }
@@ -46,6 +46,10 @@ fn take_between(entries: &mut Vec<Entry>, from: usize, to: usize)
     ensures fewer { length entries.new.items + (to - from) ≡ length entries.old.items }
     ensures room { vec_capacity entries.old ≤ vec_capacity entries.new }
 {
+    if to - from == 1 {
+        let _ = entries.remove(from);
+        return;
+    }
     let left = entries.len() - (to - from);
     entries.copy_within(to.., from);
     entries.truncate(left);
@@ -65,13 +69,14 @@ fn take_each(entries: &mut Vec<Entry>, run: &[Entry])
     let mut read = kept;
     let mut taken = 0;
     while read < entries.len() && taken < run.len() {
-        let entry = entries[read];
+        let entry = &entries[read];
         let gone = &run[taken];
-        if comes_before(&entry, gone) {
-            entries[kept] = entry;
+        if comes_before(entry, gone) {
+            let stays = *entry;
+            entries[kept] = stays;
             kept += 1;
             read += 1;
-        } else if comes_before(gone, &entry) {
+        } else if comes_before(gone, entry) {
             taken += 1;
         } else {
             read += 1;
@@ -79,6 +84,18 @@ fn take_each(entries: &mut Vec<Entry>, run: &[Entry])
         }
     }
     take_between(entries, kept, read);
+}
+
+/// Adds an entry in its place. Those behind it are moved at once, which for one is faster than to merge.
+fn insert_one(entries: &mut Vec<Entry>, entry: &Entry)
+    requires order { IsOrdered entries.old.items }
+    requires room { length entries.old.items < vec_capacity entries.old }
+    ensures entries { entries.new.items ≡ inserted entry.now entries.old.items }
+    ensures more { length entries.new.items ≡ length entries.old.items + 1 }
+    ensures room { vec_capacity entries.old ≤ vec_capacity entries.new }
+{
+    let place = place_of(entries, entries.len() / 2, entry);
+    let _ = entries.insert(place, *entry);
 }
 
 /// Adds the entries of the run, which are in order and for which there is room, each in its place. It is merged from
@@ -91,6 +108,10 @@ fn insert_each(entries: &mut Vec<Entry>, run: &[Entry])
     ensures more { length entries.new.items ≡ length entries.old.items + length run.now }
     ensures room { vec_capacity entries.old ≤ vec_capacity entries.new }
 {
+    if run.len() == 1 {
+        insert_one(entries, &run[0]);
+        return;
+    }
     let mut left = entries.len();
     let mut coming = run.len();
     let _ = entries.extend_from_slice(run);

@@ -20,47 +20,47 @@ loop-read-init c = record {
 pub loop-read-preserved-then-comes_before : goal.loop-read-preserved-then-comes_before
 loop-read-preserved-then-comes_before c =
     let inside : c.loop-read.read < length c.loop-read.entries.items = search rules in
-    let read : c.index.result.now ≡ get_or c.loop-read.entries.items c.loop-read.read c.index.result.now = search rules in
-    let sooner : is_listed_before c.index.result.now c.index-run-taken.result ≡ true = search rules in
+    let read : c.index-entry.result.now ≡ get_or c.loop-read.entries.items c.loop-read.read c.index-entry.result.now = search rules in
+    let sooner : is_listed_before c.index-entry.result.now c.index-run-taken.result ≡ true = search rules in
     record {
       kept = omega (arith, c.loop-read.invariant.kept);
       read = search rules;
       taken = c.loop-read.invariant.taken;
       all = search rules;
-      rest = kept_rest c.args.run.now c.args.entries.now.items c.loop-read.entries.items c.loop-read.kept c.loop-read.read c.loop-read.taken c.index.result.now c.index-run-taken.result (c.requires.run, c.requires.order) c.loop-read.invariant.kept inside c.if-taken-run.true (read, c.index-run-taken.is) c.loop-read.invariant.rest c.loop-read.invariant.entries;
-      entries = kept_entries c.args.run.now c.args.entries.now.items c.loop-read.entries.items c.loop-read.kept c.loop-read.read c.loop-read.taken c.index.result.now c.index-run-taken.result (c.requires.run, c.requires.order) c.loop-read.invariant.kept inside c.if-taken-run.true (read, c.index-run-taken.is) c.loop-read.invariant.rest c.loop-read.invariant.entries sooner;
+      rest = kept_rest c.args.run.now c.args.entries.now.items c.loop-read.entries.items c.loop-read.kept c.loop-read.read c.loop-read.taken c.index-entry.result.now c.index-run-taken.result (c.requires.run, c.requires.order) c.loop-read.invariant.kept inside c.if-taken-run.true (read, c.index-run-taken.is) c.loop-read.invariant.rest c.loop-read.invariant.entries;
+      entries = kept_entries c.args.run.now c.args.entries.now.items c.loop-read.entries.items c.loop-read.kept c.loop-read.read c.loop-read.taken c.index-entry.result.now c.index-run-taken.result (c.requires.run, c.requires.order) c.loop-read.invariant.kept inside c.if-taken-run.true (read, c.index-run-taken.is) c.loop-read.invariant.rest c.loop-read.invariant.entries sooner;
       room = c.loop-read.invariant.room;
     }
 
 pub loop-read-preserved-then-comes_before-2 : goal.loop-read-preserved-then-comes_before-2
 loop-read-preserved-then-comes_before-2 c =
     let inside : c.loop-read.read < length c.loop-read.entries.items = search rules in
-    let read : c.index.result.now ≡ get_or c.loop-read.entries.items c.loop-read.read c.index.result.now = search rules in
-    let sooner : is_listed_before c.index.result.now c.index-run-taken.result ≡ false = search rules in
-    let later : is_listed_before c.index-run-taken.result c.index.result.now ≡ true = search rules in
+    let read : c.index-entry.result.now ≡ get_or c.loop-read.entries.items c.loop-read.read c.index-entry.result.now = search rules in
+    let sooner : is_listed_before c.index-entry.result.now c.index-run-taken.result ≡ false = search rules in
+    let later : is_listed_before c.index-run-taken.result c.index-entry.result.now ≡ true = search rules in
     record {
       kept = c.loop-read.invariant.kept;
       read = c.loop-read.invariant.read;
       taken = omega (arith, c.if-taken-run.true);
       all = c.loop-read.invariant.all;
       rest = c.loop-read.invariant.rest;
-      entries = missed_entries c.args.run.now c.args.entries.now.items c.loop-read.entries.items c.loop-read.kept c.loop-read.read c.loop-read.taken c.index.result.now c.index-run-taken.result (c.requires.run, c.requires.order) c.loop-read.invariant.kept inside c.if-taken-run.true (read, c.index-run-taken.is) c.loop-read.invariant.rest c.loop-read.invariant.entries sooner later;
+      entries = missed_entries c.args.run.now c.args.entries.now.items c.loop-read.entries.items c.loop-read.kept c.loop-read.read c.loop-read.taken c.index-entry.result.now c.index-run-taken.result (c.requires.run, c.requires.order) c.loop-read.invariant.kept inside c.if-taken-run.true (read, c.index-run-taken.is) c.loop-read.invariant.rest c.loop-read.invariant.entries sooner later;
       room = c.loop-read.invariant.room;
     }
 
 pub loop-read-preserved : goal.loop-read-preserved
 loop-read-preserved c =
     let inside : c.loop-read.read < length c.loop-read.entries.items = search rules in
-    let read : c.index.result.now ≡ get_or c.loop-read.entries.items c.loop-read.read c.index.result.now = search rules in
-    let sooner : is_listed_before c.index.result.now c.index-run-taken.result ≡ false = search rules in
-    let later : is_listed_before c.index-run-taken.result c.index.result.now ≡ false = search rules in
+    let read : c.index-entry.result.now ≡ get_or c.loop-read.entries.items c.loop-read.read c.index-entry.result.now = search rules in
+    let sooner : is_listed_before c.index-entry.result.now c.index-run-taken.result ≡ false = search rules in
+    let later : is_listed_before c.index-run-taken.result c.index-entry.result.now ≡ false = search rules in
     record {
       kept = omega (arith, c.loop-read.invariant.kept);
       read = omega (arith, inside);
       taken = omega (arith, c.if-taken-run.true);
       all = c.loop-read.invariant.all;
       rest = drop_more_same c.loop-read.entries.items c.args.entries.now.items c.loop-read.read c.loop-read.invariant.rest;
-      entries = taken_entries c.args.run.now c.args.entries.now.items c.loop-read.entries.items c.loop-read.kept c.loop-read.read c.loop-read.taken c.index.result.now c.index-run-taken.result (c.requires.run, c.requires.order) c.loop-read.invariant.kept inside c.if-taken-run.true (read, c.index-run-taken.is) c.loop-read.invariant.rest c.loop-read.invariant.entries sooner later;
+      entries = taken_entries c.args.run.now c.args.entries.now.items c.loop-read.entries.items c.loop-read.kept c.loop-read.read c.loop-read.taken c.index-entry.result.now c.index-run-taken.result (c.requires.run, c.requires.order) c.loop-read.invariant.kept inside c.if-taken-run.true (read, c.index-run-taken.is) c.loop-read.invariant.rest c.loop-read.invariant.entries sooner later;
       room = c.loop-read.invariant.room;
     }
 
