@@ -9,6 +9,10 @@ use Rattle.adr_keys.specs.Key.{same_key}
 abbrev pub offers_key : List Key → Key → Bool
 offers_key row key = list_any (same_key key) row
 
+-- some row has the key
+abbrev pub is_key_of : List (List Key) → Key → Bool
+is_key_of rows key = list_any (λ row. offers_key row key) rows
+
 -- there is a fresh row, and it has the key
 abbrev pub offers_fresh : Option (List Key) → Key → Bool
 offers_fresh row key = option_map_or (λ keys. offers_key keys key) row false

@@ -5,7 +5,7 @@ ghost use Rattle.adr_keys.specs.Blocks.{covers, is_set, includes, has_block};
 ghost use Rattle.adr_keys.specs.Places.{before_closing};
 ghost use Rattle.adr_keys.specs.declared.blocks.Block.{Block};
 
-use crate::word::{with_bit, without_bit, without_gap};
+use crate::word::{has_any_bit, with_bit, without_bit, without_gap};
 use adr_value::Refusal;
 use std::alloc::Global;
 use std::marker::Model;
@@ -23,6 +23,14 @@ impl Block {
         ensures { result ≡ covers place self }
     {
         self.start <= place && place - self.start < 64
+    }
+
+    /// Whether the block has a place.
+    fn has_any(self) -> bool
+        ensures some { result ≡ true → (p : ℕ) × (is_set p self ≡ true) }
+        ensures none { result ≡ false → (p : ℕ) → is_set p self ≡ false }
+    {
+        has_any_bit(self.bits)
     }
 
     /// The block with the place.
@@ -192,6 +200,19 @@ impl Blocks {
         ensures { (p : ℕ) → includes self.new p ≡ includes self.old p }
     {
         self.blocks.retain(|block| block.bits != 0);
+    }
+
+    /// Whether the set has a place.
+    pub(crate) fn has_any(&self) -> bool
+        ensures some { result ≡ true → (p : ℕ) × (includes self.now p ≡ true) }
+        ensures none { result ≡ false → (p : ℕ) → includes self.now p ≡ false }
+    {
+        for block in &self.blocks {
+            if block.has_any() {
+                return true;
+            }
+        }
+        false
     }
 
     /// Whether there is no block.

@@ -3,7 +3,7 @@ ghost use Rattle.std.specs.Prelude.{◌≡◌, ◌++◌, ◌∷◌, [], ◌<◌,
 ghost use Rattle.std.specs.Option.{unwrap_or};
 ghost use Rattle.adr_refusal.specs.Answer.{OnlyNoMemory};
 ghost use Rattle.adr_keys.specs.Places.{has, fits};
-ghost use Rattle.adr_keys.specs.Rows.{offers_key, renewed, offers_fresh};
+ghost use Rattle.adr_keys.specs.Rows.{is_key_of, offers_key, renewed, offers_fresh};
 ghost use Rattle.adr_keys.specs.Sets.{holds, is_ready, IsIndexOf};
 ghost use Rattle.adr_keys.specs.declared.key.Key.{Key};
 
@@ -66,6 +66,13 @@ impl Index {
         ensures { result ≡ length self.now }
     {
         self.rows.len()
+    }
+
+    /// Whether a row has the key. Cost: a look-up.
+    pub fn has_key(&self, key: &Key) -> bool
+        ensures { result ≡ is_key_of self.now key.now }
+    {
+        self.sets.has_any(key)
     }
 
     /// Adds the places whose rows have the key to a set, as far as it has room. Cost: a look-up, and the words of the

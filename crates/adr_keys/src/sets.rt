@@ -50,6 +50,17 @@ impl Sets {
         }
     }
 
+    /// Whether a place offers the key.
+    pub(crate) fn has_any(&self, key: &Key) -> bool
+        ensures some { result ≡ true → (p : ℕ) × (holds self.now.places key.now p ≡ true) }
+        ensures none { result ≡ false → (p : ℕ) → holds self.now.places key.now p ≡ false }
+    {
+        match self.places.get(key) {
+            Some(places) => places.has_any(),
+            None => false,
+        }
+    }
+
     /// Makes room for the place in the set of the key.
     pub(crate) fn reserve(&mut self, alloc: Global, key: &Key, place: usize) -> Result<(), Refusal>
         ensures same { (k : Key) (p : ℕ) → holds self.new.places k p ≡ holds self.old.places k p }

@@ -1,5 +1,5 @@
 //! Single bits of words.
-ghost use Rattle.std.specs.Prelude.{◌≡◌, ℕ, ◌+◌, ◌-◌, ◌<◌, ◌≤◌, ◌==◌, ◌&&◌, ◌||◌, not, false, if◌then◌else◌, nat_lt, nat_le};
+ghost use Rattle.std.specs.Prelude.{◌≡◌, ℕ, ◌+◌, ◌-◌, ◌<◌, ◌≤◌, ◌==◌, ◌&&◌, ◌||◌, not, true, false, if◌then◌else◌, nat_lt, nat_le};
 ghost use Rattle.adr_keys.specs.Places.{bit};
 
 pub(crate) fn has_bit(word: u64, k: usize) -> bool
@@ -7,6 +7,14 @@ pub(crate) fn has_bit(word: u64, k: usize) -> bool
     ensures { result ≡ bit word k }
 {
     word >> k & 1 == 1
+}
+
+/// Whether the word has a bit.
+pub(crate) fn has_any_bit(word: u64) -> bool
+    ensures some { result ≡ true → (i : ℕ) × (i < 64) × (bit word i ≡ true) }
+    ensures none { result ≡ false → word ≡ 0 }
+{
+    word != 0
 }
 
 pub(crate) fn with_bit(word: u64, k: usize) -> u64
