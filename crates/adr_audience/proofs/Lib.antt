@@ -3,6 +3,8 @@ pub mod Queried
 pub mod Matched
 pub mod Applied
 pub mod Shared
+pub mod Alike
+pub mod Numbered
 pub mod Listed
 pub mod Placed
 pub mod Named

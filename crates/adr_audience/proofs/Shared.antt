@@ -1,10 +1,9 @@
 -- An event that applies to a resource asks for something that the resource offers.
-use Rattle.std.proofs.Common.{◌≡◌, ℕ, ◌<◌, ◌+◌, ◌&&◌, ◌||◌, ◌++◌, ◌∷◌, [], Bool, true, false, cond, List, Option, Some, None, length, get_or, slice_get, map, filter, flat_map, option_map, option_to_list, zero, suc, refl, ap, sym, ◌∙◌, arith, inl, inr, bytes_eq}
+use Rattle.std.proofs.Common.{◌≡◌, ◌&&◌, ◌||◌, ◌++◌, ◌∷◌, [], Bool, true, false, cond, List, Option, Some, None, flat_map, option_to_list, refl, ap, sym, ◌∙◌, inl, inr, bytes_eq}
 use Rattle.std.proofs.lemmas.Bool.{false≢true, and_parts, or_left, or_right}
-use Rattle.std.proofs.lemmas.List.{length-map}
 use Rattle.std.proofs.lemmas.List.Folds.{list_any-append}
 use Rattle.std.proofs.lemmas.Slice.Eq.{bytes_eq-Decides}
-use Rattle.std.specs.List.{list_any, list_all, range_with_len}
+use Rattle.std.specs.List.{list_any, list_all}
 use Rattle.std.specs.Option.{option_map_or}
 use Rattle.adr_value.specs.declared.datum.Datum.{Datum}
 use Rattle.adr_object.specs.declared.event.Event.{Event}
@@ -12,7 +11,6 @@ use Rattle.adr_object.specs.declared.event.Target.{Target}
 use Rattle.adr_object.specs.declared.party.Program.{Program}
 use Rattle.adr_object.specs.declared.party.Ven.{Ven}
 use Rattle.adr_object.specs.declared.party.Resource.{Resource}
-use Rattle.adr_model.specs.declared.written.Written.{Written}
 use Rattle.adr_model.specs.Book.{Book, program_by}
 use Rattle.adr_model.specs.Matching.{applies}
 use Rattle.adr_model.specs.Lists.{In}
@@ -22,7 +20,7 @@ use Rattle.adr_keys.specs.Key.{same_key, same_key_flip}
 use Rattle.adr_keys.specs.Rows.{offers_key}
 use Rattle.adr_audience.specs.Offers.{offers, asked_key}
 use Rattle.adr_audience.specs.Query.{is_fixed, is_called, is_offered, meets_value, meets_type, meets, is_for}
-use Rattle.adr_audience.specs.Asks.{asked_by_target, asked_by, asks_no_key, asks, asked_in, asks_of, shares, applies_with, applies_at, applying_events}
+use Rattle.adr_audience.specs.Asks.{asked_by_target, asked_by, asks_no_key, asks, asked_in, shares, applies_with}
 use Rattle.adr_audience.proofs.Queried.{or_false}
 use Rattle.adr_audience.proofs.Matched.{rows_match}
 
@@ -36,7 +34,7 @@ any-with {X} {G} f (x ∷ xs) h k = by (f x) refl h (λ q. any-with f xs q (λ y
     by true e q rest = k x (inl refl) e
     by false e q rest = rest q
 
-in-any : {X : Type 0} (f : X → Bool) (x : X) (xs : List X) → In x xs → f x ≡ true → list_any f xs ≡ true
+pub in-any : {X : Type 0} (f : X → Bool) (x : X) (xs : List X) → In x xs → f x ≡ true → list_any f xs ≡ true
 in-any f x [] i h = absurd i
 in-any f x (y ∷ ys) (inl e) h = or_left (f y) (list_any f ys) (ap f e ∙ h)
 in-any f x (y ∷ ys) (inr i) h = or_right (f y) (list_any f ys) (in-any f x ys i h)
@@ -54,7 +52,7 @@ not_all-with {X} {G} f (x ∷ xs) h k = by (f x) refl h (λ q. not_all-with f xs
     by true e q rest = rest q
     by false e q rest = k x (inl refl) e
 
-any-flat : {X Y : Type 0} (f : Y → Bool) (g : X → List Y) (xs : List X) (x : X) → In x xs → list_any f (g x) ≡ true → list_any f (flat_map g xs) ≡ true
+pub any-flat : {X Y : Type 0} (f : Y → Bool) (g : X → List Y) (xs : List X) (x : X) → In x xs → list_any f (g x) ≡ true → list_any f (flat_map g xs) ≡ true
 any-flat f g [] x i h = absurd i
 any-flat f g (y ∷ ys) x (inl e) h = list_any-append f (g y) (flat_map g ys) ∙ or_left (list_any f (g y)) (list_any f (flat_map g ys)) (ap (λ z. list_any f (g z)) e ∙ h)
 any-flat f g (y ∷ ys) x (inr i) h = list_any-append f (g y) (flat_map g ys) ∙ or_right (list_any f (g y)) (list_any f (flat_map g ys)) (any-flat f g ys x i h)
@@ -115,38 +113,10 @@ module _ (event : Event) (program : Program) (row : List Key) where
 
 -- ---- the events of a book
 
--- what a first test passes on keeps all that the second passes
-filter-kept : (f g : ℕ → Bool) (a n : ℕ) → ((p : ℕ) → p < a + n → g p ≡ true → f p ≡ true) → filter g (filter f (range_with_len a n)) ≡ filter g (range_with_len a n)
-filter-kept f g a zero h = refl
-filter-kept f g a (suc n) h = by (f a) (g a) refl refl (filter-kept f g (a + 1) n (λ p l. h p (omega arith)))
-  where
-    by : (b c : Bool) → f a ≡ b → g a ≡ c → filter g (filter f (range_with_len (a + 1) n)) ≡ filter g (range_with_len (a + 1) n)
-        → filter g (cond (f a) (a ∷ filter f (range_with_len (a + 1) n)) (filter f (range_with_len (a + 1) n))) ≡ cond (g a) (a ∷ filter g (range_with_len (a + 1) n)) (filter g (range_with_len (a + 1) n))
-    by true c d e rest =
-        ap (λ x. filter g (cond x (a ∷ filter f (range_with_len (a + 1) n)) (filter f (range_with_len (a + 1) n)))) d
-        ∙ ap (λ xs. cond (g a) (a ∷ xs) xs) rest
-    by false true d e rest = absurd (false≢true (sym d ∙ h a (omega arith) e))
-    by false false d e rest =
-        ap (λ x. filter g (cond x (a ∷ filter f (range_with_len (a + 1) n)) (filter f (range_with_len (a + 1) n)))) d
-        ∙ rest ∙ sym (ap (λ x. cond x (a ∷ filter g (range_with_len (a + 1) n)) (filter g (range_with_len (a + 1) n))) e)
-
 module _ (book : Book) (r : Resource) (v : Ven) where
-  one : (e : Event) → applies_with book r v e ≡ true → shares (asked_in book e) (Anyone ∷ offers r v) ≡ true
+  pub one : (e : Event) → applies_with book r v e ≡ true → shares (asked_in book e) (Anyone ∷ offers r v) ≡ true
   one e h = by (program_by book e.program_id) h
     where
       by : (o : Option Program) → option_map_or (λ program. applies (record { program = program; event = e; ven = v; resource = r })) o false ≡ true → shares (option_map_or (asks e) o []) (Anyone ∷ offers r v) ≡ true
       by None q = absurd (false≢true q)
       by (Some p) q = asked-one e p (offers r v) (rows_match e p v r ∙ q)
-
-  each : (ws : List Written) (p : ℕ) → p < length ws → option_map_or (applies_with book r v) (option_map (λ w. w.event) (slice_get ws p)) false ≡ true
-      → shares (get_or (map (λ w. asked_in book w.event) ws) p []) (Anyone ∷ offers r v) ≡ true
-  each [] p l h = absurd (omega arith)
-  each (w ∷ ws) zero l h = one w.event h
-  each (w ∷ ws) (suc p) l h = each ws p (omega arith) h
-
-  pub events_found : (rows : List (List Key)) → rows ≡ asks_of book
-      → filter (applies_at book r v) (filter (λ p. shares (get_or rows p []) (Anyone ∷ offers r v)) (range_with_len 0 (length rows))) ≡ applying_events book r v
-  events_found rows e =
-      ap (λ xs. filter (applies_at book r v) (filter (λ p. shares (get_or xs p []) (Anyone ∷ offers r v)) (range_with_len 0 (length xs)))) e
-      ∙ ap (λ n. filter (applies_at book r v) (filter (λ p. shares (get_or (asks_of book) p []) (Anyone ∷ offers r v)) (range_with_len 0 n))) (length-map book.events (λ w. asked_in book w.event))
-      ∙ filter-kept (λ p. shares (get_or (asks_of book) p []) (Anyone ∷ offers r v)) (applies_at book r v) 0 (length book.events) (λ p l h. each book.events p (omega arith) h)

@@ -1,7 +1,7 @@
 -- What an event asks for, and which events apply to a resource.
-use Rattle.std.specs.Prelude.{ℕ, Bool, false, ◌&&◌, List, [], ◌∷◌, ◌++◌, map, filter, flat_map, length, slice_get, option_map, option_to_list, Option, Some, None, if◌then◌else◌}
-use Rattle.std.specs.List.{list_all, list_any, range_with_len}
-use Rattle.std.specs.Option.{option_map_or}
+use Rattle.std.specs.Prelude.{ℕ, Bool, false, ◌&&◌, List, [], ◌∷◌, ◌++◌, map, filter, flat_map, slice_get, option_to_list, Option, Some, None, if◌then◌else◌}
+use Rattle.std.specs.List.{list_all, list_any}
+use Rattle.std.specs.Option.{option_map_or, option_and_then}
 use Rattle.std.specs.Str.{bytes_eq}
 use Rattle.adr_object.specs.declared.event.Event.{Event}
 use Rattle.adr_object.specs.declared.event.Target.{Target}
@@ -13,7 +13,7 @@ use Rattle.adr_model.specs.Matching.{applies}
 use Rattle.adr_model.specs.Book.{Book, program_by}
 use Rattle.adr_keys.specs.declared.key.Key.{Key}
 use Rattle.adr_keys.specs.declared.key.Key.TheVariants.{Anyone}
-use Rattle.adr_keys.specs.Rows.{offers_key, renewed}
+use Rattle.adr_keys.specs.Rows.{offers_key, is_key_of, renewed}
 use Rattle.adr_audience.specs.Offers.{asked_key}
 use Rattle.adr_audience.specs.Query.{is_fixed}
 
@@ -49,13 +49,17 @@ abbrev pub applies_with : Book → Resource → Ven → Event → Bool
 applies_with book resource ven event =
     option_map_or (λ program. applies (record { program = program; event = event; ven = ven; resource = resource })) (program_by book event.program_id) false
 
--- so does the event at the place
-abbrev pub applies_at : Book → Resource → Ven → ℕ → Bool
-applies_at book resource ven place = option_map_or (applies_with book resource ven) (option_map (λ w. w.event) (slice_get book.events place)) false
+-- the events of the book that apply to the resource of the ven, in order of creation
+abbrev pub applying_writes : Book → Resource → Ven → List Written
+applying_writes book resource ven = filter (λ w. applies_with book resource ven w.event) book.events
 
--- the places of the events that apply to the resource of the ven, in order of creation
-abbrev pub applying_events : Book → Resource → Ven → List ℕ
-applying_events book resource ven = filter (applies_at book resource ven) (range_with_len 0 (length book.events))
+-- the number of the write of the event at the place, if the event applies to the resource of the ven
+abbrev pub number_at : Book → Resource → Ven → ℕ → Option ℕ
+number_at book resource ven place = option_and_then (λ w. if applies_with book resource ven w.event then Some w.written else None) (slice_get book.events place)
+
+-- those of the keys that some row asks for
+abbrev pub asked_keys : List (List Key) → List Key → List Key
+asked_keys asks keys = filter (is_key_of asks) keys
 
 -- what an event asks for with the program, where it is the program's
 abbrev pub fresh_asks : Program → Event → Option (List Key)

@@ -18,7 +18,7 @@ use Rattle.adr_model.specs.Whole.{IsWhole, event_ids}
 use Rattle.adr_keys.specs.Rows.{offers_key}
 use Rattle.adr_audience.specs.Offers.{offers}
 use Rattle.adr_model.specs.declared.written.Written.{Written}
-use Rattle.adr_audience.specs.Asks.{asked_in, asks_of, with_program}
+use Rattle.adr_audience.specs.Asks.{applying_writes, asked_in, asked_keys, asks_of, with_program}
 use Rattle.adr_audience.specs.Query.{is_for}
 use Rattle.adr_audience.specs.Rows.{offered_in, offers_of, with_ven}
 
@@ -27,6 +27,12 @@ abbrev pub RowsMatchAsScenes : Type 0
 RowsMatchAsScenes =
     (event : Event) (program : Program) (ven : Ven) (resource : Resource)
     → is_for event program (offers_key (offers resource ven)) ≡ applies (record { program = program; event = event; ven = ven; resource = resource })
+
+-- resources that offer the same of the keys that the events of a book ask for have the same events
+abbrev pub EventsFollowAsked : Type 0
+EventsFollowAsked =
+    (book : Book) (r s : Resource) (v u : Ven) → asked_keys (asks_of book) (offers r v) ≡ asked_keys (asks_of book) (offers s u)
+    → applying_writes book r v ≡ applying_writes book s u
 
 -- the event of the program applies to the resource, whose ven is in the book
 abbrev pub applies_in : Book → Event → Program → Resource → Bool

@@ -1,18 +1,21 @@
 //! Whom events are for, as one value that follows the edits.
-ghost use Rattle.std.specs.Prelude.{◌≡◌, IfOk, IsOk, OnOk, OnErr};
+ghost use Rattle.std.specs.Prelude.{◌≡◌, map, IfOk, IsOk, OnOk, OnErr};
 ghost use Rattle.adr_refusal.specs.Answer.{OnlyNoMemory};
+ghost use Rattle.adr_refusal.specs.Copy.{IsCopyOf};
 ghost use Rattle.adr_object.specs.declared.object.Edit.TheVariants.{Create, Change, Remove};
 ghost use Rattle.adr_model.specs.Book.{Book, empty};
 ghost use Rattle.adr_model.specs.Edits.{made, step};
 ghost use Rattle.adr_model.specs.Whole.{IsWhole};
-ghost use Rattle.adr_audience.specs.Asks.{applying_events};
+ghost use Rattle.adr_audience.specs.Asks.{applying_writes, asked_keys};
 ghost use Rattle.adr_audience.specs.Keys.{AreKeysOf};
 ghost use Rattle.adr_audience.specs.Laws.{applying_places};
+ghost use Rattle.adr_audience.specs.Offers.{offers};
 
+use crate::asked::Asked;
 use crate::asking::{add_event, asks_of, follow_event, follow_program, remove_event};
-use crate::candidates::{applies_at, candidates};
+use crate::candidates::{candidates, numbers_at};
 use crate::offering::{add_resource, follow_resource, follow_ven, offers_of, remove_resource};
-use crate::offers::offered;
+use crate::offers::offered_keys;
 use crate::query::places_for;
 use adr_keys::Index;
 use adr_object::{Edit, Event, Id, Kind, Object, Program, Resource, Ven};
@@ -92,28 +95,42 @@ impl Audiences {
         places_for(&self.resources, self.alloc, event, program)
     }
 
-    /// The places of the events of the store that apply to the resource of the ven, in order of creation.
+    /// What the resource of the ven offers of the keys that events ask for.
     ///
-    /// Cost: a look-up for each key of the resource, and a judgment for each event that asks for one of them, or for
-    /// no key.
+    /// Cost: a look-up for each key of the resource.
+    ///
+    /// # Errors
+    ///
+    /// `NoMemory` where there is no room for its keys.
+    pub fn asked(&self, resource: &Resource, ven: &Ven) -> Result<Asked, Refusal>
+        ensures { IsCopyOf result (asked_keys self.now.asks (offers resource.now ven.now)) }
+    {
+        let keys = offered_keys(self.alloc, resource, ven)?;
+        Ok(Asked::of(&self.events, keys))
+    }
+
+    /// The numbers of the writes of the events of the store that apply to the resource of the ven, in order of
+    /// creation. `asked` is what `asked` answers for the resource.
+    ///
+    /// Cost: a look-up for each of these keys, and a judgment for each event that asks for one of them, or for no key.
     ///
     /// # Errors
     ///
     /// `NoMemory` where there is no room for them.
-    pub fn events_for(
+    pub fn numbers_for(
         &self,
         store: &Store,
+        asked: &Asked,
         resource: &Resource,
         ven: &Ven,
-    ) -> Result<Vec<usize>, Refusal>
-        ensures places { AreKeysOf store.now self.now → IfOk result (λ places. places.items ≡ applying_events store.now resource.now ven.now) }
+    ) -> Result<Vec<u64>, Refusal>
+        requires asked { asked.now ≡ asked_keys self.now.asks (offers resource.now ven.now) }
+        ensures numbers { AreKeysOf store.now self.now → IfOk result (λ numbers. numbers.items ≡ map (λ w. w.written) (applying_writes store.now resource.now ven.now)) }
         ensures refusal { OnlyNoMemory result }
     {
-        let row = offered(self.alloc, resource, ven)?;
-        let mut places = candidates(&self.events, self.alloc, &row)?;
-        drop(row);
-        places.retain(|place| applies_at(store, resource, ven, *place));
-        Ok(places)
+        let places = candidates(&self.events, self.alloc, asked.keys())?;
+        let numbers = numbers_at(self.alloc, store, resource, ven, &places)?;
+        Ok(numbers)
     }
 
     /// Follows an edit that is accepted: the rows become those of the book with the edit made. `store` has the objects

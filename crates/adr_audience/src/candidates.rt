@@ -1,26 +1,26 @@
-//! Which events may apply to a resource, from the sets of places, and which of them do.
-ghost use Rattle.std.specs.Prelude.{◌≡◌, ◌∷◌, [], ℕ, ◌||◌, filter, get_or, length, IsTrue, IfOk};
+//! Which events may apply to a resource, from the sets of places, and the numbers of the writes of those that do.
+ghost use Rattle.std.specs.Prelude.{◌≡◌, ◌∷◌, [], ℕ, ◌||◌, filter, flat_map, get_or, length, option_to_list, IsTrue, IfOk};
 ghost use Rattle.std.specs.List.{range_with_len};
 ghost use Rattle.adr_refusal.specs.Answer.{OnlyNoMemory};
 ghost use Rattle.adr_keys.specs.Places.{has, fits};
 ghost use Rattle.adr_keys.specs.declared.key.Key.TheVariants.{Anyone};
-ghost use Rattle.adr_audience.specs.Asks.{shares, applies_at as the_applies_at, applies_with as the_applies_with};
+ghost use Rattle.adr_audience.specs.Asks.{shares, number_at as the_number_at, applies_with as the_applies_with};
 
-use adr_keys::{Index, Key, Places, Row};
+use adr_keys::{Index, Key, Places};
 use adr_object::{Event, Resource, Ven};
 use adr_rule::{Scene, applies};
 use adr_store::Store;
 use adr_value::Refusal;
 use std::alloc::Global;
 
-/// The places whose rows have a key of the row, or ask for anyone.
-pub(crate) fn candidates(index: &Index, alloc: Global, row: &Row) -> Result<Vec<usize>, Refusal>
-    ensures ok { IfOk result (λ places. places.items ≡ filter (λ p. shares (get_or index.now p []) (Anyone ∷ row.now)) (range_with_len 0 (length index.now))) }
+/// The places whose rows have one of the keys, or ask for anyone.
+pub(crate) fn candidates(index: &Index, alloc: Global, keys: &[Key]) -> Result<Vec<usize>, Refusal>
+    ensures ok { IfOk result (λ places. places.items ≡ filter (λ p. shares (get_or index.now p []) (Anyone ∷ keys.now)) (range_with_len 0 (length index.now))) }
     ensures refusal { OnlyNoMemory result }
 {
     let mut found = Places::with_room(alloc, index.len())?;
     index.add_to(&Key::Anyone, &mut found);
-    add_keys(index, row.keys(), &mut found);
+    add_keys(index, keys, &mut found);
     found.list(alloc, index.len())
 }
 
@@ -34,14 +34,37 @@ fn add_keys(index: &Index, keys: &[Key], found: &mut Places)
     }
 }
 
-/// Whether the event at the place applies to the resource of the ven.
-pub(crate) fn applies_at(store: &Store, resource: &Resource, ven: &Ven, place: usize) -> bool
-    ensures { result ≡ the_applies_at store.now resource.now ven.now place }
+/// The numbers of the writes of the events at those of the places where they apply to the resource of the ven.
+pub(crate) fn numbers_at(
+    alloc: Global,
+    store: &Store,
+    resource: &Resource,
+    ven: &Ven,
+    places: &[usize],
+) -> Result<Vec<u64>, Refusal>
+    ensures ok { IfOk result (λ numbers. numbers.items ≡ flat_map (λ p. option_to_list (the_number_at store.now resource.now ven.now p)) places.now) }
+    ensures refusal { OnlyNoMemory result }
 {
-    match store.event_at(place) {
-        Some(event) => applies_with(store, resource, ven, event),
-        None => false,
+    let mut numbers = Vec::new(alloc);
+    for place in places {
+        if let Some(number) = number_at(store, resource, ven, *place) {
+            numbers.push(number)?;
+        }
     }
+    Ok(numbers)
+}
+
+/// The number of the write of the event at the place, if the event applies to the resource of the ven.
+fn number_at(store: &Store, resource: &Resource, ven: &Ven, place: usize) -> Option<u64>
+    ensures { result ≡ the_number_at store.now resource.now ven.now place }
+{
+    let Some(event) = store.event_at(place) else {
+        return None;
+    };
+    if !applies_with(store, resource, ven, event) {
+        return None;
+    }
+    store.written_at(place)
 }
 
 /// Whether the event, with its program, applies to the resource of the ven.

@@ -2,6 +2,7 @@
 //! Whom each event is for, found without looking at every resource, and which events apply to a resource, found
 //! without looking at every event.
 
+mod asked;
 mod asking;
 mod asks;
 mod audiences;
@@ -12,5 +13,6 @@ mod offers;
 mod query;
 
 pub use adr_keys::{Key, Places};
+pub use asked::Asked;
 pub use audiences::Audiences;
-pub use laws::{asks_of_edits, rows_match_as_scenes, rows_of_edits};
+pub use laws::{asks_of_edits, events_follow_asked, rows_match_as_scenes, rows_of_edits};

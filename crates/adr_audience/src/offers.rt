@@ -1,5 +1,5 @@
 //! What a resource offers.
-ghost use Rattle.std.specs.Prelude.{◌≡◌, ◌++◌, map, OnOk};
+ghost use Rattle.std.specs.Prelude.{◌≡◌, ◌++◌, map, IfOk, OnOk};
 ghost use Rattle.adr_refusal.specs.Answer.{OnlyNoMemory};
 ghost use Rattle.adr_refusal.specs.Copy.{IsCopyOf};
 ghost use Rattle.adr_audience.specs.Offers.{is_word, keys_of, offers, asked_key};
@@ -9,17 +9,30 @@ use adr_object::{Resource, Target, Ven};
 use adr_value::{Datum, Name, Refusal, Text};
 use std::alloc::Global;
 
-/// What the resource of the ven offers: its name, the ven's, and the values of both under types that are no words
-/// for names. `NoMemory` where there is no room for it.
+/// What the resource of the ven offers, as a row. `NoMemory` where there is no room for it.
 pub(crate) fn offered(alloc: Global, resource: &Resource, ven: &Ven) -> Result<Row, Refusal>
     ensures { IsCopyOf result (offers resource.now ven.now) }
+{
+    let keys = offered_keys(alloc, resource, ven)?;
+    Ok(Row::new(keys))
+}
+
+/// What the resource of the ven offers: its name, the ven's, and the values of both under types that are no words
+/// for names. `NoMemory` where there is no room for it.
+pub(crate) fn offered_keys(
+    alloc: Global,
+    resource: &Resource,
+    ven: &Ven,
+) -> Result<Vec<Key>, Refusal>
+    ensures ok { IfOk result (λ keys. keys.items ≡ offers resource.now ven.now) }
+    ensures refusal { OnlyNoMemory result }
 {
     let mut keys = Vec::new(alloc);
     keys.push(Key::Resource(Text::new(alloc, resource.resource_name.as_str())?))?;
     keys.push(Key::Ven(Text::new(alloc, ven.ven_name.as_str())?))?;
     add_targets(&mut keys, resource.targets.as_slice())?;
     add_targets(&mut keys, ven.targets.as_slice())?;
-    Ok(Row::new(keys))
+    Ok(keys)
 }
 
 fn add_targets(keys: &mut Vec<Key>, targets: &[Target]) -> Result<(), Refusal>

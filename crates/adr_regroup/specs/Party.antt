@@ -1,5 +1,5 @@
 -- What an edit of a ven or of a resource asks of the schedule.
-use Rattle.std.specs.Prelude.{◌≡◌, ◌<◌, ◌≤◌, ◌+◌, ◌*◌, ℕ, Bool, true, false, List, [], length, map, flat_map, slice_get, option_map, option_to_list, Some, if◌then◌else◌}
+use Rattle.std.specs.Prelude.{◌≡◌, ◌<◌, ◌≤◌, ◌+◌, ◌*◌, ℕ, Bool, true, false, List, [], length, map, flat_map, slice_get, Some, if◌then◌else◌}
 use Rattle.std.specs.Option.{option_map_or}
 use Rattle.std.specs.Str.{bytes_eq}
 use Rattle.adr_value.specs.declared.limits.TheConstants.{MOST_ENTRIES, MOST_VERSION}
@@ -20,7 +20,9 @@ use Rattle.adr_model.specs.Book.{Book}
 use Rattle.adr_model.specs.Governor.{applies_to, entries_of}
 use Rattle.adr_model.specs.Lists.{In}
 use Rattle.adr_model.specs.Rank.{ranked}
-use Rattle.adr_audience.specs.Asks.{applies_with}
+use Rattle.adr_keys.specs.declared.key.Key.{Key}
+use Rattle.adr_audience.specs.Asks.{applies_with, asked_keys, asks_of}
+use Rattle.adr_audience.specs.Offers.{offers}
 use Rattle.adr_lines.specs.declared.grouped.TypeEntries.{TypeEntries}
 use Rattle.adr_lines.specs.Grouped.{entries_under, HaveOwnTypes}
 use Rattle.adr_lines.specs.Right.{has_number}
@@ -29,15 +31,20 @@ use Rattle.adr_schedule.specs.Moves.{is_among}
 use Rattle.adr_schedule.specs.Seating.{has_at, AreRight, Seating}
 use Rattle.adr_group.specs.Repair.{most_possible}
 use Rattle.adr_regroup.specs.Compared.{StandOnce}
-
--- the numbers of the writes of the events at the places
-abbrev pub numbers_at : List Written → List ℕ → List ℕ
-numbers_at events places = flat_map (λ p. option_to_list (option_map (λ w. w.written) (slice_get events p))) places
+use Rattle.adr_regroup.specs.declared.reseat.Seen.{Seen}
 
 -- the writes are those of the events of the book that apply to the resource of the ven
 pub record AreWritesWith (book : Book) (r : Resource) (v : Ven) (numbers : List ℕ) : Type 0 where
   pub has : (w : Written) → In w book.events → has_number numbers w.written ≡ applies_with book r v w.event
   pub known : (n : ℕ) → has_number numbers n ≡ true → (w : Written) × In w book.events × (w.written ≡ n)
+
+-- the writes are those of the events of the book that apply to each resource that offers these of the keys that the events ask for
+abbrev pub AreWritesFor : Book → List Key → List ℕ → Type 0
+AreWritesFor book asked numbers = (r : Resource) (v : Ven) → asked_keys (asks_of book) (offers r v) ≡ asked → AreWritesWith book r v numbers
+
+-- so are those that were seen of a place for the keys that were
+abbrev pub IsSeen : Book → Seen → Type 0
+IsSeen book seen = AreWritesFor book seen.asked seen.writes
 
 -- the entries of the event of that number
 abbrev pub entries_by : List Written → ℕ → PayloadType → List Entry

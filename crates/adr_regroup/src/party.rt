@@ -3,7 +3,9 @@ ghost use Rattle.std.specs.Prelude.{◌≡◌, ◌≤◌, ◌+◌, ◌*◌, ◌<
 ghost use Rattle.adr_refusal.specs.Answer.{OnlyNoMemory};
 ghost use Rattle.adr_value.specs.declared.payload.PayloadType.{PayloadType as AnyType};
 ghost use Rattle.adr_model.specs.Rank.{ranked};
+ghost use Rattle.adr_audience.specs.Asks.{asked_keys};
 ghost use Rattle.adr_audience.specs.Keys.{AreKeysOf};
+ghost use Rattle.adr_audience.specs.Offers.{offers};
 ghost use Rattle.adr_lines.specs.Grouped.{entries_under};
 ghost use Rattle.adr_lines.specs.declared.indexes.Indexes.{Indexes as AnyIndexes};
 ghost use Rattle.adr_group.specs.Group.{AreWindowsOf, Lines};
@@ -14,10 +16,10 @@ ghost use Rattle.adr_schedule.specs.Place.{IsRewritten};
 ghost use Rattle.adr_schedule.specs.Seating.{group_at, AreRight};
 ghost use Rattle.adr_model.specs.declared.written.Written.{Written};
 ghost use Rattle.adr_regroup.specs.Compared.{cost_but, cost_unless, IsMostFor};
-ghost use Rattle.adr_regroup.specs.Party.{entries_but, entries_unless, numbers_at as the_numbers_at, AreWritesWith, IsMostOf};
+ghost use Rattle.adr_regroup.specs.Party.{entries_but, entries_unless, AreWritesFor, IsMostOf};
 
 use crate::basis::Basis;
-use adr_audience::Audiences;
+use adr_audience::{Asked, Audiences, events_follow_asked};
 use adr_book::Book;
 use adr_group::{Done, Job, Writes};
 use adr_lines::{Indexes, TypeEntries, event_entries};
@@ -28,37 +30,23 @@ use adr_schedule::Schedule;
 use adr_value::Refusal;
 use std::alloc::Global;
 
-/// The numbers of the writes of the events at these places.
-fn numbers_at(alloc: Global, book: &Book, places: &[usize]) -> Result<Vec<u64>, Refusal>
-    ensures ok { IfOk result (λ numbers. numbers.items ≡ the_numbers_at book.now.objects.events places.now) }
-    ensures refusal { OnlyNoMemory result }
-{
-    let mut numbers = Vec::new(alloc);
-    let mut rest = places;
-    'rest: while let Some((place, more)) = rest.split_first() {
-        if let Some(number) = book.written_at(*place) {
-            numbers.push(number)?;
-        }
-        rest = more;
-    }
-    Ok(numbers)
-}
-
-/// The numbers of the writes of the events of the book that apply to the resource of the ven.
+/// The numbers of the writes of the events of the book that apply to the resource of the ven, and to each other that
+/// offers the same of what the events ask for.
 pub(crate) fn writes_for(
-    alloc: Global,
     book: &Book,
     keys: &Audiences,
+    asked: &Asked,
     resource: &Resource,
     ven: &Ven,
 ) -> Result<Writes, Refusal>
-    requires { AreKeysOf book.now.objects keys.now }
-    ensures writes { IfOk result (λ writes. AreWritesWith book.now.objects resource.now ven.now writes) }
+    requires keys { AreKeysOf book.now.objects keys.now }
+    requires asked { asked.now ≡ asked_keys keys.now.asks (offers resource.now ven.now) }
+    ensures writes { IfOk result (AreWritesFor book.now.objects asked.now) }
     ensures refusal { OnlyNoMemory result }
 {
     book.book_laws();
-    let places = keys.events_for(book.objects(), resource, ven)?;
-    let numbers = numbers_at(alloc, book, &places)?;
+    events_follow_asked();
+    let numbers = keys.numbers_for(book.objects(), asked, resource, ven)?;
     Ok(Writes::of(numbers))
 }
 

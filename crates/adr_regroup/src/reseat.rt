@@ -1,50 +1,81 @@
 //! Places get the writes of the events that apply to their resources now.
-ghost use Rattle.std.specs.Prelude.{◌≡◌, ◌<◌, ◌≤◌, ◌+◌, ◌*◌, ◌^◌, ◌∷◌, [], ℕ, true, Some, length, sum_by, IfOk, OnOk};
+ghost use Rattle.std.specs.Prelude.{◌≡◌, ◌<◌, ◌≤◌, ◌+◌, ◌*◌, ◌^◌, ◌∷◌, [], ℕ, true, Some, length, sum_by, IfOk, IfSome, OnOk};
 ghost use Rattle.std.specs.List.Sorted.{IsStrictlyIncreasing};
 ghost use Rattle.adr_refusal.specs.Answer.{OnlyNoMemory};
-ghost use Rattle.adr_audience.specs.Keys.{AreKeysOf};
+ghost use Rattle.adr_audience.specs.Asks.{asked_keys};
+ghost use Rattle.adr_audience.specs.Offers.{offers};
 ghost use Rattle.adr_group.specs.Group.{Lines};
 ghost use Rattle.adr_group.specs.Jobs.{IsCrew};
 ghost use Rattle.adr_schedule.specs.Moves.{is_among};
 ghost use Rattle.adr_schedule.specs.Seating.{group_at, AreSeatedFor};
 ghost use Rattle.adr_regroup.specs.Compared.{most_reseated_at};
 ghost use Rattle.adr_regroup.specs.Edited.{IsBasis};
-ghost use Rattle.adr_regroup.specs.Party.{most_reseated, AreSeatedBut, AreWritesAt, KeepsEvents};
+ghost use Rattle.adr_regroup.specs.Party.{most_reseated, AreSeatedBut, AreWritesAt, IsSeen};
 
 use crate::basis::Basis;
 use crate::party::{Spot, with_writes, writes_for};
-use adr_audience::Audiences;
-use adr_book::Book;
+use adr_audience::Asked;
 use adr_group::{Done, Job, Writes};
 use adr_lines::{Indexes, index_laws};
+use adr_object::{Resource, Ven};
 use adr_rule::Meter;
 use adr_schedule::Schedule;
 use adr_value::Refusal;
 use std::alloc::Global;
 use std::ops::Range;
 
-/// The writes of the events that apply to the resource at the place of the new book, by the keys of the old one.
-fn writes_at(
-    alloc: Global,
-    old: &Book,
-    new: &Book,
-    keys: &Audiences,
-    place: usize,
-) -> Result<Writes, Refusal>
-    requires place { place < length new.now.objects.resources }
-    requires keys { AreKeysOf old.now.objects keys.now }
-    requires kept { KeepsEvents old.now.objects new.now.objects }
-    ensures writes { IfOk result (AreWritesAt new.now.objects place) }
+/// What was seen of a place: what its resource offers of the keys that events ask for, and the writes of the events that
+/// apply to it.
+#[derive(Drop)]
+pub(crate) struct Seen {
+    pub(crate) asked: Asked,
+    pub(crate) writes: Writes,
+}
+
+/// What is seen of the place whose resource has these keys. Where the resource of the last place had the same, it is
+/// what was seen there, and no event is judged again.
+fn seen_with(
+    basis: &Basis<'_>,
+    asked: Asked,
+    resource: &Resource,
+    ven: &Ven,
+    last: Option<Seen>,
+) -> Result<Seen, Refusal>
+    requires basis { IsBasis basis.now }
+    requires asked { asked ≡ asked_keys basis.now.keys.now.asks (offers resource.now ven.now) }
+    requires last { IfSome last (IsSeen basis.now.old.now.objects) }
+    ensures seen { IfOk result (IsSeen basis.now.old.now.objects) }
+    ensures asked { IfOk result (λ seen. seen.asked ≡ asked) }
     ensures refusal { OnlyNoMemory result }
 {
-    new.book_laws();
-    let Some(resource) = new.resource_at(place) else {
+    if let Some(seen) = last {
+        if seen.asked.same(&asked) {
+            return Ok(seen);
+        }
+    }
+    let writes = writes_for(basis.old, basis.keys, &asked, resource, ven)?;
+    Ok(Seen { asked, writes })
+}
+
+/// What is seen of the place of the new book, by the keys of the old one and by what was seen of the last place.
+fn seen_at(basis: &Basis<'_>, place: usize, last: Option<Seen>) -> Result<Seen, Refusal>
+    requires place { place < length basis.now.new.now.objects.resources }
+    requires basis { IsBasis basis.now }
+    requires last { IfSome last (IsSeen basis.now.old.now.objects) }
+    ensures seen { IfOk result (IsSeen basis.now.old.now.objects) }
+    ensures writes { IfOk result (λ seen. AreWritesAt basis.now.new.now.objects place seen.writes) }
+    ensures refusal { OnlyNoMemory result }
+{
+    basis.new.book_laws();
+    let Some(resource) = basis.new.resource_at(place) else {
         unreachable!();
     };
-    let Some(ven) = new.ven(&resource.ven_id) else {
+    let Some(ven) = basis.new.ven(&resource.ven_id) else {
         unreachable!();
     };
-    writes_for(alloc, old, keys, resource, ven)
+    let asked = basis.keys.asked(resource, ven)?;
+    let seen = seen_with(basis, asked, resource, ven, last)?;
+    Ok(seen)
 }
 
 /// The law of the writes of a group: they ascend.
@@ -90,20 +121,22 @@ fn place_like(schedule: &Schedule, spot: Spot, writes: &Writes) -> Option<usize>
     first_with(schedule, before, writes).or_else(|| first_with(schedule, behind, writes))
 }
 
-/// The schedule where the place has the writes of the events that apply to its resource, which leaves the others to be
-/// seen to.
+/// The schedule where the place has these writes, those of the events that apply to its resource, which leaves the
+/// others to be seen to.
 fn reseated<C: Fn(&Indexes, &[Job]) -> Result<Vec<Done>, Refusal>>(
     alloc: Global,
     crew: &C,
     basis: &Basis<'_>,
     schedule: &Schedule,
     spot: Spot,
+    writes: &Writes,
     others: &[usize],
     meter: &mut Meter,
 ) -> Result<Schedule, Refusal>
     requires crew { IsCrew (λ v. v.items) (C.pre crew.now) (C.post crew.now) }
     requires place { spot.place < length basis.now.new.now.objects.resources }
     requires basis { IsBasis basis.now }
+    requires writes { AreWritesAt basis.now.new.now.objects spot.place writes.now }
     requires seated { AreSeatedBut basis.now.tie basis.now.new.now.objects (spot.place ∷ others.now) schedule.now }
     requires room { meter.old + most_reseated < 2 ^ 128 }
     ensures seated { IfOk result (AreSeatedBut basis.now.tie basis.now.new.now.objects others.now) }
@@ -116,17 +149,17 @@ fn reseated<C: Fn(&Indexes, &[Job]) -> Result<Vec<Done>, Refusal>>(
     index_laws();
     schedule.schedule_laws();
     let place = spot.place;
-    let writes = writes_at(alloc, basis.old, basis.new, basis.keys, place)?;
     let _ = writes.numbers();
     writes_ascend(schedule, place);
-    let like = place_like(schedule, spot, &writes);
+    let like = place_like(schedule, spot, writes);
     let near = Spot { place, like };
-    let after = with_writes(alloc, crew, basis, schedule, near, &writes, meter)?;
+    let after = with_writes(alloc, crew, basis, schedule, near, writes, meter)?;
     Ok(after)
 }
 
 /// The schedule where each of the places has the writes of the events that apply to its resource. A place shares the
-/// group of the last one that was seen to, or of one near it, where that has the same writes.
+/// group of the last one that was seen to, or of one near it, where that has the same writes; and its writes are not
+/// asked for where its resource offers the same of what events ask for.
 pub(crate) fn reseated_all<C: Fn(&Indexes, &[Job]) -> Result<Vec<Done>, Refusal>>(
     alloc: Global,
     crew: &C,
@@ -146,15 +179,25 @@ pub(crate) fn reseated_all<C: Fn(&Indexes, &[Job]) -> Result<Vec<Done>, Refusal>
     ensures refusal { OnlyNoMemory result }
 {
     let mut after = schedule;
+    let mut last = None;
     let mut like = None;
     let mut rest = places;
     'rest: while let Some((place, others)) = rest.split_first() {
-        let spot = Spot {
-            place: *place,
-            like,
-        };
-        after = reseated(alloc, crew, basis, &after, spot, others, meter)?;
-        like = Some(*place);
+        let place = *place;
+        let seen = seen_at(basis, place, last)?;
+        let spot = Spot { place, like };
+        after = reseated(
+            alloc,
+            crew,
+            basis,
+            &after,
+            spot,
+            &seen.writes,
+            others,
+            meter,
+        )?;
+        last = Some(seen);
+        like = Some(place);
         rest = others;
     }
     Ok(after)

@@ -9,20 +9,14 @@ use adr_audience::Audiences;
 use adr_book::Book;
 use adr_group::Writes;
 use adr_value::Refusal;
-use std::alloc::Global;
 
 /// The numbers of the writes of the events that apply to the resource at the place, by the keys of the book. Cost: that
-/// of `Audiences::events_for`.
+/// of `Audiences::asked` and of `numbers_for`.
 ///
 /// # Errors
 ///
 /// `NoMemory` where there is no room for them.
-pub fn writes_of(
-    alloc: Global,
-    book: &Book,
-    keys: &Audiences,
-    place: usize,
-) -> Result<Writes, Refusal>
+pub fn writes_of(book: &Book, keys: &Audiences, place: usize) -> Result<Writes, Refusal>
     requires place { place < length book.now.objects.resources }
     requires keys { AreKeysOf book.now.objects keys.now }
     ensures writes { IfOk result (AreWritesAt book.now.objects place) }
@@ -35,6 +29,7 @@ pub fn writes_of(
     let Some(ven) = book.ven(&resource.ven_id) else {
         unreachable!();
     };
-    let writes = writes_for(alloc, book, keys, resource, ven)?;
+    let asked = keys.asked(resource, ven)?;
+    let writes = writes_for(book, keys, &asked, resource, ven)?;
     Ok(writes)
 }

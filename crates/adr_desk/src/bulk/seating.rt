@@ -43,7 +43,7 @@ fn build_all<R: Threads + Sync>(
 /// resources that share it. Which events apply to a resource is asked by many threads before. `NoMemory` where there is
 /// no room.
 ///
-/// Cost: for each resource that of `Audiences::events_for`; for each group an index of the entries of its own events,
+/// Cost: for each resource that of `Audiences::numbers_for`; for each group an index of the entries of its own events,
 /// and a timeline of them for each of their types.
 pub(crate) fn seat_all<R: Threads + Sync>(
     rt: &R,

@@ -98,7 +98,7 @@ fn writes_between<R: Threads + Sync>(
             |place: usize| -> Result<Writes, Refusal>
                 requires { (place < length book.now.objects.resources) × AreKeysOf book.now.objects keys.now }
                 ensures { AreFoundAt book.entry.now.objects place result }
-            { writes_of(alloc, book, keys, place) },
+            { writes_of(book, keys, place) },
         )
         .collect::<Result<Vec<Writes>, Refusal>>(rt, alloc)?
 }

@@ -23,8 +23,8 @@ with_writes-requires-clause-room g c =
       most_by_event,
       is_most basis.tie book basis.indexes.now laws.within c.requires.basis.indexed (c.index_laws.ensures basis.tie),
       λ g at. fits _ _ _ _
-          (few_at basis.tie book (c.args.spot.place ∷ c.args.others.now) c.args.spot.place c.args.schedule.now g c.in_ok-writes.writes laws.whole.sound laws.within c.requires.seated at
-          (c.writes_ascend.ensures g at) c.in_ok-writes.ensures.writes c.numbers.ensures.order) c.requires.room,
+          (few_at basis.tie book (c.args.spot.place ∷ c.args.others.now) c.args.spot.place c.args.schedule.now g c.args.writes.now laws.whole.sound laws.within c.requires.seated at
+          (c.writes_ascend.ensures g at) c.requires.writes c.numbers.ensures.order) c.requires.room,
     )
 
 pub returns-in_err-after-clause-compared : goal.returns-in_err-after-clause-compared
@@ -35,14 +35,14 @@ returns-in_err-after-clause-compared g c =
     let held = c.schedule_laws.ensures c.args.spot.place (subst (λ n. c.args.spot.place < n) (sym c.requires.seated.count) c.requires.place) in
     stays _ _ _ _
     (c.in_err-after.ensures.compared held.0 most_by_event held.1 (is_most basis.tie book basis.indexes.now laws.within c.requires.basis.indexed (c.index_laws.ensures basis.tie)))
-    (few_at basis.tie book (c.args.spot.place ∷ c.args.others.now) c.args.spot.place c.args.schedule.now held.0 c.in_ok-writes.writes laws.whole.sound laws.within c.requires.seated held.1
-    (c.writes_ascend.ensures held.0 held.1) c.in_ok-writes.ensures.writes c.numbers.ensures.order)
+    (few_at basis.tie book (c.args.spot.place ∷ c.args.others.now) c.args.spot.place c.args.schedule.now held.0 c.args.writes.now laws.whole.sound laws.within c.requires.seated held.1
+    (c.writes_ascend.ensures held.0 held.1) c.requires.writes c.numbers.ensures.order)
 
 pub returns-clause-seated : goal.returns-clause-seated
 returns-clause-seated g c =
     let basis = c.args.basis.now in
-    next_seated basis.tie basis.new.now.objects c.args.spot.place c.args.others.now c.in_ok-writes.writes c.args.schedule.now c.in_ok-after.after c.requires.seated c.in_ok-after.ensures.writes
-    (c.in_ok-after.ensures.right c.requires.basis.indexed c.requires.seated.right) c.in_ok-writes.ensures.writes
+    next_seated basis.tie basis.new.now.objects c.args.spot.place c.args.others.now c.args.writes.now c.args.schedule.now c.in_ok-after.after c.requires.seated c.in_ok-after.ensures.writes
+    (c.in_ok-after.ensures.right c.requires.basis.indexed c.requires.seated.right) c.requires.writes
 
 pub returns-clause-compared : goal.returns-clause-compared
 returns-clause-compared g c =
@@ -52,13 +52,13 @@ returns-clause-compared g c =
     let held = c.schedule_laws.ensures c.args.spot.place (subst (λ n. c.args.spot.place < n) (sym c.requires.seated.count) c.requires.place) in
     stays _ _ _ _
     (c.in_ok-after.ensures.compared held.0 most_by_event held.1 (is_most basis.tie book basis.indexes.now laws.within c.requires.basis.indexed (c.index_laws.ensures basis.tie)))
-    (few_at basis.tie book (c.args.spot.place ∷ c.args.others.now) c.args.spot.place c.args.schedule.now held.0 c.in_ok-writes.writes laws.whole.sound laws.within c.requires.seated held.1
-    (c.writes_ascend.ensures held.0 held.1) c.in_ok-writes.ensures.writes c.numbers.ensures.order)
+    (few_at basis.tie book (c.args.spot.place ∷ c.args.others.now) c.args.spot.place c.args.schedule.now held.0 c.args.writes.now laws.whole.sound laws.within c.requires.seated held.1
+    (c.writes_ascend.ensures held.0 held.1) c.requires.writes c.numbers.ensures.order)
 
 pub returns-clause-fewer : goal.returns-clause-fewer
 returns-clause-fewer g c =
     let basis = c.args.basis.now in
-    reseats_fewer basis.new.now.objects c.args.spot.place c.in_ok-writes.writes c.args.schedule.now c.in_ok-after.after c.requires.seated.count c.in_ok-after.ensures.writes c.in_ok-writes.ensures.writes
+    reseats_fewer basis.new.now.objects c.args.spot.place c.args.writes.now c.args.schedule.now c.in_ok-after.after c.requires.seated.count c.in_ok-after.ensures.writes c.requires.writes
 
 pub returns-clause-least : goal.returns-clause-least
 returns-clause-least g c =
@@ -67,8 +67,8 @@ returns-clause-least g c =
     let laws = c.book_laws.ensures in
     let held = c.schedule_laws.ensures c.args.spot.place (subst (λ n. c.args.spot.place < n) (sym c.requires.seated.count) c.requires.place) in
     let r = there book.resources c.args.spot.place c.requires.place in
-    let numbers = c.in_ok-writes.writes in
+    let numbers = c.args.writes.now in
     let cost : Written → ℕ = λ w. most_compared_in book (touches_of r.0.id w) in
-    let own = place_cost book c.args.spot.place r.0 numbers r.1 c.in_ok-writes.ensures.writes c.args.schedule.now held.0 held.1 (c.writes_ascend.ensures held.0 held.1) c.numbers.ensures.order in
-    let most = c.in_ok-after.ensures.least held.0 cost held.1 (most_for book c.args.spot.place r.0 numbers r.1 c.in_ok-writes.ensures.writes basis.tie basis.indexes.now laws.whole c.requires.basis.indexed) in
+    let own = place_cost book c.args.spot.place r.0 numbers r.1 c.requires.writes c.args.schedule.now held.0 held.1 (c.writes_ascend.ensures held.0 held.1) c.numbers.ensures.order in
+    let most = c.in_ok-after.ensures.least held.0 cost held.1 (most_for book c.args.spot.place r.0 numbers r.1 c.requires.writes basis.tie basis.indexes.now laws.whole c.requires.basis.indexed) in
     omega (arith, own, most)

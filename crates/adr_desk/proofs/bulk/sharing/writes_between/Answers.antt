@@ -19,8 +19,8 @@ pub collect-requires-clause-ready : goal.collect-requires-clause-ready
 collect-requires-clause-ready g c κs within =
     let f = c.map.result.f in
     let range = ap (λ it. it.base) c.map.ensures.base ∙ c.with_min_len.ensures.base in
-    all_ready f.1.now.objects c.args.book.now.objects f.2.now c.args.keys.now c.map.result.base.base.start c.map.result.base.base.end c.args.start c.args.end
-    (ap (λ x. x.1.now.objects) c.map.ensures.f) (ap (λ x. x.2.now) c.map.ensures.f) (ap (λ r. r.start) range ∙ c.into_par_iter.ensures.0)
+    all_ready f.0.now.objects c.args.book.now.objects f.1.now c.args.keys.now c.map.result.base.base.start c.map.result.base.base.end c.args.start c.args.end
+    (ap (λ x. x.0.now.objects) c.map.ensures.f) (ap (λ x. x.1.now) c.map.ensures.f) (ap (λ r. r.start) range ∙ c.into_par_iter.ensures.0)
     (ap (λ r. r.end) range ∙ c.into_par_iter.ensures.1) c.requires.end c.requires.keys
 
 pub returns-clause-writes : goal.returns-clause-writes
@@ -28,7 +28,7 @@ returns-clause-writes g c =
     let asked = c.in_ok-collect.ensures in
     let chain = asked.1 in
     let range = ap (λ it. it.base) c.map.ensures.base ∙ c.with_min_len.ensures.base in
-    asked_writes c.map.result.f.1.now.objects c.args.book.now.objects (ap (λ x. x.1.now.objects) c.map.ensures.f) c.map.result.base.base.start c.map.result.base.base.end c.args.start c.args.end
+    asked_writes c.map.result.f.0.now.objects c.args.book.now.objects (ap (λ x. x.0.now.objects) c.map.ensures.f) c.map.result.base.base.start c.map.result.base.base.end c.args.start c.args.end
     (ap (λ r. r.start) range ∙ c.into_par_iter.ensures.0) (ap (λ r. r.end) range ∙ c.into_par_iter.ensures.1)
     (λ v. v.items) chain.0 asked.0 c.in_ok-collect.field-0 chain.1 chain.2 asked.2
 
@@ -37,6 +37,6 @@ returns-clause-refusal g c =
     let asked = c.in_ok-collect.ensures in
     let chain = asked.1 in
     let range = ap (λ it. it.base) c.map.ensures.base ∙ c.with_min_len.ensures.base in
-    asked_refusal c.map.result.f.1.now.objects c.args.book.now.objects (ap (λ x. x.1.now.objects) c.map.ensures.f) c.map.result.base.base.start c.map.result.base.base.end c.args.start c.args.end
+    asked_refusal c.map.result.f.0.now.objects c.args.book.now.objects (ap (λ x. x.0.now.objects) c.map.ensures.f) c.map.result.base.base.start c.map.result.base.base.end c.args.start c.args.end
     (ap (λ r. r.start) range ∙ c.into_par_iter.ensures.0) (ap (λ r. r.end) range ∙ c.into_par_iter.ensures.1)
     (λ v. v.items) chain.0 asked.0 c.in_ok-collect.field-0 chain.1 chain.2 asked.2
