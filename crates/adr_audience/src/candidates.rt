@@ -58,13 +58,10 @@ pub(crate) fn numbers_at(
 fn number_at(store: &Store, resource: &Resource, ven: &Ven, place: usize) -> Option<u64>
     ensures { result ≡ the_number_at store.now resource.now ven.now place }
 {
-    let Some(event) = store.event_at(place) else {
-        return None;
-    };
-    if !applies_with(store, resource, ven, event) {
-        return None;
+    match store.kept_at(place) {
+        Some(kept) if applies_with(store, resource, ven, kept.event()) => Some(kept.written()),
+        _ => None,
     }
-    store.written_at(place)
 }
 
 /// Whether the event, with its program, applies to the resource of the ven.

@@ -84,6 +84,13 @@ impl Events {
         }
     }
 
+    /// The event at the place as it is kept.
+    pub(crate) fn kept_at(&self, place: usize) -> Option<&Kept>
+        ensures { option_copied result ≡ slice_get self.now place }
+    {
+        self.table.at(place)
+    }
+
     /// The place of the event with the id.
     pub(crate) fn place(&self, id: &Id) -> Option<usize>
         ensures found { is_some result ≡ is_some (find_by (λ w. w.event.id) self.now id.now) }

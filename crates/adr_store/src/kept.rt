@@ -11,11 +11,22 @@ use adr_value::{Refusal, TryClone};
 use std::marker::Model;
 
 /// An event, the number of the edit that last wrote it, and how many entries it has.
-#[derive(Drop)]
-pub(crate) struct Kept {
+pub struct Kept {
     event: Shared<Event>,
     written: u64,
     entries: usize,
+}
+
+// A function of its own, so that callers that let a value go need not look into it.
+impl Drop for Kept {
+    fn drop(self) {
+        let Kept {
+            event,
+            written: _,
+            entries: _,
+        } = self;
+        drop(event);
+    }
 }
 
 impl Model for Kept {
@@ -42,13 +53,15 @@ impl Kept {
         }
     }
 
-    pub(crate) fn event(&self) -> &Event
+    /// The event.
+    pub fn event(&self) -> &Event
         ensures { result.now ≡ self.now.event }
     {
         self.event.get()
     }
 
-    pub(crate) fn written(&self) -> u64
+    /// The number of the edit that created or last changed it.
+    pub fn written(&self) -> u64
         ensures { result ≡ self.now.written }
     {
         self.written

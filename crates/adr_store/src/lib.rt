@@ -13,4 +13,5 @@ mod tally;
 
 pub use adr_shared::Shared;
 pub use counting::entry_count;
+pub use kept::Kept;
 pub use store::Store;

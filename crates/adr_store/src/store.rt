@@ -13,6 +13,7 @@ ghost use Rattle.adr_model.specs.Whole.{IsWhole};
 ghost use Rattle.adr_store.specs.Numbers.{all_entries, by_number};
 
 use crate::events::Events;
+use crate::kept::Kept;
 use crate::resources::Resources;
 use crate::table::Table;
 use adr_object::{Edit, Event, Id, Kind, Object, Program, Resource, Ven};
@@ -172,6 +173,13 @@ impl Store {
         ensures { option_copied result ≡ option_map (λ w. w.event) (slice_get self.now.events place) }
     {
         self.events.at(place)
+    }
+
+    /// The event at the place with the number of the edit that created or last changed it, by one look-up.
+    pub fn kept_at(&self, place: usize) -> Option<&Kept>
+        ensures { option_copied result ≡ slice_get self.now.events place }
+    {
+        self.events.kept_at(place)
     }
 
     /// The place of the event with the id, counted from 0 in order of creation.
