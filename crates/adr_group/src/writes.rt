@@ -1,5 +1,5 @@
 //! The numbers of the edits that wrote events.
-ghost use Rattle.std.specs.Prelude.{◌≡◌, ◌==◌, ◌||◌, ◌↔◌, ℕ, [], filter, IsTrue, IfOk, OnOk};
+ghost use Rattle.std.specs.Prelude.{◌≡◌, ◌==◌, ◌||◌, ◌↔◌, ℕ, [], true, filter, IsTrue, IfOk, OnOk};
 ghost use Rattle.std.specs.List.Sorted.{IsStrictlyIncreasing};
 ghost use Rattle.adr_refusal.specs.Answer.{OnlyNoMemory};
 ghost use Rattle.adr_refusal.specs.Copy.{IsCopyOf};
@@ -66,6 +66,13 @@ fn put(numbers: &mut Vec<u64>, come: Option<u64>) -> Result<(), Refusal>
     Ok(())
 }
 
+/// Whether each of the numbers is above the one before it.
+fn ascend(numbers: &[u64]) -> bool
+    ensures { result ≡ true → IsStrictlyIncreasing numbers.now }
+{
+    numbers.is_sorted_by(|before, number| before < number)
+}
+
 impl Writes {
     /// No numbers. It takes no memory.
     pub fn new(alloc: Global) -> Writes
@@ -76,10 +83,14 @@ impl Writes {
         }
     }
 
-    /// These numbers, in any order, each as often as it comes. Cost: that of a sort.
+    /// These numbers, in any order, each as often as it comes. Cost: that of a sort, or where they ascend a pass over
+    /// them.
     pub fn of(numbers: Vec<u64>) -> Writes
         ensures { (n : ℕ) → has_number result n ≡ has_number numbers.items n }
     {
+        if ascend(&numbers) {
+            return Writes { numbers };
+        }
         let mut numbers = numbers;
         numbers.sort_unstable();
         numbers.dedup();
