@@ -2,4 +2,4 @@
 
 /// The version, the first digits of the checksum of the sources, and the toolchain that they are proved with.
 pub(crate) const RELEASE: &str =
-    "1.1.0 (sources 0fd3b4054b96, rattle-kit-13b logic dac8208d650f15bf)";
+    "1.1.1 (sources cdf19104ccc9, rattle-kit-13b logic dac8208d650f15bf)";
