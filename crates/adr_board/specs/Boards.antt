@@ -3,6 +3,7 @@ use Rattle.std.specs.Prelude.{◌≡◌, List, [], ◌∷◌, ◌++◌}
 use mathlib.Core.List.{IsPrefix}
 use Rattle.adr_model.specs.declared.entry.Tie.{Tie}
 use Rattle.adr_book.specs.Ledger.{Ledger}
+use Rattle.adr_schedule.specs.Resolved.{Resolved}
 use Rattle.adr_board.specs.Publications.{opening_book, sealed}
 
 -- the rule for ties, the book of the desk, and the books that were published so far
@@ -10,6 +11,10 @@ pub record Board : Type 0 where
   pub tie : Tie
   pub book : Ledger
   pub published : List Ledger
+
+-- what its editor's desk is seen as
+abbrev pub desk_of : Board → Resolved
+desk_of b = record { tie = b.tie; book = b.book }
 
 -- the board with its book sealed, and that book, with its base and all its batches, as one more publication
 abbrev pub with_published : Board → Board

@@ -4,6 +4,7 @@ use Rattle.logbook.specs.Pages.{Book as History}
 use Rattle.adr_value.specs.declared.limits.TheConstants.{MOST_PUBLICATIONS}
 use Rattle.adr_model.specs.declared.entry.Tie.{Tie}
 use Rattle.adr_book.specs.Ledger.{Ledger, sealed_of}
+use Rattle.adr_schedule.specs.Resolved.{Resolved}
 use Rattle.adr_board.specs.declared.diary.Entry.{Entry}
 use Rattle.adr_board.specs.History.{HasLast, published_by}
 use Rattle.adr_board.specs.Publications.{opening_book, sealed}
@@ -16,6 +17,10 @@ pub record Publishing : Type 0 where
   pub tie : Tie
   pub book : Ledger
   pub last : PublishedBook
+
+-- what its desk is seen as
+abbrev pub desk_of : Publishing → Resolved
+desk_of p = record { tie = p.tie; book = p.book }
 
 -- publication 0
 abbrev pub opening_of : Tie → PublishedBook

@@ -3,22 +3,21 @@ ghost use Rattle.std.specs.Prelude.{◌≡◌, ◌⊎◌, ◌+◌, ◌<◌, ◌�
 ghost use Rattle.std.specs.Arc.{arc_value};
 ghost use mathlib.Core.List.{IsPrefix};
 ghost use Rattle.left_right.specs.Sides.{view as known};
-ghost use Rattle.adr_refusal.specs.Answer.{Answers, OnlyNoMemory, result_map};
+ghost use Rattle.adr_refusal.specs.Answer.{OnlyNoMemory};
 ghost use Rattle.adr_refusal.specs.Copy.{IsCopyOf};
 ghost use Rattle.adr_refusal.specs.declared.refusal.Refusal.TheVariants.{NoRuntime, NoMemory, Full};
 ghost use Rattle.adr_value.specs.declared.limits.TheConstants.{MOST_PUBLICATIONS};
 ghost use Rattle.adr_model.specs.declared.entry.Tie.{Tie};
 ghost use Rattle.adr_model.specs.Book.{empty};
-ghost use Rattle.adr_model.specs.Edits.{after_from, full_at, made as made_book, step_to};
-ghost use Rattle.adr_model.specs.Touches.{touches};
+ghost use Rattle.adr_model.specs.Edits.{after_from};
 ghost use Rattle.adr_book.specs.Ledger.{Ledger};
-ghost use Rattle.adr_regroup.specs.Compared.{most_compared_in};
+ghost use Rattle.adr_desk.specs.Applied.{IsApplied};
 ghost use Rattle.adr_board.specs.Published.{PublishedBook, last_batch};
 ghost use Rattle.adr_board.specs.History.{HasLast, begun, ended, published_by, seen_by};
 ghost use Rattle.adr_board.specs.Publications.{opening_book};
 ghost use Rattle.adr_board.specs.Publishers.{opening_of};
-ghost use Rattle.adr_board.specs.Boards.{Grows, last_of, newcomer, with_published};
-ghost use Rattle.adr_board.specs.Rules.{IsCarried, IsLast, IsLastBy, IsSight, IsTaken, MayFollow, showing};
+ghost use Rattle.adr_board.specs.Boards.{Grows, desk_of, last_of, newcomer, with_published};
+ghost use Rattle.adr_board.specs.Rules.{IsLast, IsLastBy, IsSight, IsTaken, MayFollow, showing};
 
 use crate::publisher::Publisher;
 use crate::rule::{Add, Look, Naming, RuledReader, RuledWriter};
@@ -372,15 +371,7 @@ impl<J: Naming> Editor<J> {
     /// Of the edit's faults the least, as the desk's `apply` names them; `NoMemory` in place of any. Then all is as it
     /// was.
     pub fn apply(&mut self, edit: Edit) -> Result<Receipt, Refusal>
-        ensures answer { Answers (result_map (λ _. made_book self.old.book.objects edit) result) (step_to (full_at self.old.book.base.version) self.old.book.objects edit) }
-        ensures tie { self.new.tie ≡ self.old.tie }
-        ensures base { self.new.book.base ≡ self.old.book.base }
-        ensures objects { OnOk result (step_to (full_at self.old.book.base.version) self.old.book.objects edit ≡ Ok self.new.book.objects) }
-        ensures pending { OnOk result (self.new.book.pending ≡ self.old.book.pending ++ edit ∷ []) }
-        ensures closed { self.new.book.closed ≡ self.old.book.closed }
-        ensures version { IfOk result (λ receipt. receipt.version ≡ self.new.book.objects.version) }
-        ensures touched { IfOk result (λ receipt. receipt.touched ≡ touches self.old.book.objects self.new.book.objects) }
-        ensures compares { IfOk result (λ receipt. receipt.compares ≤ most_compared_in self.new.book.objects receipt.touched) }
+        ensures applied { IsApplied edit (desk_of self.old) (desk_of self.new) result }
         ensures published { self.new.published ≡ self.old.published }
         ensures unchanged { OnErr result (self.new ≡ self.old) }
     {
@@ -401,15 +392,7 @@ impl<J: Naming> Editor<J> {
         gate: &G,
         edit: Edit,
     ) -> Result<Receipt, Refusal>
-        ensures answer { Answers (result_map (λ _. made_book self.old.book.objects edit) result) (step_to (full_at self.old.book.base.version) self.old.book.objects edit) }
-        ensures tie { self.new.tie ≡ self.old.tie }
-        ensures base { self.new.book.base ≡ self.old.book.base }
-        ensures objects { OnOk result (step_to (full_at self.old.book.base.version) self.old.book.objects edit ≡ Ok self.new.book.objects) }
-        ensures pending { OnOk result (self.new.book.pending ≡ self.old.book.pending ++ edit ∷ []) }
-        ensures closed { self.new.book.closed ≡ self.old.book.closed }
-        ensures version { IfOk result (λ receipt. receipt.version ≡ self.new.book.objects.version) }
-        ensures touched { IfOk result (λ receipt. receipt.touched ≡ touches self.old.book.objects self.new.book.objects) }
-        ensures compares { IfOk result (λ receipt. receipt.compares ≤ most_compared_in self.new.book.objects receipt.touched) }
+        ensures applied { IsApplied edit (desk_of self.old) (desk_of self.new) result }
         ensures published { self.new.published ≡ self.old.published }
         ensures unchanged { OnErr result (self.new ≡ self.old) }
     {

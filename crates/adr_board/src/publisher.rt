@@ -1,16 +1,15 @@
 //! A desk with its last publication, and the next one made ready.
-ghost use Rattle.std.specs.Prelude.{◌≡◌, ◌⊎◌, ◌≤◌, ◌++◌, ◌∷◌, [], IfErr, IfOk, Ok, OnErr, OnOk};
+ghost use Rattle.std.specs.Prelude.{◌≡◌, ◌⊎◌, ◌≤◌, [], IfErr, IfOk, Ok, OnErr, OnOk};
 ghost use Rattle.std.specs.Arc.{arc_value};
-ghost use Rattle.adr_refusal.specs.Answer.{Answers, OnlyNoMemory, result_map};
+ghost use Rattle.adr_refusal.specs.Answer.{OnlyNoMemory};
 ghost use Rattle.adr_refusal.specs.declared.refusal.Refusal.TheVariants.{NoMemory, Full};
 ghost use Rattle.adr_value.specs.declared.limits.TheConstants.{MOST_PUBLICATIONS};
 ghost use Rattle.adr_model.specs.Book.{empty};
-ghost use Rattle.adr_model.specs.Edits.{after_from, full_at, made as made_book, step_to};
-ghost use Rattle.adr_model.specs.Touches.{touches};
-ghost use Rattle.adr_regroup.specs.Compared.{most_compared_in};
+ghost use Rattle.adr_model.specs.Edits.{after_from};
+ghost use Rattle.adr_desk.specs.Applied.{IsApplied};
 ghost use Rattle.adr_board.specs.Published.{last_batch};
 ghost use Rattle.adr_board.specs.Publications.{opening_book};
-ghost use Rattle.adr_board.specs.Publishers.{gone_on, next_of, opening_of};
+ghost use Rattle.adr_board.specs.Publishers.{desk_of, gone_on, next_of, opening_of};
 
 use crate::snapshot::{Snapshot, has_private_names, names_of_first_batch, names_stay_private};
 use adr_desk::{Desk, Gate, Receipt};
@@ -140,15 +139,7 @@ impl Publisher {
     /// Of the edit's faults the least, as the desk's `apply` names them; `NoMemory` in place of any. Then all is as it
     /// was.
     pub fn apply(&mut self, edit: Edit) -> Result<Receipt, Refusal>
-        ensures answer { Answers (result_map (λ _. made_book self.old.book.objects edit) result) (step_to (full_at self.old.book.base.version) self.old.book.objects edit) }
-        ensures tie { self.new.tie ≡ self.old.tie }
-        ensures base { self.new.book.base ≡ self.old.book.base }
-        ensures objects { OnOk result (step_to (full_at self.old.book.base.version) self.old.book.objects edit ≡ Ok self.new.book.objects) }
-        ensures pending { OnOk result (self.new.book.pending ≡ self.old.book.pending ++ edit ∷ []) }
-        ensures closed { self.new.book.closed ≡ self.old.book.closed }
-        ensures version { IfOk result (λ receipt. receipt.version ≡ self.new.book.objects.version) }
-        ensures touched { IfOk result (λ receipt. receipt.touched ≡ touches self.old.book.objects self.new.book.objects) }
-        ensures compares { IfOk result (λ receipt. receipt.compares ≤ most_compared_in self.new.book.objects receipt.touched) }
+        ensures applied { IsApplied edit (desk_of self.old) (desk_of self.new) result }
         ensures last { self.new.last ≡ self.old.last }
         ensures unchanged { OnErr result (self.new ≡ self.old) }
     {
@@ -169,15 +160,7 @@ impl Publisher {
         gate: &G,
         edit: Edit,
     ) -> Result<Receipt, Refusal>
-        ensures answer { Answers (result_map (λ _. made_book self.old.book.objects edit) result) (step_to (full_at self.old.book.base.version) self.old.book.objects edit) }
-        ensures tie { self.new.tie ≡ self.old.tie }
-        ensures base { self.new.book.base ≡ self.old.book.base }
-        ensures objects { OnOk result (step_to (full_at self.old.book.base.version) self.old.book.objects edit ≡ Ok self.new.book.objects) }
-        ensures pending { OnOk result (self.new.book.pending ≡ self.old.book.pending ++ edit ∷ []) }
-        ensures closed { self.new.book.closed ≡ self.old.book.closed }
-        ensures version { IfOk result (λ receipt. receipt.version ≡ self.new.book.objects.version) }
-        ensures touched { IfOk result (λ receipt. receipt.touched ≡ touches self.old.book.objects self.new.book.objects) }
-        ensures compares { IfOk result (λ receipt. receipt.compares ≤ most_compared_in self.new.book.objects receipt.touched) }
+        ensures applied { IsApplied edit (desk_of self.old) (desk_of self.new) result }
         ensures last { self.new.last ≡ self.old.last }
         ensures unchanged { OnErr result (self.new ≡ self.old) }
     {

@@ -1,5 +1,5 @@
 -- The event that an edit takes away, and the one that it makes.
-use Rattle.std.specs.Prelude.{◌≡◌, ◌+◌, ◌⊎◌, ℕ, Bool, true, false, List, ◌++◌, Option, Some, None, option_map, option_to_list}
+use Rattle.std.specs.Prelude.{◌≡◌, ◌≤◌, ◌+◌, ◌⊎◌, ℕ, Bool, true, false, List, ◌++◌, length, slice_get, Option, Some, None, option_map, option_to_list}
 use Rattle.adr_object.specs.declared.object.Object.{Object}
 use Rattle.adr_object.specs.declared.object.Object.TheVariants.{Event as event}
 use Rattle.adr_object.specs.declared.object.Kind.TheVariants.{Event as event_kind}
@@ -10,6 +10,8 @@ use Rattle.adr_model.specs.declared.written.Written.{Written}
 use Rattle.adr_model.specs.Book.{Book, event_by}
 use Rattle.adr_model.specs.Governor.{applies_to}
 use Rattle.adr_model.specs.Lists.{In}
+use Rattle.adr_schedule.specs.Moves.{is_among}
+use Rattle.adr_regroup.specs.Compared.{StandOnce}
 
 -- the event that is there with the object's id, where it is an event
 abbrev pub gone_for : Book → Object → Option Written
@@ -66,3 +68,9 @@ is_of_event (Remove _ id) = false
 -- by one id the old book has the event that goes, and the new one the event that comes
 abbrev pub HaveOneId : Book → Book → Option Written → Option Written → Type 0
 HaveOneId old new gone come = (id : List ℕ) × (event_by old id ≡ gone) × (event_by new id ≡ come)
+
+-- the places of the resources to which the event applies, where there is one: each once
+pub record ArePlacesOf (book : Book) (event : Option Written) (places : List ℕ) : Type 0 where
+  pub apply : (p : ℕ) (r : OneResource) (w : Written) → slice_get book.resources p ≡ Some r → event ≡ Some w → is_among places p ≡ applies_to book r w
+  pub count : length places ≤ length book.resources
+  pub once : StandOnce places (length book.resources)

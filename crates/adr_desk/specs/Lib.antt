@@ -1,3 +1,4 @@
+pub mod Applied
 pub mod Accepted
 pub mod Desk
 pub mod Edited

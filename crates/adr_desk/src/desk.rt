@@ -2,16 +2,17 @@
 ghost use denote.Param.Send.{IsSync};
 ghost use Rattle.std.specs.Prelude.{◌≡◌, ◌≢◌, ◌<◌, ◌≤◌, ◌^◌, ◌++◌, ◌∷◌, [], sum_by, ℤ, None, Ok, IsOk, IfOk, IfSome, OnOk, OnErr};
 ghost use Rattle.std.specs.Option.{option_copied, option_map_or};
-ghost use Rattle.adr_refusal.specs.Answer.{Answers, OnlyNoMemory, result_map};
+ghost use Rattle.adr_refusal.specs.Answer.{OnlyNoMemory};
 ghost use Rattle.adr_refusal.specs.Copy.{IsCopyOf};
 ghost use Rattle.adr_group.specs.Jobs.{most_done, AreDone, IsCrew};
 ghost use Rattle.adr_model.specs.Book.{empty};
-ghost use Rattle.adr_model.specs.Edits.{full_at, made as made_book, step_to};
+ghost use Rattle.adr_model.specs.Edits.{full_at, step_to};
 ghost use Rattle.adr_model.specs.Governor.{governs};
 ghost use Rattle.adr_model.specs.Timeline.{shows, IsCanonical};
 ghost use Rattle.adr_model.specs.Touches.{touches};
 ghost use Rattle.adr_book.specs.Ledger.{sealed_of};
 ghost use Rattle.adr_regroup.specs.Compared.{most_compared_in};
+ghost use Rattle.adr_desk.specs.Applied.{IsApplied};
 ghost use Rattle.adr_desk.specs.Loaded.{accepted_of, answers_to, objects_after};
 
 use crate::bulk::{commit_all, index_all, seat_all};
@@ -311,16 +312,7 @@ impl Desk {
     /// `NotThere`; `NoProgram`, `NoVen`; `InUse`; `Full` at a limit of the book or its journal. `NoMemory` may come in
     /// place of any. Then all is as it was.
     pub fn apply(&mut self, edit: Edit) -> Result<Receipt, Refusal>
-        ensures answer { Answers (result_map (λ _. made_book self.old.book.objects edit) result) (step_to (full_at self.old.book.base.version) self.old.book.objects edit) }
-        ensures tie { self.new.tie ≡ self.old.tie }
-        ensures base { self.new.book.base ≡ self.old.book.base }
-        ensures objects { OnOk result (step_to (full_at self.old.book.base.version) self.old.book.objects edit ≡ Ok self.new.book.objects) }
-        ensures pending { OnOk result (self.new.book.pending ≡ self.old.book.pending ++ edit ∷ []) }
-        ensures closed { self.new.book.closed ≡ self.old.book.closed }
-        ensures version { IfOk result (λ receipt. receipt.version ≡ self.new.book.objects.version) }
-        ensures touched { IfOk result (λ receipt. receipt.touched ≡ touches self.old.book.objects self.new.book.objects) }
-        ensures compares { IfOk result (λ receipt. receipt.compares ≤ most_compared_in self.new.book.objects receipt.touched) }
-        ensures unchanged { OnErr result (self.new ≡ self.old) }
+        ensures { IsApplied edit self.old self.new result }
     {
         let alloc = self.alloc;
         let alone = |indexes: &Indexes, jobs: &[Job]| -> Result<Vec<Done>, Refusal>
@@ -346,16 +338,7 @@ impl Desk {
         gate: &G,
         edit: Edit,
     ) -> Result<Receipt, Refusal>
-        ensures answer { Answers (result_map (λ _. made_book self.old.book.objects edit) result) (step_to (full_at self.old.book.base.version) self.old.book.objects edit) }
-        ensures tie { self.new.tie ≡ self.old.tie }
-        ensures base { self.new.book.base ≡ self.old.book.base }
-        ensures objects { OnOk result (step_to (full_at self.old.book.base.version) self.old.book.objects edit ≡ Ok self.new.book.objects) }
-        ensures pending { OnOk result (self.new.book.pending ≡ self.old.book.pending ++ edit ∷ []) }
-        ensures closed { self.new.book.closed ≡ self.old.book.closed }
-        ensures version { IfOk result (λ receipt. receipt.version ≡ self.new.book.objects.version) }
-        ensures touched { IfOk result (λ receipt. receipt.touched ≡ touches self.old.book.objects self.new.book.objects) }
-        ensures compares { IfOk result (λ receipt. receipt.compares ≤ most_compared_in self.new.book.objects receipt.touched) }
-        ensures unchanged { OnErr result (self.new ≡ self.old) }
+        ensures { IsApplied edit self.old self.new result }
     {
         let alloc = self.alloc;
         let crowd = |indexes: &Indexes, jobs: &[Job]| -> Result<Vec<Done>, Refusal>
@@ -373,16 +356,7 @@ impl Desk {
         edit: Edit,
     ) -> Result<Receipt, Refusal>
         requires crew { IsCrew (λ v. v.items) (C.pre crew.now) (C.post crew.now) }
-        ensures answer { Answers (result_map (λ _. made_book self.old.book.objects edit) result) (step_to (full_at self.old.book.base.version) self.old.book.objects edit) }
-        ensures tie { self.new.tie ≡ self.old.tie }
-        ensures base { self.new.book.base ≡ self.old.book.base }
-        ensures objects { OnOk result (step_to (full_at self.old.book.base.version) self.old.book.objects edit ≡ Ok self.new.book.objects) }
-        ensures pending { OnOk result (self.new.book.pending ≡ self.old.book.pending ++ edit ∷ []) }
-        ensures closed { self.new.book.closed ≡ self.old.book.closed }
-        ensures version { IfOk result (λ receipt. receipt.version ≡ self.new.book.objects.version) }
-        ensures touched { IfOk result (λ receipt. receipt.touched ≡ touches self.old.book.objects self.new.book.objects) }
-        ensures compares { IfOk result (λ receipt. receipt.compares ≤ most_compared_in self.new.book.objects receipt.touched) }
-        ensures unchanged { OnErr result (self.new ≡ self.old) }
+        ensures { IsApplied edit self.old self.new result }
     {
         let edit = judged(self.resolution.book(), edit)?;
         self.make(crew, &edit)

@@ -1,5 +1,5 @@
 //! An accepted edit, made beside the old book.
-ghost use Rattle.std.specs.Prelude.{◌≡◌, ◌≤◌, ◌++◌, ◌∷◌, [], true, false, Ok, IsOk, IfOk, OnOk, OnErr};
+ghost use Rattle.std.specs.Prelude.{◌≡◌, ◌≤◌, ◌++◌, ◌∷◌, [], false, Ok, IsOk, IfOk, OnOk, OnErr};
 ghost use Rattle.adr_refusal.specs.Answer.{OnlyNoMemory};
 ghost use Rattle.adr_model.specs.Edits.{full_at, made, step_to};
 ghost use Rattle.adr_model.specs.Touches.{touches};

@@ -12,6 +12,7 @@ use crate::script::FanDesk;
 use crate::writing::write_parts;
 use adr_board::{Board, Gate, Naming, NewBoard, Reader};
 use adr_model::Tie;
+use adr_resolver::BodyReader;
 use adr_script::{Fault, Logs, WriteLog};
 use std::alloc::{AllocError, Global};
 use std::io::{Read, Write};
@@ -48,6 +49,7 @@ fn open<J: Naming, R: Wait>(
                 editor,
                 sent: Vec::new(alloc),
                 boxes,
+                bodies: BodyReader::keeping(alloc),
             };
             Some((desk, seats))
         }
@@ -116,6 +118,7 @@ fn close<J: Naming, R: Wait>(rt: &R, desk: FanDesk<J>) {
         editor,
         sent: _sent,
         boxes: _boxes,
+        bodies: _bodies,
     } = desk;
     editor.close(rt);
 }

@@ -12,7 +12,10 @@ use crate::queries::{Query, Sent};
 use crate::reading::{Part, Reply};
 use adr_board::{Editor, Naming};
 use adr_object::Edit;
-use adr_resolver::{Command, parse_line, put_condensed, put_ok, put_published, put_refusal};
+use adr_resolver::{
+    BodyReader, Command, parse_line_by, put_condensed, put_ok, put_published, put_refusal,
+    put_refused,
+};
 use adr_script::{Machine, Unanswered};
 use adr_value::Refusal;
 use std::alloc::{AllocError, Global};
@@ -22,11 +25,12 @@ use std::thread::Threads;
 
 const MOST_QUERIES: usize = 65_536;
 
-/// The editor, the queries that it has sent, and the readers' mailboxes.
+/// The editor, the queries that it has sent, the readers' mailboxes, and what reads the lines' bodies.
 pub(crate) struct FanDesk<J: Naming> {
     pub(crate) editor: Editor<J>,
     pub(crate) sent: Vec<Sent>,
     pub(crate) boxes: Vec<Arc<Mailbox>>,
+    pub(crate) bodies: BodyReader,
 }
 
 impl<J: Naming> Model for FanDesk<J> {
@@ -50,15 +54,12 @@ impl<J: Naming> FanDesk<J> {
         ensures room { 64 ≤ vec_capacity reply.new }
     {
         match self.editor.apply(edit) {
-            Ok(_receipt) => put_ok(reply, self.editor.desk().book().version()),
-            Err(refusal) => {
-                if refusal == Refusal::NoMemory {
-                    return Err(Unanswered::NoMemory);
-                }
-                put_refusal(reply, refusal);
+            Ok(_receipt) => {
+                put_ok(reply, self.editor.desk().book().version());
+                Ok(())
             }
+            Err(refusal) => put_refused(reply, refusal),
         }
-        Ok(())
     }
 
     /// Publishes the objects as they are.
@@ -75,15 +76,10 @@ impl<J: Naming> FanDesk<J> {
             Ok(published) => {
                 let version = self.editor.desk().book().version();
                 put_published(reply, published.number, version);
+                Ok(())
             }
-            Err(refusal) => {
-                if refusal == Refusal::NoMemory {
-                    return Err(Unanswered::NoMemory);
-                }
-                put_refusal(reply, refusal);
-            }
+            Err(refusal) => put_refused(reply, refusal),
         }
-        Ok(())
     }
 
     /// Makes the last publication the base.
@@ -232,7 +228,7 @@ impl<J: Naming> Machine for FanDesk<J> {
         line: &[u8],
         reply: &mut Vec<u8>,
     ) -> Result<(), Unanswered> {
-        match parse_line(rt.alloc(), line) {
+        match parse_line_by(rt.alloc(), &mut self.bodies, line) {
             Ok(Command::Edit(edit)) => self.edit(edit, reply),
             Ok(Command::Publish) => self.publish(rt, reply),
             Ok(Command::Condense) => self.condense(reply),
@@ -246,13 +242,7 @@ impl<J: Naming> Machine for FanDesk<J> {
                 self.send(rt, Query::Roll(payload_type, moment), reply)
             }
             Ok(Command::Types(id)) => self.send(rt, Query::Types(id), reply),
-            Err(refusal) => {
-                if refusal == Refusal::NoMemory {
-                    return Err(Unanswered::NoMemory);
-                }
-                put_refusal(reply, refusal);
-                Ok(())
-            }
+            Err(refusal) => put_refused(reply, refusal),
         }
     }
 }

@@ -7,7 +7,7 @@ ghost use Rattle.adr_resolver.specs.Text.{answer_line};
 
 use crate::command::Command;
 use crate::line::parse_line_by;
-use crate::replies::{put_answer, put_condensed, put_ok, put_published, put_refusal};
+use crate::replies::{put_answer, put_condensed, put_ok, put_published, put_refused};
 use crate::resolver::Resolver;
 use adr_object::{Edit, Id};
 use adr_read::BodyReader;
@@ -61,15 +61,12 @@ impl<R: Resolver> ScriptOf<R> {
         ensures room { 64 ≤ vec_capacity reply.new }
     {
         match self.resolver.edit(edit) {
-            Ok(version) => put_ok(reply, version),
-            Err(refusal) => {
-                if refusal == Refusal::NoMemory {
-                    return Err(Unanswered::NoMemory);
-                }
-                put_refusal(reply, refusal);
+            Ok(version) => {
+                put_ok(reply, version);
+                Ok(())
             }
+            Err(refusal) => put_refused(reply, refusal),
         }
-        Ok(())
     }
 
     /// Publishes the objects as they are.
@@ -82,15 +79,12 @@ impl<R: Resolver> ScriptOf<R> {
         ensures room { 64 ≤ vec_capacity reply.new }
     {
         match self.resolver.publish(rt) {
-            Ok(published) => put_published(reply, published.number, published.version),
-            Err(refusal) => {
-                if refusal == Refusal::NoMemory {
-                    return Err(Unanswered::NoMemory);
-                }
-                put_refusal(reply, refusal);
+            Ok(published) => {
+                put_published(reply, published.number, published.version);
+                Ok(())
             }
+            Err(refusal) => put_refused(reply, refusal),
         }
-        Ok(())
     }
 
     /// Makes the last publication the base.
@@ -187,15 +181,9 @@ fn put_answer_or_refusal(
     ensures room { 64 ≤ vec_capacity reply.new }
 {
     match answer {
-        Ok(answer) => put_answer(reply, &answer)?,
-        Err(refusal) => {
-            if refusal == Refusal::NoMemory {
-                return Err(Unanswered::NoMemory);
-            }
-            put_refusal(reply, refusal);
-        }
+        Ok(answer) => Ok(put_answer(reply, &answer)?),
+        Err(refusal) => put_refused(reply, refusal),
     }
-    Ok(())
 }
 
 impl<R: Resolver> Machine for ScriptOf<R> {
@@ -227,13 +215,7 @@ impl<R: Resolver> Machine for ScriptOf<R> {
             ),
             Ok(Command::Roll(payload_type, moment)) => self.roll(&payload_type, moment, reply),
             Ok(Command::Types(id)) => self.types(&id, reply),
-            Err(refusal) => {
-                if refusal == Refusal::NoMemory {
-                    return Err(Unanswered::NoMemory);
-                }
-                put_refusal(reply, refusal);
-                Ok(())
-            }
+            Err(refusal) => put_refused(reply, refusal),
         }
     }
 }

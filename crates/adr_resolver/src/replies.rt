@@ -1,9 +1,10 @@
 //! The replies, made in room that is there.
-ghost use Rattle.std.specs.Prelude.{◌≡◌, ◌++◌, ◌+◌, ◌^◌, ◌≤◌, ◌<◌, codes, length, vec_len, vec_capacity, OnOk, OnErr};
+ghost use Rattle.std.specs.Prelude.{◌≡◌, ◌≢◌, ◌++◌, ◌+◌, ◌^◌, ◌≤◌, ◌<◌, [], Err, codes, length, vec_len, vec_capacity, OnOk, OnErr};
 ghost use Rattle.std.specs.Fmt.{decimal};
 ghost use Rattle.adr_refusal.specs.Refusal.{number_of, name_of};
 ghost use Rattle.adr_resolver.specs.Text.{refusal_line, ok_line, published_line, condensed_line};
 
+use adr_script::Unanswered;
 use adr_value::Refusal;
 use itoa::Buffer;
 use std::alloc::AllocError;
@@ -43,6 +44,26 @@ pub fn put_refusal(reply: &mut Vec<u8>, refusal: Refusal)
     put(reply, b" ");
     put(reply, refusal.name().as_bytes());
     put(reply, b"\n");
+}
+
+/// Puts the reply to a refused line into an empty one with room for 64 bytes.
+///
+/// # Errors
+///
+/// `NoMemory` where memory was wanting, which is no reply.
+pub fn put_refused(reply: &mut Vec<u8>, refusal: Refusal) -> Result<(), Unanswered>
+    requires empty { reply.old.items ≡ [] }
+    requires room { 64 ≤ vec_capacity reply.old }
+    ensures reply { OnOk result (reply.new.items ≡ refusal_line refusal) }
+    ensures refusal { OnOk result (refusal ≢ Refusal.NoMemory) }
+    ensures err { OnErr result (result ≡ Err Unanswered.NoMemory) }
+    ensures room { 64 ≤ vec_capacity reply.new }
+{
+    if refusal == Refusal::NoMemory {
+        return Err(Unanswered::NoMemory);
+    }
+    put_refusal(reply, refusal);
+    Ok(())
 }
 
 /// Puts `ok 4` into an empty reply with room for 64 bytes.

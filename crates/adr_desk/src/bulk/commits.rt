@@ -1,5 +1,5 @@
 //! Edits, judged and committed one after the other.
-ghost use Rattle.std.specs.Prelude.{◌≡◌, ◌++◌, ◌∷◌, [], IfOk, MatchResult, Ok, Err};
+ghost use Rattle.std.specs.Prelude.{◌≡◌, ◌++◌, [], IfOk, Ok, Err};
 ghost use Rattle.adr_refusal.specs.Answer.{OnlyNoMemory, result_map};
 ghost use Rattle.adr_model.specs.Book.{empty};
 ghost use Rattle.adr_model.specs.Edits.{full_at, step_to};

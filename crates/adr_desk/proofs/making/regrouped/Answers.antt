@@ -58,7 +58,7 @@ shifted-requires-clause-room g c =
     let room = c.requires.change.room c.args.indexes.now (entries_in c.args.change.now.gone) (entries_in c.args.change.now.come) c.requires.indexed
     (groups_of_side accepted.tie (gone_of book edit) c.args.change.now.gone c.requires.change.gone) (groups_of_side accepted.tie (come_of book edit) c.args.change.now.come c.requires.change.come) in
     let few : length c.as_slice.result.now * most_possible (sides_of c.args.change.now) c.args.indexes.now < 2 ^ 127 =
-    rw c.as_slice.ensures.value (room_for_both (length c.in_ok-joining.joining.items) (length book.resources) (most_possible (sides_of c.args.change.now) c.args.indexes.now) c.in_ok-joining.ensures.count room) in
+    rw c.as_slice.ensures.value (room_for_both (length c.in_ok-joining.joining.items) (length book.resources) (most_possible (sides_of c.args.change.now) c.args.indexes.now) c.in_ok-joining.ensures.places.count room) in
     omega (arith, few, c.requires.begun)
 
 pub shifted-requires-2-clause-room : goal.shifted-requires-2-clause-room
@@ -70,11 +70,11 @@ shifted-requires-2-clause-room g c =
     let room = c.requires.change.room c.args.indexes.now (entries_in c.args.change.now.gone) (entries_in c.args.change.now.come) c.requires.indexed
     (groups_of_side accepted.tie (gone_of book edit) c.args.change.now.gone c.requires.change.gone) (groups_of_side accepted.tie (come_of book edit) c.args.change.now.come c.requires.change.come) in
     let few : length c.as_slice.result.now * most_possible (sides_of c.args.change.now) c.args.indexes.now < 2 ^ 127 =
-    rw c.as_slice.ensures.value (room_for_both (length c.in_ok-joining.joining.items) (length book.resources) (most_possible (sides_of c.args.change.now) c.args.indexes.now) c.in_ok-joining.ensures.count room) in
+    rw c.as_slice.ensures.value (room_for_both (length c.in_ok-joining.joining.items) (length book.resources) (most_possible (sides_of c.args.change.now) c.args.indexes.now) c.in_ok-joining.ensures.places.count room) in
     let again = c.requires.change.room c.args.indexes.now (entries_in c.in_ok-gone.gone) (entries_in c.args.change.now.come) c.requires.indexed
     (groups_of_side accepted.tie (gone_of book edit) c.in_ok-gone.gone c.in_ok-gone.ensures.side) (groups_of_side accepted.tie (come_of book edit) c.args.change.now.come c.requires.change.come) in
     let less : length c.as_slice-4.result.now * most_possible (sides_of alone) c.args.indexes.now < 2 ^ 127 =
-    rw c.as_slice-4.ensures.value (room_for_one c.args.indexes.now c.repairs_compare_little.ensures.both alone (entries_in c.args.change.now.come) (length c.in_ok-leaving.leaving.items) (length book.resources) refl c.in_ok-leaving.ensures.count again) in
+    rw c.as_slice-4.ensures.value (room_for_one c.args.indexes.now c.repairs_compare_little.ensures.both alone (entries_in c.args.change.now.come) (length c.in_ok-leaving.leaving.items) (length book.resources) refl c.in_ok-leaving.ensures.places.count again) in
     omega (arith, few, less, c.requires.begun, c.shifted.ensures.compared)
 
 pub returns-then-eq-clause-seated : goal.returns-then-eq-clause-seated
@@ -88,8 +88,8 @@ returns-then-eq-clause-seated g c =
     seated_after c.right_moves.ensures accepted.tie book (gone_of book edit) (come_of book edit) c.args.indexes.now c.args.change.now stay
     c.requires.change.gone c.requires.change.come c.requires.change.gone refl c.requires.indexed
     accepted.schedule.now c.in_ok-mid.mid c.in_ok-mid.mid joining joining
-    (λ p r v at e. ap (λ ps. is_among ps p) c.as_slice.ensures.value ∙ c.in_ok-joining.ensures.apply p r v at e)
-    (λ p r u at e. ap (λ ps. is_among ps p) (sym same) ∙ c.in_ok-leaving.ensures.apply p r u at e)
+    (λ p r v at e. ap (λ ps. is_among ps p) c.as_slice.ensures.value ∙ c.in_ok-joining.ensures.places.apply p r v at e)
+    (λ p r u at e. ap (λ ps. is_among ps p) (sym same) ∙ c.in_ok-leaving.ensures.places.apply p r u at e)
     c.in_ok-mid.ensures.shifted c.in_ok-mid.ensures.right
     (same_places (number_in c.args.change.now.gone) (number_in c.args.change.now.come) joining accepted.schedule.now c.in_ok-mid.mid c.requires.two c.in_ok-mid.ensures.shifted)
     (λ tie events indexed sides right. right)
@@ -106,9 +106,9 @@ returns-then-eq-clause-least g c =
     let leaving = c.in_ok-leaving.leaving.items in
     let stay : Change = record { gone = c.args.change.now.gone; come = None } in
     let cost = shifts_cost accepted.tie book new (gone_of book edit) (come_of book edit) c.requires.change.exchange c.requires.change.whole c.requires.change.whole_after one.0 one.1 one.2 c.args.indexes.now c.requires.indexed c.args.change.now stay
-    c.requires.change.gone c.requires.change.come c.requires.change.gone refl accepted.schedule.now c.in_ok-mid.mid c.requires.seated joining leaving c.in_ok-joining.ensures.apply
+    c.requires.change.gone c.requires.change.come c.requires.change.gone refl accepted.schedule.now c.in_ok-mid.mid c.requires.seated joining leaving c.in_ok-joining.ensures.places.apply
     (subst (λ (ps : List ℕ). IsShifted (number_in c.args.change.now.gone) (number_in c.args.change.now.come) ps accepted.schedule.now c.in_ok-mid.mid) c.as_slice.ensures.value c.in_ok-mid.ensures.shifted)
-    c.in_ok-joining.ensures.once c.in_ok-leaving.ensures.once in
+    c.in_ok-joining.ensures.places.once c.in_ok-leaving.ensures.places.once in
     let first = ap (sum_by (most_at c.args.change.now c.args.indexes.now accepted.schedule.now)) c.as_slice.ensures.value in
     omega (arith, cost, first, c.requires.begun, c.in_ok-mid.ensures.least)
 
@@ -125,8 +125,8 @@ returns-clause-seated g c =
     both c.shifted-2.result _ _ _ (λ after shifted right. seated_after c.right_moves.ensures accepted.tie book (gone_of book edit) (come_of book edit) c.args.indexes.now c.args.change.now alone
     c.requires.change.gone c.requires.change.come c.in_ok-gone.ensures.side refl c.requires.indexed
     accepted.schedule.now c.in_ok-mid.mid after c.as_slice.result.now c.as_slice-4.result.now
-    (λ p r v at e. ap (λ ps. is_among ps p) c.as_slice.ensures.value ∙ c.in_ok-joining.ensures.apply p r v at e)
-    (λ p r u at e. ap (λ ps. is_among ps p) c.as_slice-4.ensures.value ∙ c.in_ok-leaving.ensures.apply p r u at e)
+    (λ p r v at e. ap (λ ps. is_among ps p) c.as_slice.ensures.value ∙ c.in_ok-joining.ensures.places.apply p r v at e)
+    (λ p r u at e. ap (λ ps. is_among ps p) c.as_slice-4.ensures.value ∙ c.in_ok-leaving.ensures.places.apply p r u at e)
     c.in_ok-mid.ensures.shifted c.in_ok-mid.ensures.right shifted right
     accepted.new.now.objects c.requires.change.exchange c.requires.seated) c.shifted-2.ensures.shifted c.shifted-2.ensures.right
 
@@ -141,9 +141,9 @@ returns-clause-least g c =
     let leaving = c.in_ok-leaving.leaving.items in
     let alone : Change = record { gone = c.in_ok-gone.gone; come = None } in
     let cost = shifts_cost accepted.tie book new (gone_of book edit) (come_of book edit) c.requires.change.exchange c.requires.change.whole c.requires.change.whole_after one.0 one.1 one.2 c.args.indexes.now c.requires.indexed c.args.change.now alone
-    c.requires.change.gone c.requires.change.come c.in_ok-gone.ensures.side refl accepted.schedule.now c.in_ok-mid.mid c.requires.seated joining leaving c.in_ok-joining.ensures.apply
+    c.requires.change.gone c.requires.change.come c.in_ok-gone.ensures.side refl accepted.schedule.now c.in_ok-mid.mid c.requires.seated joining leaving c.in_ok-joining.ensures.places.apply
     (subst (λ (ps : List ℕ). IsShifted (number_in c.args.change.now.gone) (number_in c.args.change.now.come) ps accepted.schedule.now c.in_ok-mid.mid) c.as_slice.ensures.value c.in_ok-mid.ensures.shifted)
-    c.in_ok-joining.ensures.once c.in_ok-leaving.ensures.once in
+    c.in_ok-joining.ensures.places.once c.in_ok-leaving.ensures.places.once in
     let first = ap (sum_by (most_at c.args.change.now c.args.indexes.now accepted.schedule.now)) c.as_slice.ensures.value in
     let second = ap (sum_by (most_at alone c.args.indexes.now c.in_ok-mid.mid)) c.as_slice-4.ensures.value in
     on_ok_weaker c.shifted-2.result (λ least. omega (arith, cost, first, second, c.requires.begun, c.in_ok-mid.ensures.least, least)) c.shifted-2.ensures.least
