@@ -30,7 +30,7 @@ starts_covered : (a : ℤ) (e : End) → is_before a e ≡ true → (int_le a a 
 starts_covered a e h = let here : int_le a a ≡ true = grind (arith, ints) in ap (λ b. b && is_before a e) here ∙ h
 
 -- a canonical timeline that is not empty shows something where it starts
-some_shown : (line : List Segment) → IsCanonical line → line ≢ [] → (t : ℤ) × IsTrue (is_some (shows line t))
+pub some_shown : (line : List Segment) → IsCanonical line → line ≢ [] → (t : ℤ) × IsTrue (is_some (shows line t))
 some_shown [] c lasts = absurd (lasts refl)
 some_shown (s ∷ rest) c lasts =
     let lasts_from : is_before s.start s.end ≡ true = c.0 0 s (omega arith) in

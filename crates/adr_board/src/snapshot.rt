@@ -1,6 +1,6 @@
 //! Snapshots: a published book with its timelines, which many readers may share, and the answers to queries from it.
 ghost use Rattle.std.specs.Prelude.{◌≡◌, ◌≢◌, ◌+◌, ◌≤◌, [], ℤ, length, IfOk, IfSome};
-ghost use Rattle.std.specs.Prelude.{None};
+ghost use Rattle.std.specs.Prelude.{slice_get, None, MatchOption};
 ghost use Rattle.std.specs.Option.{option_copied, option_map_or};
 ghost use Rattle.adr_refusal.specs.Answer.{OnlyNoMemory};
 ghost use Rattle.adr_refusal.specs.Copy.{IsCopyOf};
@@ -163,13 +163,22 @@ impl Snapshot {
         self.resolution.timeline(id, payload_type)
     }
 
-    /// The timelines of the resource, which it may share with others; None where there is no such resource.
-    pub(crate) fn group(&self, id: &Id) -> Option<&Group>
-        ensures { (k : AnyType) (t : ℤ) → option_map_or (λ g. shown_in g.lines k t) (option_copied result) None ≡ governs self.now.tie self.now.book.objects id.now k t }
+    /// The timelines of the resource at the place, which it may share with others; None where there is no resource.
+    pub(crate) fn group(&self, place: usize) -> Option<&Group>
+        ensures { MatchOption (slice_get self.now.book.objects.resources place) (option_copied result ≡ None) (λ r. (k : AnyType) (t : ℤ) → option_map_or (λ g. shown_in g.lines k t) (option_copied result) None ≡ governs self.now.tie self.now.book.objects r.id k t) }
     {
         let schedule = self.resolution.schedule();
-        let place = self.resolution.book().resource_place(id)?;
+        self.resolution.book().book_laws();
         schedule.group(place)
+    }
+
+    /// The timeline of the resource at the place and the payload type; None where nothing governs at any instant, or
+    /// there is no resource. Cost: a look-up in a table, one in a tree of the groups and one among the group's types.
+    pub(crate) fn line(&self, place: usize, payload_type: &PayloadType) -> Option<&Timeline>
+        ensures { MatchOption (slice_get self.now.book.objects.resources place) (option_copied result ≡ None) (λ r. (t : ℤ) → option_map_or (λ l. shows l t) (option_copied result) None ≡ governs self.now.tie self.now.book.objects r.id payload_type.now t) }
+    {
+        let group = self.group(place)?;
+        group.timeline(payload_type)
     }
 
     /// Where lists for answers take their memory.

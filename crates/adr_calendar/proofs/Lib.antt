@@ -5,3 +5,4 @@ pub mod Walked
 pub mod Tabled
 mod Days
 mod Digits
+mod Places

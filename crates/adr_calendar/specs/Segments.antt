@@ -1,15 +1,15 @@
 -- The calendar of a window, as a timeline.
-use Rattle.std.specs.Prelude.{◌≡◌, ℤ, ◌&&◌, int_le, int_lt, List, [], ℕ, flat_map, filter_map, Option, None, if◌then◌else◌}
+use Rattle.std.specs.Prelude.{◌≡◌, ℤ, ◌&&◌, int_le, int_lt, List, [], ℕ, flat_map, filter_map, slice_get, Option, None, MatchOption, if◌then◌else◌}
 use Rattle.std.specs.Option.{option_map, option_map_or}
 use Rattle.adr_value.specs.declared.payload.PayloadType.{PayloadType}
-use Rattle.adr_time.specs.declared.span.End.TheVariants.{At}
+use Rattle.adr_time.specs.declared.span.End.TheVariants.{At, Endless}
 use Rattle.adr_model.specs.declared.entry.Tie.{Tie}
 use Rattle.adr_model.specs.declared.timeline.Segment.{Segment}
 use Rattle.adr_model.specs.declared.timeline.Winner.{Winner}
 use Rattle.adr_model.specs.Answer.{shown_of, until}
 use Rattle.adr_model.specs.Book.{Book}
 use Rattle.adr_model.specs.Governor.{governs}
-use Rattle.adr_model.specs.Queries.{beginnings, end_within, in_lines, list_text, segment_text}
+use Rattle.adr_model.specs.Queries.{beginnings, end_within, governing_types, in_lines, list_text, segment_text}
 use Rattle.adr_calendar.specs.declared.calendar.State.{State}
 use Rattle.adr_model.specs.Timeline.{shows, IsCanonical}
 
@@ -35,6 +35,22 @@ pub record IsCalendar (tie : Tie) (book : Book) (id : List ℕ) (payload_type : 
 pub record IsStateAt (tie : Tie) (book : Book) (id : List ℕ) (payload_type : PayloadType) (t : ℤ) (state : State) : Type 0 where
   pub governed : state.governor ≡ governs tie book id payload_type t
   pub changed : state.until ≡ until tie book id payload_type t
+
+-- nothing governs, and that stays so
+abbrev pub nothing : State
+nothing = record { governor = None; until = Endless }
+
+-- the same of the resource at a place: nothing governs where there is none
+abbrev pub IsStateOf : Tie → Book → ℕ → PayloadType → ℤ → State → Type 0
+IsStateOf tie book place payload_type t state =
+    MatchOption (slice_get book.resources place) (state ≡ nothing) (λ r. IsStateAt tie book r.id payload_type t state)
+
+abbrev pub IsCalendarOf : Tie → Book → ℕ → PayloadType → ℤ → ℤ → List Segment → Type 0
+IsCalendarOf tie book place payload_type from to timeline =
+    MatchOption (slice_get book.resources place) (timeline ≡ []) (λ r. IsCalendar tie book r.id payload_type from to timeline)
+
+abbrev pub types_of : Tie → Book → ℕ → List PayloadType
+types_of tie book place = option_map_or (λ r. governing_types tie book r.id) (slice_get book.resources place) []
 
 -- the line of a segment, cut to the window
 abbrev pub line_of_segment : Book → PayloadType → ℤ → Segment → List ℕ

@@ -9,7 +9,7 @@ ghost use Rattle.adr_calendar.specs.Governed.{state_at};
 ghost use Rattle.adr_calendar.specs.Segments.{line_of_segment};
 ghost use Rattle.adr_calendar.specs.Shown.{shown_view};
 ghost use Rattle.adr_model.specs.Answer.{at, shown, shown_of as shown_by, state_text, until};
-ghost use Rattle.adr_model.specs.Queries.{beginnings, in_lines, list, list_text, roll, roll_line, segment_line, type_text, types, types_text};
+ghost use Rattle.adr_model.specs.Queries.{in_lines, list, roll, roll_line, type_text, types};
 
 use crate::calendar::{Calendar, State};
 use crate::events::LastEvent;
@@ -39,30 +39,13 @@ pub fn shown_by_winner<'a>(
     shown_of(book, payload_type, winner?)
 }
 
-/// Appends the state of the type for the resource at the moment.
-#[tactic(auto, using(crate::proofs::States::state_told))]
-fn put_state_of<C: Calendar>(
-    out: &mut Vec<u8>,
-    calendar: &C,
-    id: &Id,
-    payload_type: &PayloadType,
-    moment: Moment,
-) -> Result<(), Refusal>
-    ensures ok { OnOk result (out.new.items ≡ out.old.items ++ state_text (shown (C.tie calendar.now) (C.objects calendar.now) id.now payload_type.now moment) (until (C.tie calendar.now) (C.objects calendar.now) id.now payload_type.now moment)) }
-    ensures memory { OnlyNoMemory result }
-{
-    let state = calendar.state(id, payload_type, moment)?;
-    let shown = shown_by_winner(calendar.book(), payload_type, state.governor);
-    put_state(out, shown, state.until)
-}
-
 /// What governs the resource for the type at the moment, and until when. Cost: that of the calendar's state.
 ///
 /// # Errors
 ///
 /// `UnknownResource` where the book has no such resource; `NoMemory` where there is no room for the answer, in place of
 /// any.
-#[tactic(auto, using(crate::proofs::States::what_governs_is_there, crate::proofs::States::state_told_whole))]
+#[tactic(auto, using(crate::proofs::Places::state_answered))]
 pub fn governor<C: Calendar>(
     calendar: &C,
     id: &Id,
@@ -71,12 +54,10 @@ pub fn governor<C: Calendar>(
 ) -> Result<State, Refusal>
     ensures { Answers result (state_at (C.tie calendar.now) (C.objects calendar.now) id.now payload_type.now moment) }
 {
-    let state = calendar.state(id, payload_type, moment)?;
-    // A resource of which something governs is there, and isn't looked for again.
-    if state.governor.is_some() || calendar.book().resource(id).is_some() {
-        return Ok(state);
+    match calendar.book().resource_place(id) {
+        Some(place) => calendar.state(place, payload_type, moment),
+        None => Err(Refusal::UnknownResource),
     }
-    Err(Refusal::UnknownResource)
 }
 
 /// The bytes of the answer to `at`.
@@ -177,47 +158,21 @@ fn put_lines(
     Ok(())
 }
 
-/// Appends the lines of the window's segments.
-fn put_segments<C: Calendar>(
-    alloc: Global,
-    out: &mut Vec<u8>,
-    calendar: &C,
-    id: &Id,
-    payload_type: &PayloadType,
-    from: Moment,
-    to: Moment,
-) -> Result<(), Refusal>
-    ensures ok { OnOk result (out.new.items ≡ out.old.items ++ flat_map (segment_line (C.tie calendar.now) (C.objects calendar.now) id.now payload_type.now to) (beginnings (C.tie calendar.now) (C.objects calendar.now) id.now payload_type.now from to)) }
-    ensures memory { OnlyNoMemory result }
-{
-    timeline_laws();
-    let segments = calendar.segments(id, payload_type, from, to)?;
-    put_lines(
-        alloc,
-        out,
-        calendar.book(),
-        payload_type,
-        to,
-        segments.as_slice(),
-    )
-}
-
 /// The bytes of the answer to `list`.
-fn text_of_list<C: Calendar>(
+fn text_of_list(
     alloc: Global,
-    calendar: &C,
-    id: &Id,
+    book: &Book,
     payload_type: &PayloadType,
-    from: Moment,
     to: Moment,
+    segments: &[Segment],
 ) -> Result<Vec<u8>, Refusal>
-    ensures ok { IfOk result (λ v. v.items ≡ list_text (C.tie calendar.now) (C.objects calendar.now) id.now payload_type.now from to) }
+    ensures ok { IfOk result (λ v. v.items ≡ in_lines book.now.objects (flat_map (line_of_segment book.now.objects payload_type.now to) segments.now)) }
     ensures memory { OnlyNoMemory result }
 {
     let mut out = Vec::new(alloc);
-    put_version(&mut out, calendar.book().version())?;
+    put_version(&mut out, book.version())?;
     put(&mut out, b"\n")?;
-    put_segments(alloc, &mut out, calendar, id, payload_type, from, to)?;
+    put_lines(alloc, &mut out, book, payload_type, to, segments)?;
     put(&mut out, b".\n")?;
     Ok(out)
 }
@@ -243,26 +198,35 @@ pub fn list<C: Calendar>(
     if to.nanoseconds() <= from.nanoseconds() {
         return Err(Refusal::BadWindow);
     }
-    if calendar.book().resource(id).is_none() {
+    let Some(place) = calendar.book().resource_place(id) else {
         return Err(Refusal::UnknownResource);
-    }
-    text_of_list(alloc, calendar, id, payload_type, from, to)
+    };
+    timeline_laws();
+    let segments = calendar.segments(place, payload_type, from, to)?;
+    text_of_list(
+        alloc,
+        calendar.book(),
+        payload_type,
+        to,
+        segments.as_slice(),
+    )
 }
 
 /// Appends a resource's id and state.
-fn put_roll_line<C: Calendar>(
+fn put_roll_line(
     out: &mut Vec<u8>,
-    calendar: &C,
+    book: &Book,
     id: &Id,
     payload_type: &PayloadType,
-    moment: Moment,
+    state: State,
 ) -> Result<(), Refusal>
-    ensures ok { OnOk result (out.new.items ≡ out.old.items ++ roll_line (C.tie calendar.now) (C.objects calendar.now) payload_type.now moment id.now) }
+    ensures ok { OnOk result (out.new.items ≡ out.old.items ++ (id.now ++ codes " " ++ state_text (option_and_then (shown_by book.now.objects payload_type.now) state.governor) state.until ++ codes "\n")) }
     ensures memory { OnlyNoMemory result }
 {
+    let shown = shown_by_winner(book, payload_type, state.governor);
     put(out, id.text().as_bytes())?;
     put(out, b" ")?;
-    put_state_of(out, calendar, id, payload_type, moment)?;
+    put_state(out, shown, state.until)?;
     put(out, b"\n")
 }
 
@@ -277,10 +241,11 @@ fn put_roll_line_at<C: Calendar>(
     ensures ok { OnOk result (out.new.items ≡ out.old.items ++ option_map_or (λ r. roll_line (C.tie calendar.now) (C.objects calendar.now) payload_type.now moment r.id) (slice_get (C.objects calendar.now).resources place) []) }
     ensures memory { OnlyNoMemory result }
 {
-    match calendar.book().resource_at(place) {
-        Some(resource) => put_roll_line(out, calendar, &resource.id, payload_type, moment),
-        None => Ok(()),
-    }
+    let Some(resource) = calendar.book().resource_at(place) else {
+        return Ok(());
+    };
+    let state = calendar.state(place, payload_type, moment)?;
+    put_roll_line(out, calendar.book(), &resource.id, payload_type, state)
 }
 
 /// Appends the lines of all resources, in order of creation.
@@ -318,7 +283,8 @@ fn text_of_roll<C: Calendar>(
     Ok(out)
 }
 
-/// The answer to `roll`: the state of each resource, in order of creation. Cost: that of `at` for each resource.
+/// The answer to `roll`: the state of each resource, in order of creation. Cost: that of the calendar's state for each
+/// resource; none is looked up by its id.
 ///
 /// # Errors
 ///
@@ -356,15 +322,14 @@ fn put_type_lines(out: &mut Vec<u8>, types: &[PayloadType]) -> Result<(), Refusa
 }
 
 /// The bytes of the answer to `types`.
-fn text_of_types<C: Calendar>(alloc: Global, calendar: &C, id: &Id) -> Result<Vec<u8>, Refusal>
-    ensures ok { IfOk result (λ v. v.items ≡ types_text (C.tie calendar.now) (C.objects calendar.now) id.now) }
+fn text_of_types(alloc: Global, book: &Book, types: &[PayloadType]) -> Result<Vec<u8>, Refusal>
+    ensures ok { IfOk result (λ v. v.items ≡ in_lines book.now.objects (flat_map (λ kind. type_text (name_of kind) ++ codes "\n") types.now)) }
     ensures memory { OnlyNoMemory result }
 {
-    let types = calendar.types(id)?;
     let mut out = Vec::new(alloc);
-    put_version(&mut out, calendar.book().version())?;
+    put_version(&mut out, book.version())?;
     put(&mut out, b"\n")?;
-    put_type_lines(&mut out, types.as_slice())?;
+    put_type_lines(&mut out, types)?;
     put(&mut out, b".\n")?;
     Ok(out)
 }
@@ -380,8 +345,9 @@ fn text_of_types<C: Calendar>(alloc: Global, calendar: &C, id: &Id) -> Result<Ve
 pub fn types<C: Calendar>(alloc: Global, calendar: &C, id: &Id) -> Result<Vec<u8>, Refusal>
     ensures { Answers (result_map (λ v. v.items) result) (types (C.tie calendar.now) (C.objects calendar.now) id.now) }
 {
-    if calendar.book().resource(id).is_none() {
+    let Some(place) = calendar.book().resource_place(id) else {
         return Err(Refusal::UnknownResource);
-    }
-    text_of_types(alloc, calendar, id)
+    };
+    let types = calendar.types(place)?;
+    text_of_types(alloc, calendar.book(), types.as_slice())
 }

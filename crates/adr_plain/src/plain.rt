@@ -14,7 +14,7 @@ use adr_book::{Book, judge};
 use adr_calendar::{Calendar, State};
 use adr_model::{Published, Segment, Tie};
 use adr_object::{Edit, Id};
-use adr_time::Moment;
+use adr_time::{End, Moment};
 use adr_value::limits::{MOST_PUBLICATIONS, MOST_VERSION};
 use adr_value::{PayloadType, Refusal};
 use std::alloc::Global;
@@ -204,12 +204,23 @@ impl Calendar for Plain {
         &self.published
     }
 
-    fn state(&self, id: &Id, payload_type: &PayloadType, moment: Moment) -> Result<State, Refusal> {
+    fn state(
+        &self,
+        place: usize,
+        payload_type: &PayloadType,
+        moment: Moment,
+    ) -> Result<State, Refusal> {
+        let Some(resource) = self.published.resource_at(place) else {
+            return Ok(State {
+                governor: None,
+                until: End::Endless,
+            });
+        };
         state_of(
             self.alloc,
             &self.published,
             self.tie,
-            id,
+            &resource.id,
             payload_type,
             moment,
         )
@@ -218,23 +229,29 @@ impl Calendar for Plain {
     #[tactic(auto, using(crate::proofs::Windows::segments_are_calendar))]
     fn segments(
         &self,
-        id: &Id,
+        place: usize,
         payload_type: &PayloadType,
         from: Moment,
         to: Moment,
     ) -> Result<Vec<Segment>, Refusal> {
+        let Some(resource) = self.published.resource_at(place) else {
+            return Ok(Vec::new(self.alloc));
+        };
         segments_of(
             self.alloc,
             &self.published,
             self.tie,
-            id,
+            &resource.id,
             payload_type,
             from,
             to,
         )
     }
 
-    fn types(&self, id: &Id) -> Result<Vec<PayloadType>, Refusal> {
-        types_of(self.alloc, &self.published, self.tie, id)
+    fn types(&self, place: usize) -> Result<Vec<PayloadType>, Refusal> {
+        match self.published.resource_at(place) {
+            Some(resource) => types_of(self.alloc, &self.published, self.tie, &resource.id),
+            None => Ok(Vec::new(self.alloc)),
+        }
     }
 }

@@ -6,7 +6,6 @@ use crate::snapshot::types::types_of;
 use adr_book::Book;
 use adr_calendar::{Calendar, State};
 use adr_model::Segment;
-use adr_object::Id;
 use adr_time::Moment;
 use adr_value::{PayloadType, Refusal};
 
@@ -19,25 +18,30 @@ impl Calendar for Snapshot {
         Snapshot::book(self)
     }
 
-    fn state(&self, id: &Id, payload_type: &PayloadType, moment: Moment) -> Result<State, Refusal> {
-        let line = self.timeline(id, payload_type);
+    fn state(
+        &self,
+        place: usize,
+        payload_type: &PayloadType,
+        moment: Moment,
+    ) -> Result<State, Refusal> {
+        let line = self.line(place, payload_type);
         Ok(state_of(line, moment))
     }
 
     fn segments(
         &self,
-        id: &Id,
+        place: usize,
         payload_type: &PayloadType,
         from: Moment,
         to: Moment,
     ) -> Result<Vec<Segment>, Refusal> {
-        let line = self.timeline(id, payload_type);
+        let line = self.line(place, payload_type);
         let segments = segments_of(self.allocator(), line, from, to)?;
         Ok(segments)
     }
 
-    fn types(&self, id: &Id) -> Result<Vec<PayloadType>, Refusal> {
-        match self.group(id) {
+    fn types(&self, place: usize) -> Result<Vec<PayloadType>, Refusal> {
+        match self.group(place) {
             Some(group) => {
                 group.line_laws();
                 self.snapshot_laws();

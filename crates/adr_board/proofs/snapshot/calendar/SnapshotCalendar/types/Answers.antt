@@ -1,16 +1,14 @@
-use Rattle.std.proofs.Common.{◌∙◌}
-use Rattle.adr_model.specs.Queries.{is_governed}
-use Rattle.adr_board.proofs.AllTypes.{all_types, governs_test, no_types}
+use Rattle.std.proofs.Common.{slice_get, ◌∙◌}
+use Rattle.adr_board.proofs.Timelines.{no_types_placed, types_placed}
 use Rattle.adr_board.proofs.snapshot.calendar.SnapshotCalendar.types.Goals as goal
 
 pub returns-in_ok-types-in-Some-clause-ok : goal.returns-in_ok-types-in-Some-clause-ok
 returns-in_ok-types-in-Some-clause-ok c =
-    let tie = c.args.self.now.tie in
     let book = c.args.self.now.book.objects in
-    let id = c.args.id.now in
-    let lines = c.in-Some.group.now.lines in
-    c.in_ok-types-in-Some.ensures.ok (is_governed tie book id) (governs_test tie book id lines c.in-Some.ensures)
-    ∙ all_types tie book id lines c.in-Some.ensures c.line_laws.ensures.order c.snapshot_laws.ensures.published.names
+    types_placed c.args.self.now.tie book c.in-Some.group.now c.in_ok-types-in-Some.types.items c.in_ok-types-in-Some.ensures.ok c.line_laws.ensures.order
+    c.snapshot_laws.ensures.published.names (slice_get book.resources c.args.place) c.in-Some.ensures
 
 pub returns-in-None-clause-ok : goal.returns-in-None-clause-ok
-returns-in-None-clause-ok c = c.new.ensures.items ∙ no_types c.args.self.now.tie c.args.self.now.book.objects c.args.id.now c.in-None.ensures
+returns-in-None-clause-ok c =
+    let book = c.args.self.now.book.objects in
+    c.new.ensures.items ∙ no_types_placed c.args.self.now.tie book _ (slice_get book.resources c.args.place) c.in-None.ensures
