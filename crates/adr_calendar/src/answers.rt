@@ -1,5 +1,5 @@
 //! The answers to the four queries, printed from any calendar.
-ghost use Rattle.std.specs.Prelude.{◌≡◌, ◌++◌, [], OnOk, IfOk, codes, flat_map, option_map};
+ghost use Rattle.std.specs.Prelude.{◌≡◌, ◌++◌, [], OnOk, IfOk, codes, flat_map};
 ghost use Rattle.std.specs.Fmt.{decimal};
 ghost use Rattle.std.specs.Option.{option_and_then, option_map_or};
 ghost use Rattle.std.specs.List.{slice_get};
@@ -7,18 +7,18 @@ ghost use Rattle.adr_refusal.specs.Answer.{Answers, OnlyNoMemory, result_map};
 ghost use Rattle.adr_value.specs.Payload.{name_of};
 ghost use Rattle.adr_calendar.specs.Governed.{state_at};
 ghost use Rattle.adr_calendar.specs.Segments.{line_of_segment};
-ghost use Rattle.adr_calendar.specs.Shown.{shown_view};
 ghost use Rattle.adr_model.specs.Answer.{at, shown, shown_of as shown_by, state_text, until};
 ghost use Rattle.adr_model.specs.Queries.{in_lines, list, roll, roll_line, type_text, types};
 
 use crate::calendar::{Calendar, State};
 use crate::events::LastEvent;
-use crate::lines::{Shown, cut, put_segment, put_state, put_type, put_version};
+use crate::last_state::LastState;
+use crate::lines::{cut, put_segment, put_state, put_type, put_version};
 use crate::moments::LastMoment;
 use crate::printing::put;
-use crate::shown::{shown_in, shown_of};
+use crate::shown::{shown_by_winner, shown_in};
 use adr_book::Book;
-use adr_model::{Segment, Winner};
+use adr_model::Segment;
 use adr_object::{Id, Kind};
 use adr_time::Moment;
 use adr_timeline::timeline_laws;
@@ -28,18 +28,8 @@ use std::alloc::Global;
 /// How long the line of a segment mostly is at most.
 const LINE: usize = 96;
 
-/// What the winner shows of the payload type, where there is one.
-pub fn shown_by_winner<'a>(
-    book: &'a Book,
-    payload_type: &PayloadType,
-    winner: Option<Winner>,
-) -> Option<Shown<'a>>
-    ensures { option_map shown_view result ≡ option_and_then (shown_by book.now.objects payload_type.now) winner }
-{
-    shown_of(book, payload_type, winner?)
-}
-
-/// What governs the resource for the type at the moment, and until when. Cost: that of the calendar's state.
+/// What governs the resource for the type at the moment, and until when. Cost: a look-up of the resource, and that of
+/// the calendar's state.
 ///
 /// # Errors
 ///
@@ -79,8 +69,8 @@ fn text_of_state(
     Ok(out)
 }
 
-/// The answer to `at`: what governs the resource for the type at the moment, and until when. Cost: that of the
-/// calendar's state.
+/// The answer to `at`: what governs the resource for the type at the moment, and until when. Cost: a look-up of the
+/// resource, and that of the calendar's state.
 ///
 /// # Errors
 ///
@@ -177,8 +167,8 @@ fn text_of_list(
     Ok(out)
 }
 
-/// The answer to `list`: the segments of the window, each with what governs there. Cost: that of the calendar's
-/// segments, and their bytes.
+/// The answer to `list`: the segments of the window, each with what governs there. Cost: a look-up of the resource, and
+/// that of the calendar's segments, and their bytes.
 ///
 /// # Errors
 ///
@@ -215,29 +205,34 @@ pub fn list<C: Calendar>(
 /// Appends a resource's id and state.
 fn put_roll_line(
     out: &mut Vec<u8>,
-    book: &Book,
+    last: &mut LastState<'_>,
     id: &Id,
-    payload_type: &PayloadType,
     state: State,
 ) -> Result<(), Refusal>
-    ensures ok { OnOk result (out.new.items ≡ out.old.items ++ (id.now ++ codes " " ++ state_text (option_and_then (shown_by book.now.objects payload_type.now) state.governor) state.until ++ codes "\n")) }
+    ensures book { last.new.book.now ≡ last.old.book.now }
+    ensures payload_type { last.new.payload_type.now ≡ last.old.payload_type.now }
+    ensures ok { OnOk result (out.new.items ≡ out.old.items ++ (id.now ++ codes " " ++ state_text (option_and_then (shown_by last.old.book.now.objects last.old.payload_type.now) state.governor) state.until ++ codes "\n")) }
     ensures memory { OnlyNoMemory result }
 {
-    let shown = shown_by_winner(book, payload_type, state.governor);
     put(out, id.text().as_bytes())?;
     put(out, b" ")?;
-    put_state(out, shown, state.until)?;
+    last.put(out, state)?;
     put(out, b"\n")
 }
 
 /// Appends the line of the resource at the place, if there is one.
 fn put_roll_line_at<C: Calendar>(
     out: &mut Vec<u8>,
+    last: &mut LastState<'_>,
     calendar: &C,
     place: usize,
     payload_type: &PayloadType,
     moment: Moment,
 ) -> Result<(), Refusal>
+    requires book { last.old.book.now.objects ≡ C.objects calendar.now }
+    requires payload_type { last.old.payload_type.now ≡ payload_type.now }
+    ensures book { last.new.book.now ≡ last.old.book.now }
+    ensures payload_type { last.new.payload_type.now ≡ last.old.payload_type.now }
     ensures ok { OnOk result (out.new.items ≡ out.old.items ++ option_map_or (λ r. roll_line (C.tie calendar.now) (C.objects calendar.now) payload_type.now moment r.id) (slice_get (C.objects calendar.now).resources place) []) }
     ensures memory { OnlyNoMemory result }
 {
@@ -245,11 +240,10 @@ fn put_roll_line_at<C: Calendar>(
         return Ok(());
     };
     let state = calendar.state(place, payload_type, moment)?;
-    put_roll_line(out, calendar.book(), &resource.id, payload_type, state)
+    put_roll_line(out, last, &resource.id, state)
 }
 
 /// Appends the lines of all resources, in order of creation.
-#[tactic(auto, using(crate::proofs::Walked::whole_walk))]
 fn put_roll_lines<C: Calendar>(
     out: &mut Vec<u8>,
     calendar: &C,
@@ -259,8 +253,9 @@ fn put_roll_lines<C: Calendar>(
     ensures ok { OnOk result (out.new.items ≡ out.old.items ++ flat_map (λ r. roll_line (C.tie calendar.now) (C.objects calendar.now) payload_type.now moment r.id) (C.objects calendar.now).resources) }
     ensures memory { OnlyNoMemory result }
 {
+    let mut last = LastState::none(*out.allocator(), calendar.book(), payload_type);
     for place in 0..calendar.book().count(Kind::Resource) {
-        put_roll_line_at(out, calendar, place, payload_type, moment)?;
+        put_roll_line_at(out, &mut last, calendar, place, payload_type, moment)?;
     }
     Ok(())
 }
@@ -284,7 +279,7 @@ fn text_of_roll<C: Calendar>(
 }
 
 /// The answer to `roll`: the state of each resource, in order of creation. Cost: that of the calendar's state for each
-/// resource; none is looked up by its id.
+/// resource by its place, and their bytes.
 ///
 /// # Errors
 ///
@@ -334,8 +329,8 @@ fn text_of_types(alloc: Global, book: &Book, types: &[PayloadType]) -> Result<Ve
     Ok(out)
 }
 
-/// The answer to `types`: the payload types that govern the resource at some moment. Cost: that of the calendar's
-/// types, and their bytes.
+/// The answer to `types`: the payload types that govern the resource at some moment. Cost: a look-up of the resource,
+/// and that of the calendar's types, and their bytes.
 ///
 /// # Errors
 ///

@@ -5,14 +5,16 @@ mod answers;
 mod calendar;
 mod events;
 mod json;
+mod last_state;
 mod laws;
 mod lines;
 mod moments;
 mod printing;
 mod shown;
 
-pub use answers::{at, governor, list, roll, shown_by_winner, types};
+pub use answers::{at, governor, list, roll, types};
 pub use calendar::{Calendar, State};
 pub use json::put_json_array;
 pub use laws::list_laws;
 pub use lines::{Shown, cut};
+pub use shown::shown_by_winner;

@@ -1,6 +1,6 @@
 //! What governs shows of a payload type.
 ghost use Rattle.std.specs.Prelude.{◌≡◌, IfSome};
-ghost use Rattle.std.specs.Option.{option_copied, option_map};
+ghost use Rattle.std.specs.Option.{option_and_then, option_copied, option_map};
 ghost use Rattle.adr_calendar.specs.Shown.{event_alone, shown_view};
 ghost use Rattle.adr_model.specs.Answer.{first_payload as first_of_type, shown_in as shown_at, shown_of as shown_by};
 
@@ -46,4 +46,15 @@ pub(crate) fn shown_of<'a>(
     ensures { option_map shown_view result ≡ shown_by book.now.objects payload_type.now winner }
 {
     shown_in(payload_type, winner.place, book.event_by(winner.written)?)
+}
+
+/// What the winner shows of the payload type, where there is one.
+pub fn shown_by_winner<'a>(
+    book: &'a Book,
+    payload_type: &PayloadType,
+    winner: Option<Winner>,
+) -> Option<Shown<'a>>
+    ensures { option_map shown_view result ≡ option_and_then (shown_by book.now.objects payload_type.now) winner }
+{
+    shown_of(book, payload_type, winner?)
 }
