@@ -4,24 +4,26 @@ ghost use Rattle.adr_refusal.specs.Answer.{Answers, OnlyNoMemory, result_map};
 ghost use Rattle.adr_model.specs.Kept.{kept_start};
 ghost use Rattle.adr_resolver.specs.Kept.{kept_next};
 ghost use Rattle.adr_embed.specs.Answered.{line_answer};
-ghost use Rattle.adr_embed.specs.Steps.{changed, created, removed, IsCondensed, IsEdit, IsPublication};
+ghost use Rattle.adr_embed.specs.Steps.{changed, created, object_named, removed, IsCondensed, IsEdit, IsPublication};
 
-use crate::parts::object_named;
+use crate::instants::moment_at;
 use crate::reading::Reading;
 use crate::script::answer;
 use crate::steps;
 use adr_board::Publisher;
 use adr_model::{Published, Tie};
-use adr_object::{Edit, Kind};
-use adr_resolver::id_word;
+use adr_object::{Edit, Kind, Object};
+use adr_resolver::{BodyReader, id_word, object_of};
 use adr_value::Refusal;
 use std::alloc::Global;
 use std::marker::Model;
 
-/// An editor, and its reply to the last line. Contracts see what it keeps, and the reply.
+/// An editor, with the memory in which it reads bodies, and its reply to the last line. Contracts see what it keeps, and
+/// the reply.
 #[derive(Drop)]
 pub struct Editing {
     publisher: Publisher,
+    bodies: BodyReader,
     reply: Vec<u8>,
 }
 
@@ -45,6 +47,7 @@ impl Editing {
     {
         Ok(Editing {
             publisher: Publisher::open(alloc, tie)?,
+            bodies: BodyReader::keeping(alloc),
             reply: Vec::new(alloc),
         })
     }
@@ -60,8 +63,27 @@ impl Editing {
         ensures unchanged { OnErr result (self.new ≡ record { kept = self.old.kept; reply = [] }) }
     {
         self.reply.clear();
-        self.reply = answer(&mut self.publisher, line)?;
+        self.reply = answer(&mut self.publisher, &mut self.bodies, line)?;
         Ok(())
+    }
+
+    /// The object that a body spells under an id, in an edit at a moment.
+    #[tactic(auto, unfolding(crate::specs::Steps::object_named))]
+    fn object(
+        &mut self,
+        seconds: i64,
+        nanoseconds: u32,
+        kind: Kind,
+        id: &[u8],
+        body: &[u8],
+    ) -> Result<Object, Refusal>
+        ensures object { Answers result (object_named seconds nanoseconds kind id.now body.now) }
+        ensures same { self.new ≡ self.old }
+    {
+        let alloc = self.publisher.allocator();
+        let now = moment_at(seconds, nanoseconds)?;
+        let id = id_word(alloc, id)?;
+        object_of(alloc, &mut self.bodies, kind, now, &id, body)
     }
 
     /// Makes an edit that creates an object, at a moment of so many seconds since 1970-01-01T00:00:00Z and nanoseconds
@@ -82,8 +104,7 @@ impl Editing {
         ensures edit { IsEdit self.old.kept self.new.kept (created seconds nanoseconds kind id.now body.now) result }
         ensures reply { self.new.reply ≡ self.old.reply }
     {
-        let alloc = self.publisher.allocator();
-        let object = object_named(alloc, seconds, nanoseconds, kind, id, body)?;
+        let object = self.object(seconds, nanoseconds, kind, id, body)?;
         steps::edit(&mut self.publisher, Edit::Create(object))
     }
 
@@ -103,8 +124,7 @@ impl Editing {
         ensures edit { IsEdit self.old.kept self.new.kept (changed seconds nanoseconds kind id.now body.now) result }
         ensures reply { self.new.reply ≡ self.old.reply }
     {
-        let alloc = self.publisher.allocator();
-        let object = object_named(alloc, seconds, nanoseconds, kind, id, body)?;
+        let object = self.object(seconds, nanoseconds, kind, id, body)?;
         steps::edit(&mut self.publisher, Edit::Change(object))
     }
 

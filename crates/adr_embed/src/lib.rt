@@ -6,7 +6,6 @@ mod editing;
 mod governor;
 mod instants;
 mod laws;
-mod parts;
 mod reading;
 mod script;
 mod steps;

@@ -9,7 +9,9 @@ ghost use Rattle.adr_embed.specs.Answered.{asked_answer, command_answer, line_an
 use crate::steps;
 use adr_board::{Publisher, Snapshot};
 use adr_object::Edit;
-use adr_resolver::{Command, parse_line, put_condensed, put_ok, put_published};
+use adr_resolver::{
+    BodyReader, Command, parse_line, parse_line_by, put_condensed, put_ok, put_published,
+};
 use adr_value::Refusal;
 use std::alloc::Global;
 
@@ -60,14 +62,18 @@ fn condense(publisher: &mut Publisher) -> Result<Vec<u8>, Refusal>
     Ok(reply)
 }
 
-/// Answers a line of an editor. A refused one changes nothing.
-pub(crate) fn answer(publisher: &mut Publisher, line: &[u8]) -> Result<Vec<u8>, Refusal>
+/// Answers a line of an editor, by this reader of bodies. A refused one changes nothing.
+pub(crate) fn answer(
+    publisher: &mut Publisher,
+    bodies: &mut BodyReader,
+    line: &[u8],
+) -> Result<Vec<u8>, Refusal>
     ensures answer { Answers (result_map (λ reply. reply.items) result) (line_answer (kept_of publisher.old) line.now) }
     ensures next { OnOk result (kept_of publisher.new ≡ kept_next (kept_of publisher.old) line.now) }
     ensures unchanged { OnErr result (kept_of publisher.new ≡ kept_of publisher.old) }
 {
     let alloc = publisher.allocator();
-    match parse_line(alloc, line)? {
+    match parse_line_by(alloc, bodies, line)? {
         Command::Edit(change) => edit(publisher, change),
         Command::Publish => publish(publisher),
         Command::Condense => condense(publisher),

@@ -1,3 +1,4 @@
+pub mod Crossing
 mod Digits
 mod Editing
 mod Fans

@@ -55,25 +55,12 @@ pub fn type_word(alloc: Global, word: &[u8]) -> Result<PayloadType, Refusal>
     }
 }
 
-/// The object of a body, at the moment of its edit.
+/// The object of a body, at the moment of its edit, by a reader that may keep its memory for the bodies that follow.
 ///
 /// # Errors
 ///
 /// The least fault of the body, or `NoMemory`.
 pub fn object_of(
-    alloc: Global,
-    kind: Kind,
-    now: Moment,
-    id: &Id,
-    body: &[u8],
-) -> Result<Object, Refusal>
-    ensures { Answers result (object_of kind now id.now body.now) }
-{
-    object_by(alloc, &mut BodyReader::new(), kind, now, id, body)
-}
-
-/// As `object_of`, by this reader.
-fn object_by(
     alloc: Global,
     bodies: &mut BodyReader,
     kind: Kind,
@@ -113,7 +100,7 @@ fn write_command(
 {
     let now = moment_word(line.moment)?;
     let id = id_word(alloc, line.id)?;
-    let object = object_by(alloc, bodies, line.kind, now, &id, line.body)?;
+    let object = object_of(alloc, bodies, line.kind, now, &id, line.body)?;
     match line.verb {
         Verb::Create => Ok(Command::Edit(Edit::Create(object))),
         Verb::Change => Ok(Command::Edit(Edit::Change(object))),
