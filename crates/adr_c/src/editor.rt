@@ -69,29 +69,17 @@ pub struct Editor {
 }
 
 impl Editor {
-    fn of(editing: Box<Editing, Global>) -> Editor
-        ensures { result.inner.held ≡ Some editing.value }
+    /// What it holds, if it is open. It is closed from then on.
+    pub(crate) fn take(&mut self, alloc: Global) -> Option<Box<Editing, Global>>
+        ensures some { IfSome result (λ b. self.old.inner.held ≡ Some b.value) }
+        ensures none { IfNone result (self.old.inner.held ≡ None) }
+        ensures closed { self.new.inner.held ≡ None }
     {
-        Editor {
-            is_open: true,
-            inner: EditorBox::of(Loose::of(editing)),
-        }
-    }
-
-    fn closed() -> Editor
-        ensures { result.inner.held ≡ None }
-    {
-        Editor {
+        let closed = Editor {
             is_open: false,
             inner: EditorBox::none(),
-        }
-    }
-
-    fn into_editing(self, alloc: Global) -> Option<Box<Editing, Global>>
-        ensures some { IfSome result (λ b. self.inner.held ≡ Some b.value) }
-        ensures none { IfNone result (self.inner.held ≡ None) }
-    {
-        let Editor { is_open, inner } = self;
+        };
+        let Editor { is_open, inner } = mem::replace(self, closed);
         if is_open {
             Some(inner.into_loose(alloc).into_box())
         } else {
@@ -100,28 +88,17 @@ impl Editor {
         }
     }
 
-    fn end(self)
-        requires { self.inner.held ≡ None }
-    {
-        let Editor { is_open: _, inner } = self;
-        inner.end();
-    }
-
-    /// What it holds, if it is open. It is closed from then on.
-    pub(crate) fn take(&mut self, alloc: Global) -> Option<Box<Editing, Global>>
-        ensures some { IfSome result (λ b. self.old.inner.held ≡ Some b.value) }
-        ensures none { IfNone result (self.old.inner.held ≡ None) }
-        ensures closed { self.new.inner.held ≡ None }
-    {
-        mem::replace(self, Editor::closed()).into_editing(alloc)
-    }
-
     /// Puts it into a closed one.
     pub(crate) fn put(&mut self, editing: Box<Editing, Global>)
         requires { self.old.inner.held ≡ None }
         ensures { self.new.inner.held ≡ Some editing.value }
     {
-        mem::replace(self, Editor::of(editing)).end();
+        let open = Editor {
+            is_open: true,
+            inner: EditorBox::of(Loose::of(editing)),
+        };
+        let Editor { is_open: _, inner } = mem::replace(self, open);
+        inner.end();
     }
 
     /// Whether it is open.

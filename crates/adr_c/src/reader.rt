@@ -69,29 +69,17 @@ pub struct Reader {
 }
 
 impl Reader {
-    fn of(reading: Box<Reading, Global>) -> Reader
-        ensures { result.inner.held ≡ Some reading.value }
+    /// What it holds, if it is open. It is closed from then on.
+    pub(crate) fn take(&mut self, alloc: Global) -> Option<Box<Reading, Global>>
+        ensures some { IfSome result (λ b. self.old.inner.held ≡ Some b.value) }
+        ensures none { IfNone result (self.old.inner.held ≡ None) }
+        ensures closed { self.new.inner.held ≡ None }
     {
-        Reader {
-            is_open: true,
-            inner: ReaderBox::of(Loose::of(reading)),
-        }
-    }
-
-    fn closed() -> Reader
-        ensures { result.inner.held ≡ None }
-    {
-        Reader {
+        let closed = Reader {
             is_open: false,
             inner: ReaderBox::none(),
-        }
-    }
-
-    fn into_reading(self, alloc: Global) -> Option<Box<Reading, Global>>
-        ensures some { IfSome result (λ b. self.inner.held ≡ Some b.value) }
-        ensures none { IfNone result (self.inner.held ≡ None) }
-    {
-        let Reader { is_open, inner } = self;
+        };
+        let Reader { is_open, inner } = mem::replace(self, closed);
         if is_open {
             Some(inner.into_loose(alloc).into_box())
         } else {
@@ -100,28 +88,17 @@ impl Reader {
         }
     }
 
-    fn end(self)
-        requires { self.inner.held ≡ None }
-    {
-        let Reader { is_open: _, inner } = self;
-        inner.end();
-    }
-
-    /// What it holds, if it is open. It is closed from then on.
-    pub(crate) fn take(&mut self, alloc: Global) -> Option<Box<Reading, Global>>
-        ensures some { IfSome result (λ b. self.old.inner.held ≡ Some b.value) }
-        ensures none { IfNone result (self.old.inner.held ≡ None) }
-        ensures closed { self.new.inner.held ≡ None }
-    {
-        mem::replace(self, Reader::closed()).into_reading(alloc)
-    }
-
     /// Puts it into a closed one.
     pub(crate) fn put(&mut self, reading: Box<Reading, Global>)
         requires { self.old.inner.held ≡ None }
         ensures { self.new.inner.held ≡ Some reading.value }
     {
-        mem::replace(self, Reader::of(reading)).end();
+        let open = Reader {
+            is_open: true,
+            inner: ReaderBox::of(Loose::of(reading)),
+        };
+        let Reader { is_open: _, inner } = mem::replace(self, open);
+        inner.end();
     }
 
     /// Whether it is open.

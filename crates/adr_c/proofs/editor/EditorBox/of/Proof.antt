@@ -24,7 +24,8 @@ use Rattle.std.specs.contracts.impls.GlobalAllocator.TheImpl.{ghosts}
 use Rattle.std.proofs.raw_atomic.Walks.{proved_at, leaves}
 use Rattle.adr_loose.proofs.Values.{both, Loose, loose_good, loose_out}
 use Rattle.adr_embed.specs.contracts.editing.Editing.{the_row as Editing}
-use Rattle.adr_c.proofs.EditorBoxes.{Inner, word, inner_in}
+use Rattle.adr_c.proofs.Boxes.{word, boxed_in}
+use Rattle.adr_c.specs.contracts.editor.EditorBox as inner
 use Rattle.adr_c.specs.contracts.editor.EditorBox.of.{ended, clauses}
 use Rattle.adr_c.specs.contracts.editor.EditorBox.of.Key.{name as #self}
 use Rattle.adr_c.proofs.editor.EditorBox.of.Statement.{statement}
@@ -37,11 +38,11 @@ of_spec 𝓤 𝓛 𝓜 𝓡 wired =
     proved_at 𝓛 En hs c 𝓜 𝓡 (Goes-blank 𝓛 0 (plain (λ _. Loose R Z LZ ghosts)) yes (λ κs x f. tt), tt) #self fn (code.unfolded 𝓤 H 𝓜 𝓡 wired) (λ z are.
     let κs = z.0.0 in let v = z.0.3.0 in let Post : Val → SProp 𝓤 = (walk_of 𝓛 En hs c).post z in let Run : List Val → SProp 𝓤 = λ ws. WpFn 𝓤 H 𝓣.C 𝓣.Λ fn ws Post in
     qed 𝓛 ((raw (alive 𝓛 En.signature κs z.0.1) ⊛ ‵ (owns (types_at En.signature.params κs) z.0.3 z.0.4)) ∷ raw ((c κs z.0.3).requires z.1) ∷ []) ∵ split ! $ move ! (1 ∷ []) $ fsplit ! $ loose_out R Z LZ ghosts ! v z.0.4.0 (λ b o h e ws fits.
-    let w : Val = both (vptr b o) h in let d : Inner.Denot = record { at = block_ptr b o; held = Some v.value } in
+    let w : Val = both (vptr b o) h in let d : inner.the_row.Denot = record { at = block_ptr b o; held = Some v.value } in
     suffices ! (Run (w ∷ [])) (subst (λ (us : List Val). ent 𝓤 (Run (w ∷ [])) (Run us)) (sym (λ i. ws i ++ [])) (id⊢ 𝓤 (Run (w ∷ [])))) $
     enter ! 𝓣.C 𝓣.Λ fn (w ∷ []) Post $ alloc_all ! (λ l. pass_all ! refl (loose_good R Z LZ ghosts b o h fits, tt) $
     sets ! (of_opd ! (get_in ! (fld ! refl (stop !)) (sub ! 0 refl (whole !)))) refl (tt, tt) $
     sets ! (agg ! (and_then ! (get ! refl) (no_more !))) refl (tt, (tt, tt)) $
-    inner_in ! d $ use0 𝓛 (raw (fact 𝓤 (d.held ≡ Some v.value))) (fact_i 𝓤 (d.held ≡ Some v.value) (emp 𝓤) refl) $ nothing ! $ nothing ! $ fjoin ! $
+    boxed_in ! inner.the_type.name d.at (inner.the_type.heap d) $ use0 𝓛 (raw (fact 𝓤 (d.held ≡ Some v.value))) (fact_i 𝓤 (d.held ≡ Some v.value) (emp 𝓤) refl) $ nothing ! $ nothing ! $ fjoin ! $
     -- [what is left of the parameter; the fact; the result; the allocator; nothing; the tokens; the `requires`]
     returns ! (look_at ! 0 refl) $ free_all ! refl $ keep ! (5 ∷ 0 ∷ 2 ∷ 1 ∷ []) $ by ! (leaves 𝓛 En hs c z (word (block_ptr b o)) d (tt, tt) (tt, tt)))))

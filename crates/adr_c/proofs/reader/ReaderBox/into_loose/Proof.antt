@@ -30,7 +30,8 @@ use Rattle.std.specs.contracts.impls.GlobalAllocator.TheImpl.{ghosts}
 use Rattle.std.proofs.raw_atomic.Walks.{proved_at, leaves}
 use Rattle.adr_loose.proofs.Values.{both, Loose, loose_good, loose_in}
 use Rattle.adr_embed.specs.contracts.reading.Reading.{the_row as Reading}
-use Rattle.adr_c.proofs.ReaderBoxes.{Inner, word, inner_out, held_out}
+use Rattle.adr_c.proofs.Boxes.{word, boxed_out, held_out}
+use Rattle.adr_c.specs.contracts.reader.ReaderBox as inner
 use Rattle.adr_c.specs.contracts.reader.ReaderBox.into_loose.{ended, clauses}
 use Rattle.adr_c.specs.contracts.reader.ReaderBox.into_loose.Key.{name as #self}
 use Rattle.adr_c.proofs.reader.ReaderBox.into_loose.Statement.{statement}
@@ -40,12 +41,12 @@ pub into_loose_spec : {M : Type 1} → statement M
 into_loose_spec 𝓤 𝓛 𝓜 𝓡 wired =
     let H = 𝓛.H in let 𝓣 = tables 𝓤 H 𝓜 𝓡 𝓡.env in let En = ended in let c = clauses 𝓛 𝓜.mem 𝓡.returns in let fn = code.function in
     let R : RattleType = Reading in let Z : RattleType = heap.the_row in let LZ = heap_laws.the_row_laws in let al : Al = record { row = Z; laws = LZ; g = ghosts; d = impl [] tnil dnil; drops = impl [] tnil dnil } in
-    let hs : Stays En.signature.params En.kept = (stay_dropped (plain (λ _. Inner)) yes, (stay_dropped (plain (λ _. Z)) yes, tt)) in
-    proved_at 𝓛 En hs c 𝓜 𝓡 (Goes-blank 𝓛 0 (plain (λ _. Inner)) yes (λ κs x f. tt), (Goes-blank 𝓛 0 (plain (λ _. Z)) yes (λ κs x f. tt), tt)) #self fn (code.unfolded 𝓤 H 𝓜 𝓡 wired) (λ z are.
+    let hs : Stays En.signature.params En.kept = (stay_dropped (plain (λ _. inner.the_row)) yes, (stay_dropped (plain (λ _. Z)) yes, tt)) in
+    proved_at 𝓛 En hs c 𝓜 𝓡 (Goes-blank 𝓛 0 (plain (λ _. inner.the_row)) yes (λ κs x f. tt), (Goes-blank 𝓛 0 (plain (λ _. Z)) yes (λ κs x f. tt), tt)) #self fn (code.unfolded 𝓤 H 𝓜 𝓡 wired) (λ z are.
     let κs = z.0.0 in let v = z.0.3.0 in let a = z.0.3.1.0 in let Post : Val → SProp 𝓤 = (walk_of 𝓛 En hs c).post z in let Run : List Val → SProp 𝓤 = λ ws. WpFn 𝓤 H 𝓣.C 𝓣.Λ fn ws Post in
     qed 𝓛 ((raw (alive 𝓛 En.signature κs z.0.1) ⊛ ‵ (owns (types_at En.signature.params κs) z.0.3 z.0.4)) ∷ raw ((c κs z.0.3).requires z.1) ∷ []) ∵ split ! $ move ! (2 ∷ []) $ heard ! (is_some v.held ≡ true) (λ is_open.
-    move ! (1 ∷ []) $ fsplit ! $ inner_out ! v z.0.4.0 (λ ev. move ! (1 ∷ []) $ fsplit ! $ handle_tells al ! a z.0.4.1.0 (λ h ea fits. move ! (2 ∷ []) $
-    held_out ! v.at v.held is_open (λ x eh. in_a_block ! v.at (λ p. box_owns (ghosts.dealloc_token no_bytes) R p x) (fst∗ 𝓤 (never 𝓤) (sem 𝓛 (ghosts.dealloc_token no_bytes (bare (lone R.mir)) null_ptr))) (λ b o e.
+    move ! (1 ∷ []) $ fsplit ! $ boxed_out ! inner.the_type.name v.at (inner.the_type.heap v) z.0.4.0 (λ ev. move ! (1 ∷ []) $ fsplit ! $ handle_tells al ! a z.0.4.1.0 (λ h ea fits. move ! (2 ∷ []) $
+    held_out ! R v.at v.held is_open (λ x eh. in_a_block ! v.at (λ p. box_owns (ghosts.dealloc_token no_bytes) R p x) (fst∗ 𝓤 (never 𝓤) (sem 𝓛 (ghosts.dealloc_token no_bytes (bare (lone R.mir)) null_ptr))) (λ b o e.
     -- [the box; the allocator; nothing; the tokens]
     let w : Val = word (block_ptr b o) in let ws : List Val = w ∷ h ∷ [] in let r : (Loose R Z LZ ghosts).Denot = record { at = block_ptr b o; alloc = a; value = x } in let made = loose_good R Z LZ ghosts b o h fits in
     suffices ! (Run ws) (subst (λ (us : List Val). ent 𝓤 (Run ws) (Run us)) (sym (λ i. (ev ∙ ap (λ (p : Ptr). word p ∷ []) e) i ++ (ea i ++ []))) (id⊢ 𝓤 (Run ws))) $
