@@ -98,6 +98,25 @@ static void ask_all(kuvteleg_reader *reader, record *told) {
     note(told, code, out, len);
 }
 
+/* Opens an editor with its first growth refused, then with its second, and so on, until none was refused. A refused growth of the memory
+ * that is kept for reading bodies refuses no open; such an editor is closed again. */
+static uint32_t open_editor(kuvteleg_editor *editor) {
+    for (long nth = 0; nth < 10000; nth++) {
+        growths_left = is_failing ? nth : -1;
+        uint32_t code = kuvteleg_open(editor, KUVTELEG_NEWEST);
+        int was_refused = is_failing && growths_left < 0;
+        growths_left = -1;
+        if (!was_refused)
+            return code;
+        refusals++;
+        if (code == 0)
+            kuvteleg_close(editor);
+        else if (code != KUVTELEG_NO_MEMORY)
+            return code;
+    }
+    return KUVTELEG_NO_MEMORY;
+}
+
 /* All edits, each followed by a publication, a look and the queries; answers whether nothing was refused that must not be. */
 static int run(record *told, int fails) {
     kuvteleg_editor editor = {0};
@@ -105,7 +124,7 @@ static int run(record *told, int fails) {
     uint64_t number, version;
     uint32_t code;
     is_failing = fails;
-    TRY(code, kuvteleg_open(&editor, KUVTELEG_NEWEST));
+    code = open_editor(&editor);
     for (size_t i = 0; code == 0 && i < sizeof EDITS / sizeof *EDITS; i++) {
         edit(&editor, EDITS[i], told);
         TRY(code, kuvteleg_publish(&editor, &number, &version));
