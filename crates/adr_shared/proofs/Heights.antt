@@ -1,5 +1,5 @@
 -- The height of a balanced tree, against how many entries it has.
-use Rattle.std.proofs.Common.{◌≡◌, ℕ, ◌+◌, ◌*◌, ◌/◌, ◌^◌, ◌<◌, ◌≤◌, max, refl, subst, arith, Bool, true, false, ltb}
+use Rattle.std.proofs.Common.{◌≡◌, ℕ, ◌+◌, ◌*◌, ◌/◌, ◌^◌, ◌<◌, ◌≤◌, max, refl, sym, subst, arith, Bool, true, false, ltb}
 use Rattle.std.proofs.lemmas.Bool.{ltb-true, ltb-false}
 use Rattle.std.proofs.Math.Nat.{pow-le-pow_right}
 use Rattle.std.proofs.lemmas.Grind.{pow_more}
@@ -22,6 +22,13 @@ low_fork l r a b d p q = by l r d p q (max l r) (omega (arith, d.0, d.1)) (omega
         let x = power_next (l / 2) ((m + 1) / 2) (omega arith) in
         let y = power_next (r / 2) ((m + 1) / 2) (omega arith) in
         omega (arith, x, y)
+
+-- and no side can have more entries than its height lets it
+pub high_fork : (l r a b : ℕ) → a < 2 ^ l → b < 2 ^ r → a + 1 + b < 2 ^ (max l r + 1)
+high_fork l r a b p q =
+    let x = power_grows l (max l r) (omega arith) in
+    let y = power_grows r (max l r) (omega arith) in
+    subst (λ n. a + 1 + b < n) (sym (pow_more 2 (max l r))) (omega (arith, x, y, p, q))
 
 -- a tree of fewer than 2 ^ 32 entries is at most 65 high
 pub low_enough : (h n : ℕ) → 2 ^ (h / 2) ≤ n + 1 → n < 2 ^ 32 → h ≤ 65

@@ -15,13 +15,14 @@ abbrev pub entries_and_height : {K V : Type 0} → Root K V → List (List ℕ �
 entries_and_height Empty = ([], 0)
 entries_and_height (Fork height count node) = (entries (arc_value node), height)
 
--- the sides differ by at most one, the height and the count are right, the height is at most twice the logarithm of the count, and the count has 32 bits
+-- the sides differ by at most one, the height and the count are right, the height is at least the logarithm of one more than the count and at most twice that, and the count has 32 bits
 abbrev pub IsFork : {K V : Type 0} → ℕ → ℕ → Node K V → Type 0
 IsFork height count node =
     DifferByAtMost 1 node.left.1 node.right.1
     × (height ≡ max node.left.1 node.right.1 + 1)
     × (count ≡ length node.left.0 + 1 + length node.right.0)
     × (2 ^ (height / 2) ≤ count + 1)
+    × (count < 2 ^ height)
     × (count < 2 ^ 32)
 
 -- what holds of a root: of an empty one nothing

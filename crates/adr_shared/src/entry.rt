@@ -3,7 +3,7 @@ ghost use Rattle.std.specs.Prelude.{◌≡◌};
 ghost use Rattle.adr_refusal.specs.Copy.{IsCopyOf};
 ghost use Rattle.adr_shared.specs.Map.{code_cmp};
 
-use crate::key::Key;
+use crate::key::{Key, Sought};
 use adr_refusal::{Refusal, TryClone};
 use std::cmp::Ordering;
 use std::marker::Model;
@@ -65,11 +65,11 @@ impl<K: Key, V: TryClone> Entry<K, V> {
         &self.value
     }
 
-    /// The order of a key, whose lead is at hand, and the entry's.
+    /// The order of a key that is sought, whose lead is at hand, and the entry's.
     #[inline(always)]
-    pub fn order_of(&self, key: &K, lead: u64) -> Ordering
-        requires { lead ≡ K.lead_of key.now }
-        ensures { result ≡ code_cmp (K.code key.now) self.now.0 }
+    pub fn order_of<Q: Sought<K>>(&self, key: &Q, lead: u64) -> Ordering
+        requires { lead ≡ Q.lead_of key.now }
+        ensures { result ≡ code_cmp (Q.code key.now) self.now.0 }
     {
         key.compare_led(lead, &self.key, self.lead)
     }
@@ -78,7 +78,7 @@ impl<K: Key, V: TryClone> Entry<K, V> {
     pub fn order_of_entry(&self, other: &Entry<K, V>) -> Ordering
         ensures { result ≡ code_cmp other.now.0 self.now.0 }
     {
-        self.order_of(&other.key, other.lead)
+        other.key.compare_led(other.lead, &self.key, self.lead)
     }
 
     /// A copy. The lead is taken over, and not made anew.

@@ -34,6 +34,48 @@ pub trait Key: TryClone {
         ensures { result ≡ slice_cmp nat_cmp (code self.now) (code other.now) };
 }
 
+/// What a key is sought by: the key itself, or a form of it that owns nothing, as a text is of an id.
+///
+/// It has a code and a lead as keys have, and is found where a key with its code is.
+pub trait Sought<K: Key> {
+    ghost code: { Self → List ℕ };
+
+    ghost lead_of: { Self → ℕ };
+
+    /// The lead of the key that is sought.
+    fn lead(&self) -> u64
+        ensures { result ≡ lead_of self.now };
+
+    /// The order of the key that is sought and another, whose leads are at hand. It looks into them only where the leads
+    /// are equal.
+    fn compare_led(&self, lead: u64, other: &K, other_lead: u64) -> Ordering
+        requires own { lead ≡ lead_of self.now }
+        requires other { other_lead ≡ K.lead_of other.now }
+        ensures { result ≡ slice_cmp nat_cmp (code self.now) (K.code other.now) };
+}
+
+/// A key that is sought by itself.
+#[derive(Drop)]
+pub(crate) struct Itself<'a, K: Key> {
+    pub(crate) key: &'a K,
+}
+
+impl<K: Key> Sought<K> for Itself<'_, K> {
+    ghost code = { λ s. K.code s.key.now };
+
+    ghost lead_of = { λ s. K.lead_of s.key.now };
+
+    #[inline(always)]
+    fn lead(&self) -> u64 {
+        self.key.lead()
+    }
+
+    #[inline(always)]
+    fn compare_led(&self, lead: u64, other: &K, other_lead: u64) -> Ordering {
+        self.key.compare_led(lead, other, other_lead)
+    }
+}
+
 impl Key for u64 {
     ghost code = { λ n. n ∷ [] };
 

@@ -1,11 +1,11 @@
 //! Maps whose copies share their memory.
-ghost use Rattle.std.specs.Prelude.{◌≡◌, ◌+◌, ◌/◌, ◌^◌, ◌≤◌, [], length, slice_get, option_map};
+ghost use Rattle.std.specs.Prelude.{◌≡◌, ◌+◌, ◌/◌, ◌^◌, ◌<◌, ◌≤◌, [], length, slice_get, option_map};
 ghost use Rattle.std.specs.Option.{option_copied};
 ghost use Rattle.adr_refusal.specs.Copy.{IsCopyOf};
 ghost use Rattle.adr_shared.specs.Map.{IsAscending, lookup, put, without, place_of};
 ghost use Rattle.adr_shared.specs.Laws.{PutIsFound, TakenIsGone};
 
-use crate::key::Key;
+use crate::key::{Itself, Key, Sought};
 use crate::tree::Tree;
 use adr_refusal::{Refusal, TryClone};
 use std::alloc::Global;
@@ -58,6 +58,13 @@ impl<K: Key, V: TryClone> SharedMap<K, V> {
     /// The value at a key, where the key is there. It compares the keys of one path.
     pub fn get(&self, key: &K) -> Option<&V>
         ensures { option_copied result ≡ lookup (K.code key.now) self.now }
+    {
+        self.tree.get(&Itself { key })
+    }
+
+    /// The value at a key that is sought by a form of it, where the key is there. It compares the keys of one path.
+    pub fn seek<Q: Sought<K>>(&self, key: &Q) -> Option<&V>
+        ensures { option_copied result ≡ lookup (Q.code key.now) self.now }
     {
         self.tree.get(key)
     }
@@ -127,9 +134,10 @@ impl<K: Key, V: TryClone> SharedMap<K, V> {
     }
 
     /// How many nodes the longest path has, and so how many keys a look-up compares at most. The law of the height: it
-    /// is at most twice the logarithm of the number of entries, 29 at 16,384.
+    /// is at least the logarithm of one more than the number of entries, 15 at 16,384, and at most twice that, 29.
     pub fn height(&self) -> u8
-        ensures { 2 ^ (result / 2) ≤ length self.now + 1 }
+        ensures low { 2 ^ (result / 2) ≤ length self.now + 1 }
+        ensures high { length self.now < 2 ^ result }
     {
         let _count = self.tree.count();
         self.tree.height()

@@ -9,7 +9,7 @@ ghost use Rattle.adr_shared.specs.Tree.{IsEdited, IsBalanced, IsSplit};
 ghost use Rattle.adr_shared.specs.Sides.{DifferByAtMost};
 
 use crate::entry::Entry;
-use crate::key::Key;
+use crate::key::{Itself, Key, Sought};
 use adr_refusal::{Refusal, TryClone};
 use std::alloc::Global;
 use std::cmp::Ordering;
@@ -83,11 +83,12 @@ impl<K: Key, V: TryClone> Tree<K, V> {
         }
     }
 
-    /// How many entries there are. The height is at most twice the logarithm of one more.
+    /// How many entries there are. The height is at least the logarithm of one more, and at most twice that.
     #[inline(always)]
     pub fn count(&self) -> u32
         ensures value { result ≡ length self.now.0 }
         ensures low { 2 ^ (self.now.1 / 2) ≤ length self.now.0 + 1 }
+        ensures high { length self.now.0 < 2 ^ self.now.1 }
     {
         match &self.root {
             Root::Empty => 0,
@@ -120,19 +121,12 @@ impl<K: Key, V: TryClone> Tree<K, V> {
     }
 
     /// The value at a key.
-    pub fn get(&self, key: &K) -> Option<&V>
+    #[inline(always)]
+    pub fn get<Q: Sought<K>>(&self, key: &Q) -> Option<&V>
         requires { IsAscending self.now.0 }
-        ensures { option_copied result ≡ lookup (K.code key.now) self.now.0 }
+        ensures { option_copied result ≡ lookup (Q.code key.now) self.now.0 }
     {
-        self.get_led(key, key.lead())
-    }
-
-    // As `get`, of a key whose lead is at hand.
-    fn get_led(&self, key: &K, lead: u64) -> Option<&V>
-        requires ascends { IsAscending self.now.0 }
-        requires led { lead ≡ K.lead_of key.now }
-        ensures { option_copied result ≡ lookup (K.code key.now) self.now.0 }
-    {
+        let lead = key.lead();
         let mut rest = self;
         'path: while let Root::Fork { node, .. } = &rest.root {
             let node: &Node<K, V> = node;
@@ -186,21 +180,13 @@ impl<K: Key, V: TryClone> Tree<K, V> {
         requires { IsAscending self.now.0 }
         ensures { result ≡ place_of (K.code key.now) self.now.0 }
     {
-        self.place_led(key, key.lead())
-    }
-
-    // As `place`, of a key whose lead is at hand.
-    fn place_led(&self, key: &K, lead: u64) -> Option<usize>
-        requires ascends { IsAscending self.now.0 }
-        requires led { lead ≡ K.lead_of key.now }
-        ensures { result ≡ place_of (K.code key.now) self.now.0 }
-    {
+        let lead = key.lead();
         let _count = self.count();
         let mut rest = self;
         let mut passed = 0;
         'path: while let Root::Fork { node, .. } = &rest.root {
             let node: &Node<K, V> = node;
-            match node.entry.order_of(key, lead) {
+            match node.entry.order_of(&Itself { key }, lead) {
                 Ordering::Less => rest = &node.left,
                 Ordering::Equal => return Some(passed + node.left.count() as usize),
                 Ordering::Greater => {
@@ -268,7 +254,7 @@ impl<K: Key, V: TryClone> Tree<K, V> {
             Root::Empty => Ok(Tree::new()),
             Root::Fork { node, .. } => {
                 let node: &Node<K, V> = node;
-                match node.entry.order_of(key, lead) {
+                match node.entry.order_of(&Itself { key }, lead) {
                     Ordering::Less => {
                         node.with_left(alloc, node.left.without_led(alloc, key, lead)?)
                     }

@@ -2,7 +2,7 @@ use Rattle.std.proofs.Common.{arith, ◌+◌, ◌∙◌, sym, ap, Some}
 use Rattle.adr_shared.specs.Map.{place_of}
 use Rattle.adr_shared.proofs.Opened.{opened, parts_counted}
 use Rattle.adr_shared.proofs.Path.{place_past, ascends_left, ascends_right, place_left, place_here, place_right}
-use Rattle.adr_shared.proofs.tree.Tree.place_led.Goals as goal
+use Rattle.adr_shared.proofs.tree.Tree.place.Goals as goal
 
 pub overflow_add-result : goal.overflow_add-result
 overflow_add-result g c =

@@ -1,7 +1,7 @@
 use Rattle.std.proofs.Common.{◌≡◌, ◌+◌, ◌≤◌, ◌<◌, ◌^◌, length}
 use Rattle.adr_shared.specs.Map.{IsAscending, place_of}
 use Rattle.adr_shared.proofs.Path.{place_past}
-use Rattle.adr_shared.proofs.tree.Tree.place_led.Given as goal
+use Rattle.adr_shared.proofs.tree.Tree.place.Given as goal
 
 abbrev pub invariant-path : goal.invariant-path
 invariant-path g l = record {

@@ -1,7 +1,7 @@
 use Rattle.std.proofs.Common.{Some, ◌∙◌, sym, ap}
 use Rattle.adr_shared.proofs.Opened.{opened}
 use Rattle.adr_shared.proofs.Path.{ascends_left, ascends_right, value_left, value_here, value_right}
-use Rattle.adr_shared.proofs.tree.Tree.get_led.Goals as goal
+use Rattle.adr_shared.proofs.tree.Tree.get.Goals as goal
 
 pub returns-in-Equal : goal.returns-in-Equal
 returns-in-Equal g c =
