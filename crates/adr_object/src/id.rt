@@ -1,12 +1,14 @@
 //! Ids.
 ghost use Rattle.std.specs.Prelude.{◌≡◌, ◌↔◌, IsTrue, if◌then◌else◌};
 ghost use Rattle.std.specs.List.{list_all};
+ghost use Rattle.std.specs.Cmp.Lexicographic.{slice_cmp};
+ghost use Rattle.std.specs.Ordering.{nat_cmp};
 ghost use Rattle.adr_refusal.specs.Answer.{Answers};
 ghost use Rattle.adr_refusal.specs.Copy.{IsCopyOf};
 ghost use Rattle.adr_shared.specs.Lead.{lead_of_text};
 ghost use Rattle.adr_object.specs.Id.{is_id_byte, is_id, id_named};
 
-use adr_shared::{Key, text_lead, text_lead_laws};
+use adr_shared::{Key, Sought, text_lead, text_lead_laws};
 use adr_value::{Refusal, Text, TryClone};
 use std::alloc::Global;
 use std::cmp::Ordering;
@@ -50,13 +52,20 @@ fn are_id_bytes(bytes: &[u8]) -> bool
     bytes.iter().all(|byte| is_id_byte(*byte))
 }
 
+/// Whether the bytes are those of an id.
+fn are_of_id(bytes: &[u8]) -> bool
+    ensures { result ≡ is_id bytes.now }
+{
+    let length = bytes.len();
+    1 <= length && length <= 128 && are_id_bytes(bytes)
+}
+
 impl Id {
     /// Whether a text has the form of an id.
     pub fn fits(text: &str) -> bool
         ensures { result ≡ is_id text.now }
     {
-        let length = text.len();
-        1 <= length && length <= 128 && are_id_bytes(text.as_bytes())
+        are_of_id(text.as_bytes())
     }
 
     /// The id that a word spells.
@@ -95,6 +104,15 @@ impl Id {
         self.text.as_str()
     }
 
+    /// The id's characters, to look it up by.
+    pub fn lent(&self) -> IdText<'_>
+        ensures { result ≡ self.now }
+    {
+        IdText {
+            bytes: self.text().as_bytes(),
+        }
+    }
+
     /// Whether two ids are equal.
     pub fn same(&self, other: &Id) -> bool
         ensures { IsTrue result ↔ (self.now ≡ other.now) }
@@ -127,21 +145,76 @@ impl Key for Id {
 
     ghost lead_of = { lead_of_text };
 
-    // Out of line, so that a look-up has only the comparison of leads in its loop.
-    #[inline(never)]
     fn compare(&self, other: &Id) -> Ordering {
         self.text().cmp(other.text())
     }
 
     #[inline(always)]
     fn lead(&self) -> u64 {
-        text_lead(self.text())
+        self.lent().lead()
+    }
+
+    #[inline(always)]
+    fn compare_led(&self, lead: u64, other: &Id, other_lead: u64) -> Ordering {
+        self.lent().compare_led(lead, other, other_lead)
+    }
+}
+
+/// The characters of an id that owns none, to look an id up by.
+#[derive(Clone, Copy)]
+pub struct IdText<'a> {
+    bytes: &'a [u8],
+}
+
+impl Model for IdText<'_> {
+    ghost use Rattle.std.specs.Prelude.{ℕ, List, IsTrue};
+    ghost use Rattle.adr_object.specs.Id.{is_id};
+
+    ghost Value = { List ℕ };
+
+    ghost view = { λ id. id.bytes.now };
+
+    ghost invariant = { λ id. IsTrue (is_id id.bytes.now) };
+}
+
+impl<'a> IdText<'a> {
+    /// The id that a word spells. It takes no memory.
+    ///
+    /// # Errors
+    ///
+    /// `BadId` where it spells none.
+    pub fn read(word: &'a [u8]) -> Result<IdText<'a>, Refusal>
+        ensures { result ≡ id_named word.now }
+    {
+        if !are_of_id(word) {
+            return Err(Refusal::BadId);
+        }
+        Ok(IdText { bytes: word })
+    }
+
+    // Out of line, so that a look-up has only the comparison of leads in its loop.
+    #[inline(never)]
+    fn compare(self, id: &Id) -> Ordering
+        ensures { result ≡ slice_cmp nat_cmp self id.now }
+    {
+        self.bytes.cmp(id.text().as_bytes())
+    }
+}
+
+impl Sought<Id> for IdText<'_> {
+    ghost code = { λ id. id };
+
+    ghost lead_of = { lead_of_text };
+
+    #[inline(always)]
+    fn lead(&self) -> u64 {
+        text_lead(self.bytes)
     }
 
     #[inline(always)]
     fn compare_led(&self, lead: u64, other: &Id, other_lead: u64) -> Ordering {
         text_lead_laws();
-        let _ = &self.text;
+        let _ = &self.bytes;
         let _ = &other.text;
         if lead == other_lead {
             self.compare(other)

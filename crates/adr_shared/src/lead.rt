@@ -2,11 +2,10 @@
 ghost use Rattle.std.specs.Prelude.{◌≡◌, get_or};
 ghost use Rattle.adr_shared.specs.Lead.{lead_of_text, LeadsFollowTexts};
 
-/// The lead of a text: its first eight bytes as a big-endian number, with zeros where it is shorter.
-pub fn text_lead(text: &str) -> u64
-    ensures { result ≡ lead_of_text text.now }
+/// The lead of a text of these bytes: the first eight as a big-endian number, with zeros where it is shorter.
+pub fn text_lead(bytes: &[u8]) -> u64
+    ensures { result ≡ lead_of_text bytes.now }
 {
-    let bytes = text.as_bytes();
     u64::from_be_bytes([
         byte_at(bytes, 0),
         byte_at(bytes, 1),
