@@ -69,7 +69,7 @@ pub(crate) fn follow_resource(
     ensures err { OnErr result (rows.new ≡ rows.old) }
     ensures refusal { OnlyNoMemory result }
 {
-    let Some(place) = store.resource_place(&resource.id) else {
+    let Some(place) = store.resource_place(resource.id.lent()) else {
         unreachable!();
     };
     let row = offered_in(alloc, store, resource)?;
@@ -83,7 +83,7 @@ pub(crate) fn remove_resource(rows: &mut Index, store: &Store, id: &Id)
     requires accepted { IsOk (step store.now (Remove resource_kind id.now)) }
     ensures { rows.new ≡ the_offers_of (made store.now (Remove resource_kind id.now)) }
 {
-    let Some(place) = store.resource_place(id) else {
+    let Some(place) = store.resource_place(id.lent()) else {
         unreachable!();
     };
     rows.remove(place);

@@ -14,7 +14,7 @@ ghost use Rattle.adr_store.specs.Numbers.{by_number};
 use crate::base::Base;
 use crate::journal::Journal;
 use crate::judging::{Judged, judge_on, judged_on};
-use adr_object::{Edit, Event, Id, Kind, Program, Resource, Ven};
+use adr_object::{Edit, Event, Id, IdText, Kind, Program, Resource, Ven};
 use adr_store::{Shared, Store};
 use adr_value::Refusal;
 use adr_value::limits::MOST_VERSION;
@@ -133,9 +133,9 @@ impl Book {
     }
 
     /// The place of the resource with the id, counted from 0 in order of creation. A look-up, not a scan.
-    pub fn resource_place(&self, id: &Id) -> Option<usize>
-        ensures found { is_some result ≡ is_some (resource_by self.now.objects id.now) }
-        ensures value { IfSome result (λ place. slice_get self.now.objects.resources place ≡ resource_by self.now.objects id.now) }
+    pub fn resource_place(&self, id: IdText<'_>) -> Option<usize>
+        ensures found { is_some result ≡ is_some (resource_by self.now.objects id) }
+        ensures value { IfSome result (λ place. slice_get self.now.objects.resources place ≡ resource_by self.now.objects id) }
     {
         self.objects.resource_place(id)
     }

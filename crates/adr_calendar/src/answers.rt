@@ -19,7 +19,7 @@ use crate::printing::put;
 use crate::shown::{shown_by_winner, shown_in};
 use adr_book::Book;
 use adr_model::Segment;
-use adr_object::{Id, Kind};
+use adr_object::{Id, IdText, Kind};
 use adr_time::Moment;
 use adr_timeline::timeline_laws;
 use adr_value::{PayloadType, Refusal};
@@ -38,11 +38,11 @@ const LINE: usize = 96;
 #[tactic(auto, using(crate::proofs::Places::state_answered))]
 pub fn governor<C: Calendar>(
     calendar: &C,
-    id: &Id,
+    id: IdText<'_>,
     payload_type: &PayloadType,
     moment: Moment,
 ) -> Result<State, Refusal>
-    ensures { Answers result (state_at (C.tie calendar.now) (C.objects calendar.now) id.now payload_type.now moment) }
+    ensures { Answers result (state_at (C.tie calendar.now) (C.objects calendar.now) id payload_type.now moment) }
 {
     match calendar.book().resource_place(id) {
         Some(place) => calendar.state(place, payload_type, moment),
@@ -86,7 +86,7 @@ pub fn at<C: Calendar>(
 ) -> Result<Vec<u8>, Refusal>
     ensures { Answers (result_map (λ v. v.items) result) (at (C.tie calendar.now) (C.objects calendar.now) id.now payload_type.now moment) }
 {
-    let state = governor(calendar, id, payload_type, moment)?;
+    let state = governor(calendar, id.lent(), payload_type, moment)?;
     text_of_state(alloc, calendar.book(), payload_type, state)
 }
 
@@ -188,7 +188,7 @@ pub fn list<C: Calendar>(
     if to.nanoseconds() <= from.nanoseconds() {
         return Err(Refusal::BadWindow);
     }
-    let Some(place) = calendar.book().resource_place(id) else {
+    let Some(place) = calendar.book().resource_place(id.lent()) else {
         return Err(Refusal::UnknownResource);
     };
     timeline_laws();
@@ -340,7 +340,7 @@ fn text_of_types(alloc: Global, book: &Book, types: &[PayloadType]) -> Result<Ve
 pub fn types<C: Calendar>(alloc: Global, calendar: &C, id: &Id) -> Result<Vec<u8>, Refusal>
     ensures { Answers (result_map (λ v. v.items) result) (types (C.tie calendar.now) (C.objects calendar.now) id.now) }
 {
-    let Some(place) = calendar.book().resource_place(id) else {
+    let Some(place) = calendar.book().resource_place(id.lent()) else {
         return Err(Refusal::UnknownResource);
     };
     let types = calendar.types(place)?;

@@ -4,13 +4,14 @@ use Rattle.std.specs.Option.{option_and_then, option_map}
 use Rattle.adr_refusal.specs.Answer.{result_map, result_and_then}
 use Rattle.adr_refusal.specs.declared.refusal.Refusal.{Refusal}
 use Rattle.adr_value.specs.declared.payload.PayloadType.{PayloadType}
+use Rattle.adr_object.specs.Id.{id_named}
 use Rattle.adr_model.specs.declared.entry.Tie.{Tie}
 use Rattle.adr_model.specs.Answer.{Shown, shown_of}
 use Rattle.adr_model.specs.Book.{Book}
 use Rattle.adr_calendar.specs.declared.calendar.State.{State}
 use Rattle.adr_calendar.specs.Governed.{state_at}
 use Rattle.adr_calendar.specs.Json.{json_array}
-use Rattle.adr_resolver.specs.Line.{id_word, type_word}
+use Rattle.adr_resolver.specs.Line.{type_word}
 use Rattle.adr_embed.specs.declared.governor.Governor.{Governor}
 use Rattle.adr_embed.specs.declared.governor.Source.{Source}
 use Rattle.adr_embed.specs.Instants.{moment_at}
@@ -42,5 +43,5 @@ told book payload_type state =
 unfoldable pub governor_told : Tie → Book → List ℕ → List ℕ → ℤ → ℕ → Result Told Refusal
 governor_told tie book resource payload_type seconds nanoseconds =
     result_and_then
-    (λ t. result_and_then (λ id. result_and_then (λ kind. result_map (told book kind) (state_at tie book id kind t)) (type_word payload_type)) (id_word resource))
+    (λ t. result_and_then (λ id. result_and_then (λ kind. result_map (told book kind) (state_at tie book id kind t)) (type_word payload_type)) (id_named resource))
     (moment_at seconds nanoseconds)

@@ -12,13 +12,14 @@ use Rattle.adr_model.specs.declared.published.Published.{Published}
 use Rattle.adr_model.specs.Book.{Book}
 use Rattle.adr_model.specs.Edits.{full_at, step_to}
 use Rattle.adr_model.specs.Kept.{Kept}
-use Rattle.adr_resolver.specs.Line.{id_word, object_of}
+use Rattle.adr_object.specs.Id.{id_named}
+use Rattle.adr_resolver.specs.Line.{object_of}
 use Rattle.adr_embed.specs.Instants.{moment_at}
 
 -- the object of a kind, an id, a body, and the moment of the edit: faults of the moment come before the id's, and the id's before those of the body
 unfoldable pub object_named : ℤ → ℕ → Kind → List ℕ → List ℕ → Result Object Refusal
 object_named seconds nanoseconds kind id body =
-    result_and_then (λ now. result_and_then (λ name. object_of kind now name body) (id_word id)) (moment_at seconds nanoseconds)
+    result_and_then (λ now. result_and_then (λ name. object_of kind now name body) (id_named id)) (moment_at seconds nanoseconds)
 
 abbrev pub created : ℤ → ℕ → Kind → List ℕ → List ℕ → Result Edit Refusal
 created seconds nanoseconds kind id body = result_map Create (object_named seconds nanoseconds kind id body)
@@ -27,7 +28,7 @@ abbrev pub changed : ℤ → ℕ → Kind → List ℕ → List ℕ → Result E
 changed seconds nanoseconds kind id body = result_map Change (object_named seconds nanoseconds kind id body)
 
 abbrev pub removed : Kind → List ℕ → Result Edit Refusal
-removed kind id = result_map (Remove kind) (id_word id)
+removed kind id = result_map (Remove kind) (id_named id)
 
 -- the objects after an edit, or its least fault: those of its parts come before those of the objects that are there
 abbrev pub after : Kept → Result Edit Refusal → Result Book Refusal

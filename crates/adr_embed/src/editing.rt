@@ -12,8 +12,8 @@ use crate::script::answer;
 use crate::steps;
 use adr_board::Publisher;
 use adr_model::{Published, Tie};
-use adr_object::{Edit, Kind, Object};
-use adr_resolver::{BodyReader, id_word, object_of};
+use adr_object::{Edit, Id, Kind, Object};
+use adr_resolver::{BodyReader, object_of};
 use adr_value::Refusal;
 use std::alloc::Global;
 use std::marker::Model;
@@ -82,7 +82,7 @@ impl Editing {
     {
         let alloc = self.publisher.allocator();
         let now = moment_at(seconds, nanoseconds)?;
-        let id = id_word(alloc, id)?;
+        let id = Id::read(alloc, id)?;
         object_of(alloc, &mut self.bodies, kind, now, &id, body)
     }
 
@@ -137,7 +137,7 @@ impl Editing {
         ensures edit { IsEdit self.old.kept self.new.kept (removed kind id.now) result }
         ensures reply { self.new.reply ≡ self.old.reply }
     {
-        let id = id_word(self.publisher.allocator(), id)?;
+        let id = Id::read(self.publisher.allocator(), id)?;
         steps::edit(&mut self.publisher, Edit::Remove(kind, id))
     }
 

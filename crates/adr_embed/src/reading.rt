@@ -10,7 +10,8 @@ use crate::instants::moment_at;
 use crate::script::ask;
 use adr_board::Snapshot;
 use adr_calendar::{Shown, governor, put_json_array, shown_by_winner};
-use adr_resolver::{id_word, type_word};
+use adr_object::IdText;
+use adr_resolver::type_word;
 use adr_value::Refusal;
 use std::alloc::Global;
 use std::marker::Model;
@@ -68,9 +69,9 @@ fn tell(
     ensures { Answers (result_map (λ governor. told_by governor reply.new.items) result) (governor_told snapshot.now.tie snapshot.now.book.objects resource.now payload_type.now seconds nanoseconds) }
 {
     let moment = moment_at(seconds, nanoseconds)?;
-    let resource = id_word(alloc, resource)?;
+    let resource = IdText::read(resource)?;
     let payload_type = type_word(alloc, payload_type)?;
-    let state = governor(snapshot, &resource, &payload_type, moment)?;
+    let state = governor(snapshot, resource, &payload_type, moment)?;
     let shown = shown_by_winner(snapshot.book(), &payload_type, state.governor);
     Ok(Governor {
         source: put_shown(reply, shown)?,

@@ -13,6 +13,7 @@ use adr_value::{Refusal, Text, TryClone};
 use std::alloc::Global;
 use std::cmp::Ordering;
 use std::marker::Model;
+use std::str;
 
 /// What an object is known by among those of its kind: 1 to 128 of `a-z A-Z 0-9 _ -` (OpenADR 3.0 Definition,
 /// objectID). Its copies share one memory.
@@ -73,13 +74,10 @@ impl Id {
     /// # Errors
     ///
     /// `BadId` where it spells none, `NoMemory` where there is no room for it.
-    pub fn read(alloc: Global, text: &str) -> Result<Id, Refusal>
-        ensures { Answers result (id_named text.now) }
+    pub fn read(alloc: Global, word: &[u8]) -> Result<Id, Refusal>
+        ensures { Answers result (id_named word.now) }
     {
-        if !Id::fits(text) {
-            return Err(Refusal::BadId);
-        }
-        Id::new(alloc, text)
+        IdText::read(word)?.to_id(alloc)
     }
 
     /// The id with these characters.
@@ -190,6 +188,20 @@ impl<'a> IdText<'a> {
             return Err(Refusal::BadId);
         }
         Ok(IdText { bytes: word })
+    }
+
+    /// The id with these characters.
+    ///
+    /// # Errors
+    ///
+    /// `NoMemory` where there is no room for them.
+    pub fn to_id(self, alloc: Global) -> Result<Id, Refusal>
+        ensures { IsCopyOf result self }
+    {
+        match str::from_utf8(self.bytes) {
+            Ok(text) => Id::new(alloc, text),
+            Err(_) => unreachable!(),
+        }
     }
 
     // Out of line, so that a look-up has only the comparison of leads in its loop.

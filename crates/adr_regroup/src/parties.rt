@@ -117,7 +117,7 @@ fn without(alloc: Global, old: &Book, schedule: &Schedule, id: &Id) -> Result<Sc
     ensures place { IfOk result (λ after. (p : ℕ) × (slice_get old.now.objects.resources p ≡ resource_by old.now.objects id.now) × LacksPlace p schedule.now after × StaysRight schedule.now after) }
     ensures refusal { OnlyNoMemory result }
 {
-    let Some(place) = old.resource_place(id) else {
+    let Some(place) = old.resource_place(id.lent()) else {
         unreachable!();
     };
     schedule.without_place(alloc, place)
@@ -156,7 +156,7 @@ pub fn after_resource<C: Fn(&Indexes, &[Job]) -> Result<Vec<Done>, Refusal>>(
             Ok(after)
         }
         Edit::Change(object) => {
-            let Some(place) = edited.old.resource_place(object.id()) else {
+            let Some(place) = edited.old.resource_place(object.id().lent()) else {
                 unreachable!();
             };
             let same = edited.schedule.copy()?;

@@ -31,7 +31,8 @@ use Rattle.adr_resolver.specs.declared.command.Command.{Command}
 use Rattle.adr_resolver.specs.declared.command.Command.TheVariants.{Edit, Publish, Condense, At, List as Listed, Roll, Types}
 use Rattle.adr_resolver.specs.Fields.{WriteLine, delete_line, write_line}
 use Rattle.adr_resolver.specs.Larger.{LargerLimitsTellTheSame, LimitsGrew, MeetsNoLimit, NoneMeetsALimit, line_refusal_by, named_refusal_by}
-use Rattle.adr_resolver.specs.Line.{delete_command, id_word, line_named_by, moment_word, object_of_by, query_named, write_command_by, writes_by}
+use Rattle.adr_object.specs.Id.{id_named}
+use Rattle.adr_resolver.specs.Line.{delete_command, line_named_by, moment_word, object_of_by, query_named, write_command_by, writes_by}
 use Rattle.adr_resolver.specs.Text.{command_next_by, command_reply_by, next_or, reply_line, reply_or, script_next_by, script_reply_by, script_start}
 
 -- ---- edits
@@ -96,7 +97,7 @@ module _ (a b : Limits) (within : AreWithin a b) where
   unfolding write_command_by
   write_within line n =
       agrees_then TooMany _ _ (moment_word line.moment)
-      (λ now. agrees_then TooMany (writes_by a line now) (writes_by b line now) (id_word line.id)
+      (λ now. agrees_then TooMany (writes_by a line now) (writes_by b line now) (id_named line.id)
       (λ id. agrees_map TooMany _ (object_of_by a line.kind now id line.body) (object_of_by b line.kind now id line.body) (object_within line.kind now id line.body)))
       n
 

@@ -8,7 +8,7 @@ use Rattle.adr_value.specs.Limits.{Limits, limits}
 use Rattle.adr_value.specs.Payload.{type_named}
 use Rattle.adr_value.specs.declared.payload.PayloadType.{PayloadType}
 use Rattle.adr_refusal.specs.declared.refusal.Refusal.{Refusal}
-use Rattle.adr_refusal.specs.declared.refusal.Refusal.TheVariants.{LongLine, BadLine, BadMoment, BadId, BadText}
+use Rattle.adr_refusal.specs.declared.refusal.Refusal.TheVariants.{LongLine, BadLine, BadMoment, BadText}
 use Rattle.adr_time.specs.Reading.{moment_named}
 use Rattle.adr_object.specs.Id.{id_named}
 use Rattle.adr_object.specs.declared.object.Edit.{Edit as Change}
@@ -27,9 +27,6 @@ use Rattle.adr_resolver.specs.Fields.{WriteLine, DeleteLine, AtLine, ListLine, R
 -- what the words of a line name; a word that is no UTF-8 names nothing
 abbrev pub moment_word : List ℕ → Result ℤ Refusal
 moment_word word = if is_utf8 word then moment_named word else Err BadMoment
-
-abbrev pub id_word : List ℕ → Result (List ℕ) Refusal
-id_word word = if is_utf8 word then id_named word else Err BadId
 
 abbrev pub type_word : List ℕ → Result PayloadType Refusal
 type_word word = if is_utf8 word then type_named word else Err BadText
@@ -50,29 +47,29 @@ abbrev pub writes_by : Limits → WriteLine → ℤ → List ℕ → Result Comm
 writes_by l line now id = result_map (λ o. Edit (edit_with line.verb o)) (object_of_by l line.kind now id line.body)
 
 unfoldable pub write_command_by : Limits → WriteLine → Result Command Refusal
-write_command_by l line = result_and_then (λ now. result_and_then (writes_by l line now) (id_word line.id)) (moment_word line.moment)
+write_command_by l line = result_and_then (λ now. result_and_then (writes_by l line now) (id_named line.id)) (moment_word line.moment)
 
 unfoldable pub delete_command : DeleteLine → Result Command Refusal
-delete_command l = result_and_then (λ now. result_map (λ id. Edit (Removed l.kind id)) (id_word l.id)) (moment_word l.moment)
+delete_command l = result_and_then (λ now. result_map (λ id. Edit (Removed l.kind id)) (id_named l.id)) (moment_word l.moment)
 
 abbrev pub asks_at : AtLine → ℤ → List ℕ → Result Command Refusal
 asks_at l moment id = result_map (λ payload_type. At id payload_type moment) (type_word l.payload_type)
 
 unfoldable pub at_command : AtLine → Result Command Refusal
-at_command l = result_and_then (λ moment. result_and_then (asks_at l moment) (id_word l.resource)) (moment_word l.moment)
+at_command l = result_and_then (λ moment. result_and_then (asks_at l moment) (id_named l.resource)) (moment_word l.moment)
 
 abbrev pub asks_between : ListLine → ℤ → ℤ → List ℕ → Result Command Refusal
 asks_between l from to id = result_map (λ payload_type. Listed id payload_type from to) (type_word l.payload_type)
 
 unfoldable pub list_command : ListLine → Result Command Refusal
 list_command l =
-    result_and_then (λ from. result_and_then (λ to. result_and_then (asks_between l from to) (id_word l.resource)) (moment_word l.to)) (moment_word l.from)
+    result_and_then (λ from. result_and_then (λ to. result_and_then (asks_between l from to) (id_named l.resource)) (moment_word l.to)) (moment_word l.from)
 
 unfoldable pub roll_command : RollLine → Result Command Refusal
 roll_command l = result_and_then (λ moment. result_map (λ payload_type. Roll payload_type moment) (type_word l.payload_type)) (moment_word l.moment)
 
 abbrev pub types_command : List ℕ → Result Command Refusal
-types_command word = result_map Types (id_word word)
+types_command word = result_map Types (id_named word)
 
 -- the query that a line is
 unfoldable pub query_named : List ℕ → Result Command Refusal

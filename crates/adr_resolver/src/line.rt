@@ -1,7 +1,7 @@
 //! From a line to its command, or the least of its faults.
 ghost use Rattle.std.specs.Prelude.{◌≡◌};
 ghost use Rattle.adr_refusal.specs.Answer.{Answers};
-ghost use Rattle.adr_resolver.specs.Line.{moment_word, id_word, type_word, object_of, write_command, delete_command, at_command, list_command, roll_command, types_command, query_named, line_named};
+ghost use Rattle.adr_resolver.specs.Line.{moment_word, type_word, object_of, write_command, delete_command, at_command, list_command, roll_command, types_command, query_named, line_named};
 ghost use Rattle.adr_resolver.specs.Views.{write_view, delete_view, at_view, list_view, roll_view};
 
 use crate::command::Command;
@@ -23,20 +23,6 @@ fn moment_word(word: &[u8]) -> Result<Moment, Refusal>
     match str::from_utf8(word) {
         Ok(text) => read_moment(text),
         Err(_) => Err(Refusal::BadMoment),
-    }
-}
-
-/// The id that a word is.
-///
-/// # Errors
-///
-/// `BadId` where it is none, also for one that is no UTF-8; `NoMemory` where there is no room for it.
-pub fn id_word(alloc: Global, word: &[u8]) -> Result<Id, Refusal>
-    ensures { Answers result (id_word word.now) }
-{
-    match str::from_utf8(word) {
-        Ok(text) => Id::read(alloc, text),
-        Err(_) => Err(Refusal::BadId),
     }
 }
 
@@ -99,7 +85,7 @@ fn write_command(
     ensures { Answers result (write_command (write_view line.now)) }
 {
     let now = moment_word(line.moment)?;
-    let id = id_word(alloc, line.id)?;
+    let id = Id::read(alloc, line.id)?;
     let object = object_of(alloc, bodies, line.kind, now, &id, line.body)?;
     match line.verb {
         Verb::Create => Ok(Command::Edit(Edit::Create(object))),
@@ -112,7 +98,7 @@ fn delete_command(alloc: Global, line: &DeleteLine<'_>) -> Result<Command, Refus
     ensures { Answers result (delete_command (delete_view line.now)) }
 {
     moment_word(line.moment)?;
-    let id = id_word(alloc, line.id)?;
+    let id = Id::read(alloc, line.id)?;
     Ok(Command::Edit(Edit::Remove(line.kind, id)))
 }
 
@@ -121,7 +107,7 @@ fn at_command(alloc: Global, line: &AtLine<'_>) -> Result<Command, Refusal>
     ensures { Answers result (at_command (at_view line.now)) }
 {
     let moment = moment_word(line.moment)?;
-    let resource = id_word(alloc, line.resource)?;
+    let resource = Id::read(alloc, line.resource)?;
     let payload_type = type_word(alloc, line.payload_type)?;
     Ok(Command::At(resource, payload_type, moment))
 }
@@ -132,7 +118,7 @@ fn list_command(alloc: Global, line: &ListLine<'_>) -> Result<Command, Refusal>
 {
     let from = moment_word(line.from)?;
     let to = moment_word(line.to)?;
-    let resource = id_word(alloc, line.resource)?;
+    let resource = Id::read(alloc, line.resource)?;
     let payload_type = type_word(alloc, line.payload_type)?;
     Ok(Command::List(resource, payload_type, from, to))
 }
@@ -149,7 +135,7 @@ fn roll_command(alloc: Global, line: &RollLine<'_>) -> Result<Command, Refusal>
 fn types_command(alloc: Global, resource: &[u8]) -> Result<Command, Refusal>
     ensures { Answers result (types_command resource.now) }
 {
-    Ok(Command::Types(id_word(alloc, resource)?))
+    Ok(Command::Types(Id::read(alloc, resource)?))
 }
 
 /// The query that a line is.

@@ -56,6 +56,7 @@ pub fn put_refused(reply: &mut Vec<u8>, refusal: Refusal) -> Result<(), Unanswer
     requires room { 64 ≤ vec_capacity reply.old }
     ensures reply { OnOk result (reply.new.items ≡ refusal_line refusal) }
     ensures refusal { OnOk result (refusal ≢ Refusal.NoMemory) }
+    ensures memory { OnErr result (refusal ≡ Refusal.NoMemory) }
     ensures err { OnErr result (result ≡ Err Unanswered.NoMemory) }
     ensures room { 64 ≤ vec_capacity reply.new }
 {

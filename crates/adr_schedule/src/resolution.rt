@@ -93,7 +93,7 @@ impl Resolution {
         ensures canonical { IfSome result (λ l. IsCanonical l.now) }
         ensures lasts { IfSome result (λ l. l.now ≢ []) }
     {
-        let place = self.book.resource_place(id)?;
+        let place = self.book.resource_place(id.lent())?;
         let group = self.schedule.get().group(place)?;
         group.timeline(payload_type)
     }

@@ -1,5 +1,6 @@
 pub mod Times
 pub mod Rows
+pub mod Dense
 pub mod Tables
 pub mod Found
 pub mod Counted

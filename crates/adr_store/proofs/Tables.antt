@@ -13,7 +13,8 @@ use Rattle.adr_shared.proofs.Parts.{ascends_put, ascends_without}
 use Rattle.adr_shared.proofs.LookUps.{put_is_found, taken_is_gone}
 use Rattle.adr_shared.proofs.Last.{all_above, last_above, one_more, put_last, values_pushed}
 use Rattle.adr_store.proofs.Rows.{swapped, value_of_row, found_value, parts, row_place, put_row, without_row, values_swapped, values_kept}
-use Rattle.adr_store.specs.Table.{IsTable, find_by, put_by, row_by, without}
+use Rattle.adr_store.proofs.Dense.{dense_changed}
+use Rattle.adr_store.specs.Table.{AreAtNumbers, IsTable, find_by, put_by, row_by, without}
 
 module _ {T : Type 0} where
   kept_all : (P : List ℕ × T → Type 0) (t : List ℕ × T → Bool) (rows : List (List ℕ × T)) → AllByRecursion P rows → AllByRecursion P (filter t rows)
@@ -151,6 +152,9 @@ module _ {T : Type 0} (key : T → List ℕ) where
     module _ (v : T) (n : ℕ) (h : lookup (key v) numbers ≡ Some n) where
       as_swapped : put (n ∷ []) v rows ≡ map (swapped key (key v) v) rows
       as_swapped = let r = has_row (key v) n h in put_row key (key v) rows (n ∷ []) r.0 t.ordered t.distinct r.1 r.2 v
+
+      pub changed_dense : (dense : ℕ) → AreAtNumbers dense rows → AreAtNumbers dense (put (n ∷ []) v rows)
+      changed_dense dense a = subst (λ es. AreAtNumbers dense es) (sym as_swapped) (dense_changed dense rows (swapped key (key v) v) (λ e. refl) a)
 
       pub changed_values : values_of (put (n ∷ []) v rows) ≡ put_by key (values_of rows) v
       changed_values = ap values_of as_swapped ∙ values_swapped key (key v) v rows

@@ -1,5 +1,5 @@
 -- A table of values, each found by its own id, in the order in which they were added.
-use Rattle.std.specs.Prelude.{◌≡◌, ℕ, not, List, [], ◌∷◌, map, filter, Option, option_map, if◌then◌else◌}
+use Rattle.std.specs.Prelude.{◌≡◌, ◌==◌, ◌&&◌, ◌+◌, ◌<◌, ℕ, not, List, [], ◌∷◌, map, filter, slice_get, Option, Some, option_map, if◌then◌else◌}
 use Rattle.std.specs.List.{IsDistinct, find}
 use Rattle.std.specs.Map.{values_of}
 use Rattle.std.specs.Str.{bytes_eq}
@@ -27,3 +27,11 @@ pub record IsTable {T : Type 0} (key : T → List ℕ) (rows : List (List ℕ ×
   pub distinct : IsDistinct bytes_eq (map key (values_of rows))
   pub ordered : IsAscending rows
   pub earlier : AreBelow next rows
+
+-- the rows of the numbers below the bound stand at the places of these numbers
+abbrev pub AreAtNumbers : {T : Type 0} → ℕ → List (List ℕ × T) → Type 0
+AreAtNumbers bound rows = (n : ℕ) → n < bound → option_map (λ e. e.0) (slice_get rows n) ≡ Some (n ∷ [])
+
+-- the bound once the next number's row is added at the place
+abbrev pub dense_with : ℕ → ℕ → ℕ → ℕ
+dense_with dense next place = if dense == next && place == next then next + 1 else dense

@@ -96,7 +96,7 @@ impl Events {
         ensures found { is_some result ≡ is_some (find_by (λ w. w.event.id) self.now id.now) }
         ensures value { IfSome result (λ place. slice_get self.now place ≡ find_by (λ w. w.event.id) self.now id.now) }
     {
-        self.table.place(id)
+        self.table.place(id.lent())
     }
 
     /// The number of the edit that last wrote the event at the place.

@@ -9,7 +9,7 @@ ghost use Rattle.adr_store.specs.Table.{find_by};
 
 use crate::table::Table;
 use crate::tally::Tally;
-use adr_object::{Id, Resource};
+use adr_object::{Id, IdText, Resource};
 use adr_shared::Shared;
 use adr_value::Refusal;
 use adr_value::limits::MOST_RESOURCES;
@@ -80,9 +80,9 @@ impl Resources {
     }
 
     /// The place of the resource with the id.
-    pub(crate) fn place(&self, id: &Id) -> Option<usize>
-        ensures found { is_some result ≡ is_some (find_by (λ r. r.id) self.now id.now) }
-        ensures value { IfSome result (λ place. slice_get self.now place ≡ find_by (λ r. r.id) self.now id.now) }
+    pub(crate) fn place(&self, id: IdText<'_>) -> Option<usize>
+        ensures found { is_some result ≡ is_some (find_by (λ r. r.id) self.now id) }
+        ensures value { IfSome result (λ place. slice_get self.now place ≡ find_by (λ r. r.id) self.now id) }
     {
         self.table.place(id)
     }

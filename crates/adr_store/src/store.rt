@@ -16,7 +16,7 @@ use crate::events::Events;
 use crate::kept::Kept;
 use crate::resources::Resources;
 use crate::table::Table;
-use adr_object::{Edit, Event, Id, Kind, Object, Program, Resource, Ven};
+use adr_object::{Edit, Event, Id, IdText, Kind, Object, Program, Resource, Ven};
 use adr_shared::Shared;
 use adr_value::Refusal;
 use adr_value::limits::{MOST_ENTRIES, MOST_EVENTS, MOST_RESOURCES, MOST_VERSION};
@@ -154,9 +154,9 @@ impl Store {
     }
 
     /// The place of the resource with the id, counted from 0 in order of creation.
-    pub fn resource_place(&self, id: &Id) -> Option<usize>
-        ensures found { is_some result ≡ is_some (resource_by self.now id.now) }
-        ensures value { IfSome result (λ place. slice_get self.now.resources place ≡ resource_by self.now id.now) }
+    pub fn resource_place(&self, id: IdText<'_>) -> Option<usize>
+        ensures found { is_some result ≡ is_some (resource_by self.now id) }
+        ensures value { IfSome result (λ place. slice_get self.now.resources place ≡ resource_by self.now id) }
     {
         self.resources.place(id)
     }

@@ -1,12 +1,12 @@
 //! Values under their ids, in the order in which they were added.
-ghost use Rattle.std.specs.Prelude.{◌≡◌, ◌++◌, ◌∷◌, [], length, map, slice_get, is_some, None, IsSome, IfSome};
+ghost use Rattle.std.specs.Prelude.{◌≡◌, ◌+◌, ◌<◌, ◌^◌, ◌++◌, ◌∷◌, [], length, map, slice_get, is_some, None, IsSome, IfSome};
 ghost use Rattle.std.specs.Option.{option_copied};
 ghost use Rattle.std.specs.List.{IsDistinct};
 ghost use Rattle.std.specs.Str.{bytes_eq};
 ghost use Rattle.adr_refusal.specs.Copy.{IsCopyOf};
-ghost use Rattle.adr_store.specs.Table.{find_by, put_by, without};
+ghost use Rattle.adr_store.specs.Table.{find_by, put_by, without, dense_with};
 
-use adr_object::Id;
+use adr_object::{Id, IdText};
 use adr_shared::SharedMap;
 use adr_value::{Refusal, TryClone};
 use std::alloc::Global;
@@ -30,19 +30,35 @@ pub struct Table<T: Keyed + TryClone> {
     rows: SharedMap<u64, T>,
     numbers: SharedMap<Id, u64>,
     next: u64,
+    // The values of the numbers below this one stand at the places of their numbers. It is the next number until a value
+    // is taken out.
+    dense: u64,
     alloc: Global,
+}
+
+/// Up to which number the values stand at the places of their numbers, where one of the next number is added at that
+/// place.
+fn dense_with(dense: u64, next: u64, place: usize) -> u64
+    requires { next + 1 < 2 ^ 64 }
+    ensures { result ≡ dense_with dense next place }
+{
+    if dense == next && place as u64 == next {
+        next + 1
+    } else {
+        dense
+    }
 }
 
 impl<T: Keyed + TryClone> Model for Table<T> {
     ghost use Rattle.std.specs.Prelude.{List};
     ghost use Rattle.std.specs.Map.{values_of};
-    ghost use Rattle.adr_store.specs.Table.{IsTable};
+    ghost use Rattle.adr_store.specs.Table.{IsTable, AreAtNumbers};
 
     ghost Value = { List T };
 
     ghost view = { λ t. values_of t.rows };
 
-    ghost invariant = { λ t. IsTable T.key t.rows t.numbers t.next };
+    ghost invariant = { λ t. IsTable T.key t.rows t.numbers t.next × AreAtNumbers t.dense t.rows };
 }
 
 impl<T: Keyed + TryClone> Table<T> {
@@ -54,6 +70,7 @@ impl<T: Keyed + TryClone> Table<T> {
             rows: SharedMap::new(),
             numbers: SharedMap::new(),
             next: 0,
+            dense: 0,
             alloc,
         }
     }
@@ -84,14 +101,17 @@ impl<T: Keyed + TryClone> Table<T> {
         self.rows.at(place)
     }
 
-    /// The place of the value with the id, counted from 0.
-    pub fn place(&self, id: &Id) -> Option<usize>
-        ensures found { is_some result ≡ is_some (find_by T.key self.now id.now) }
-        ensures value { IfSome result (λ place. slice_get self.now place ≡ find_by T.key self.now id.now) }
+    /// The place of the value with the id, counted from 0. Where no value was taken out that was added before it, that is
+    /// its number.
+    pub fn place(&self, id: IdText<'_>) -> Option<usize>
+        ensures found { is_some result ≡ is_some (find_by T.key self.now id) }
+        ensures value { IfSome result (λ place. slice_get self.now place ≡ find_by T.key self.now id) }
     {
-        match self.numbers.get(id) {
-            Some(number) => self.rows.place(number),
-            None => None,
+        let number = self.numbers.seek(&id)?;
+        if *number < self.dense {
+            Some(*number as usize)
+        } else {
+            self.rows.place(number)
         }
     }
 
@@ -111,6 +131,7 @@ impl<T: Keyed + TryClone> Table<T> {
         Ok(Table {
             rows: self.rows.put(self.alloc, self.next, value)?,
             numbers: self.numbers.put(self.alloc, id, self.next)?,
+            dense: dense_with(self.dense, self.next, self.rows.len()),
             next: self.next + 1,
             alloc: self.alloc,
         })
@@ -132,6 +153,7 @@ impl<T: Keyed + TryClone> Table<T> {
             rows: self.rows.put(self.alloc, *number, value)?,
             numbers: self.numbers.copy()?,
             next: self.next,
+            dense: self.dense,
             alloc: self.alloc,
         })
     }
@@ -149,6 +171,7 @@ impl<T: Keyed + TryClone> Table<T> {
                 rows: self.rows.without(self.alloc, number)?,
                 numbers: self.numbers.without(self.alloc, id)?,
                 next: self.next,
+                dense: self.dense.min(*number),
                 alloc: self.alloc,
             }),
             None => self.copy(),
@@ -167,6 +190,7 @@ impl<T: Keyed + TryClone> Table<T> {
             rows: self.rows.copy()?,
             numbers: self.numbers.copy()?,
             next: self.next,
+            dense: self.dense,
             alloc: self.alloc,
         })
     }

@@ -48,7 +48,7 @@ pub(crate) fn event_ids(alloc: Global, book: &Book) -> Result<Vec<Id>, Refusal>
 fn is_new_resource(book: &Book, id: &Id) -> bool
     ensures { result ≡ not (list_any (bytes_eq id.now) (map (λ r. r.id) book.now.objects.resources)) }
 {
-    book.resource_place(id).is_none()
+    book.resource_place(id.lent()).is_none()
 }
 
 /// Whether the book has no event with the id.

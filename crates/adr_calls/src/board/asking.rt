@@ -20,7 +20,7 @@ enum Question {
 fn at_of(alloc: Global, line: &str) -> Result<Question, Refusal> {
     let (id, moment) = word(line);
     let moment = read_moment(moment)?;
-    Ok(Question::At(Id::read(alloc, id)?, moment))
+    Ok(Question::At(Id::read(alloc, id.as_bytes())?, moment))
 }
 
 fn list_of(alloc: Global, line: &str) -> Result<Question, Refusal> {
@@ -28,7 +28,7 @@ fn list_of(alloc: Global, line: &str) -> Result<Question, Refusal> {
     let (from, to) = word(line);
     let from = read_moment(from)?;
     let to = read_moment(to)?;
-    Ok(Question::List(Id::read(alloc, id)?, from, to))
+    Ok(Question::List(Id::read(alloc, id.as_bytes())?, from, to))
 }
 
 fn question_of(alloc: Global, line: &str) -> Result<Question, Refusal> {
@@ -37,7 +37,7 @@ fn question_of(alloc: Global, line: &str) -> Result<Question, Refusal> {
         "at" => at_of(alloc, line),
         "list" => list_of(alloc, line),
         "roll" => Ok(Question::Roll(read_moment(line)?)),
-        "types" => Ok(Question::Types(Id::read(alloc, line)?)),
+        "types" => Ok(Question::Types(Id::read(alloc, line.as_bytes())?)),
         _ => Err(Refusal::BadLine),
     }
 }

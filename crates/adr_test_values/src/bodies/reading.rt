@@ -56,7 +56,7 @@ fn read_object(alloc: Global, kind: &str, id: &Id, body: &[u8]) -> Result<Object
 pub fn object(alloc: Global, line: &str) -> Result<Object, Refusal> {
     let (kind, line) = word(line)?;
     let (id, body) = word(line)?;
-    let id = Id::read(alloc, id)?;
+    let id = Id::read(alloc, id.as_bytes())?;
     let object = read_object(alloc, kind, &id, body.as_bytes());
     drop(id);
     object
@@ -76,7 +76,7 @@ pub fn kind_of(word: &str) -> Kind {
 fn removal(alloc: Global, line: &str) -> Result<Edit, Refusal> {
     let (kind, line) = word(line)?;
     let (id, _) = word(line)?;
-    Ok(Edit::Remove(kind_of(kind), Id::read(alloc, id)?))
+    Ok(Edit::Remove(kind_of(kind), Id::read(alloc, id.as_bytes())?))
 }
 
 /// The edit of a line `VERB KIND ID JSON`.

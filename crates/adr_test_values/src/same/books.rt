@@ -9,7 +9,7 @@ pub fn same_by_id(a: &Store, b: &Store, id: &Id) -> bool {
         && same_option(a.ven(id), b.ven(id))
         && same_option(a.resource(id), b.resource(id))
         && same_option(a.event(id), b.event(id))
-        && a.resource_place(id) == b.resource_place(id)
+        && a.resource_place(id.lent()) == b.resource_place(id.lent())
         && a.event_place(id) == b.event_place(id)
         && a.written(id) == b.written(id)
         && a.is_program_named(id) == b.is_program_named(id)

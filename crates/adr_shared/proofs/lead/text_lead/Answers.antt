@@ -1,5 +1,4 @@
-use Rattle.std.proofs.Common.{◌∙◌, ap}
-use Rattle.adr_shared.specs.Lead.{lead_of_text}
+use Rattle.std.proofs.Common.{◌∙◌}
 use Rattle.adr_shared.proofs.Leads.{eight_digits}
 use Rattle.adr_shared.proofs.lead.text_lead.Goals as goal
 
@@ -7,5 +6,4 @@ pub returns : goal.returns
 returns c =
     c.from_be_bytes.ensures
     ∙ rw (c.byte_at.ensures, c.byte_at-2.ensures, c.byte_at-3.ensures, c.byte_at-4.ensures, c.byte_at-5.ensures, c.byte_at-6.ensures, c.byte_at-7.ensures, c.byte_at-8.ensures)
-    (eight_digits c.as_bytes-bytes.result.now)
-    ∙ ap lead_of_text c.as_bytes-bytes.ensures.value
+    (eight_digits c.args.bytes.now)
