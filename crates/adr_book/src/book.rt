@@ -134,8 +134,8 @@ impl Book {
 
     /// The place of the resource with the id, counted from 0 in order of creation. A look-up, not a scan.
     pub fn resource_place(&self, id: IdText<'_>) -> Option<usize>
-        ensures found { is_some result ≡ is_some (resource_by self.now.objects id) }
-        ensures value { IfSome result (λ place. slice_get self.now.objects.resources place ≡ resource_by self.now.objects id) }
+        ensures found { is_some result ≡ is_some (resource_by self.now.objects id.entry) }
+        ensures value { IfSome result (λ place. slice_get self.now.objects.resources place ≡ resource_by self.now.objects id.entry) }
     {
         self.objects.resource_place(id)
     }

@@ -42,7 +42,7 @@ pub fn governor<C: Calendar>(
     payload_type: &PayloadType,
     moment: Moment,
 ) -> Result<State, Refusal>
-    ensures { Answers result (state_at (C.tie calendar.now) (C.objects calendar.now) id payload_type.now moment) }
+    ensures { Answers result (state_at (C.tie calendar.now) (C.objects calendar.now) id.entry payload_type.now moment) }
 {
     match calendar.book().resource_place(id) {
         Some(place) => calendar.state(place, payload_type, moment),

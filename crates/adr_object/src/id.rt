@@ -159,12 +159,12 @@ impl Key for Id {
 }
 
 /// The characters of an id that owns none, to look an id up by.
-#[derive(Clone, Copy)]
+#[derive(Drop)]
 pub struct IdText<'a> {
     bytes: &'a [u8],
 }
 
-impl Model for IdText<'_> {
+impl<'a> Model for IdText<'a> {
     ghost use Rattle.std.specs.Prelude.{ℕ, List, IsTrue};
     ghost use Rattle.adr_object.specs.Id.{is_id};
 
@@ -196,7 +196,7 @@ impl<'a> IdText<'a> {
     ///
     /// `NoMemory` where there is no room for them.
     pub fn to_id(self, alloc: Global) -> Result<Id, Refusal>
-        ensures { IsCopyOf result self }
+        ensures { IsCopyOf result self.entry }
     {
         match str::from_utf8(self.bytes) {
             Ok(text) => Id::new(alloc, text),
@@ -206,8 +206,8 @@ impl<'a> IdText<'a> {
 
     // Out of line, so that a look-up has only the comparison of leads in its loop.
     #[inline(never)]
-    fn compare(self, id: &Id) -> Ordering
-        ensures { result ≡ slice_cmp nat_cmp self id.now }
+    fn compare(&self, id: &Id) -> Ordering
+        ensures { result ≡ slice_cmp nat_cmp self.now id.now }
     {
         self.bytes.cmp(id.text().as_bytes())
     }

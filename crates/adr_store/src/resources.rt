@@ -81,8 +81,8 @@ impl Resources {
 
     /// The place of the resource with the id.
     pub(crate) fn place(&self, id: IdText<'_>) -> Option<usize>
-        ensures found { is_some result ≡ is_some (find_by (λ r. r.id) self.now id) }
-        ensures value { IfSome result (λ place. slice_get self.now place ≡ find_by (λ r. r.id) self.now id) }
+        ensures found { is_some result ≡ is_some (find_by (λ r. r.id) self.now id.entry) }
+        ensures value { IfSome result (λ place. slice_get self.now place ≡ find_by (λ r. r.id) self.now id.entry) }
     {
         self.table.place(id)
     }

@@ -155,8 +155,8 @@ impl Store {
 
     /// The place of the resource with the id, counted from 0 in order of creation.
     pub fn resource_place(&self, id: IdText<'_>) -> Option<usize>
-        ensures found { is_some result ≡ is_some (resource_by self.now id) }
-        ensures value { IfSome result (λ place. slice_get self.now.resources place ≡ resource_by self.now id) }
+        ensures found { is_some result ≡ is_some (resource_by self.now id.entry) }
+        ensures value { IfSome result (λ place. slice_get self.now.resources place ≡ resource_by self.now id.entry) }
     {
         self.resources.place(id)
     }

@@ -104,8 +104,8 @@ impl<T: Keyed + TryClone> Table<T> {
     /// The place of the value with the id, counted from 0. Where no value was taken out that was added before it, that is
     /// its number.
     pub fn place(&self, id: IdText<'_>) -> Option<usize>
-        ensures found { is_some result ≡ is_some (find_by T.key self.now id) }
-        ensures value { IfSome result (λ place. slice_get self.now place ≡ find_by T.key self.now id) }
+        ensures found { is_some result ≡ is_some (find_by T.key self.now id.entry) }
+        ensures value { IfSome result (λ place. slice_get self.now place ≡ find_by T.key self.now id.entry) }
     {
         let number = self.numbers.seek(&id)?;
         if *number < self.dense {

@@ -1,7 +1,7 @@
 use Rattle.std.proofs.Common.{IsTrue, arith, sym, subst}
 use Rattle.adr_object.specs.Id.{is_id}
 use Rattle.adr_object.proofs.Leads.{smaller_lead, greater_lead}
-use Rattle.adr_object.proofs.id.IdKey.compare_led.Goals as goal
+use Rattle.adr_object.proofs.id.IdTextSoughtId.compare_led.Goals as goal
 
 pub returns-then-lead-other_lead-2 : goal.returns-then-lead-other_lead-2
 returns-then-lead-other_lead-2 c =
