@@ -316,7 +316,6 @@ impl Desk {
     {
         let alloc = self.alloc;
         let alone = |indexes: &Indexes, jobs: &[Job]| -> Result<Vec<Done>, Refusal>
-            requires { sum_by (most_done indexes.now) jobs.now < 2 ^ 128 }
             ensures done { IfOk result (λ done. AreDone indexes.now jobs.now done.items) }
             ensures refusal { OnlyNoMemory result }
         { do_jobs(alloc, indexes, &NoGate, 0, jobs) };
@@ -342,7 +341,7 @@ impl Desk {
     {
         let alloc = self.alloc;
         let crowd = |indexes: &Indexes, jobs: &[Job]| -> Result<Vec<Done>, Refusal>
-            requires { IsSync R.row × IsSync G.row × (sum_by (most_done indexes.now) jobs.now < 2 ^ 128) }
+            requires { IsSync R.row × IsSync G.row }
             ensures done { IfOk result (λ done. AreDone indexes.now jobs.now done.items) }
             ensures refusal { OnlyNoMemory result }
         { do_all(rt, alloc, indexes, workers, gate, jobs) };

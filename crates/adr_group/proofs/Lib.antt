@@ -11,7 +11,6 @@ pub mod Owned
 pub mod Parting
 pub mod Possible
 pub mod Rights
-pub mod Room
 pub mod Seen
 pub mod Sharing
 pub mod Tasks

@@ -1,9 +1,9 @@
 -- The parts of jobs that are shared out are all the jobs.
-use Rattle.std.proofs.Common.{◌≡◌, ℕ, ◌+◌, ◌*◌, ◌/◌, ◌-◌, ◌≤◌, ◌<◌, List, [], ◌∷◌, ◌++◌, length, take, drop, sum_by, refl, sym, ap, subst, ◌∙◌, arith, append-nil}
+use Rattle.std.proofs.Common.{◌≡◌, ℕ, ◌+◌, ◌*◌, ◌/◌, ◌-◌, ◌≤◌, ◌<◌, List, [], ◌∷◌, ◌++◌, length, take, drop, refl, sym, ap, subst, ◌∙◌, arith, append-nil}
 use Rattle.std.specs.List.{AllZip}
 use Rattle.std.proofs.Math.Seq.{take-add}
 use Rattle.std.proofs.Math.Nat.{div-mul-le_self}
-use Rattle.std.proofs.lemmas.List.Sums.{sum_by-append, sum_by-take-drop, sum_by-take-le}
+use Rattle.std.proofs.lemmas.List.Sums.{sum_by-append}
 use Rattle.std.proofs.lemmas.Nat.{le-div, div-mul-add}
 use Rattle.adr_lines.specs.declared.indexes.Indexes.{Indexes}
 use Rattle.adr_group.specs.declared.job.Done.{Done}
@@ -29,16 +29,6 @@ pub bound_last : (n w : ℕ) → 0 < w → w * n / w ≡ n
 bound_last n w pos =
     let e : w * n ≡ n * w + 0 = grind arith in
     ap (λ k. k / w) e ∙ div-mul-add n w 0 pos
-
--- ---- what parts compare
-
--- a part compares no more than all
-pub part_less : {X : Type 0} (f : X → ℕ) (i n : ℕ) (xs part : List X) → part ≡ take n (drop i xs) → sum_by f part ≤ sum_by f xs
-part_less f i n xs part is =
-    let same = ap (sum_by f) is in
-    let front = sum_by-take-le f (drop i xs) n in
-    let back = sum_by-take-drop f xs i in
-    omega (arith, same, front, back)
 
 -- ---- what was done of them
 

@@ -104,6 +104,6 @@ pub record AreDone (indexes : Indexes) (jobs : List Job) (done : List Done) : Ty
 -- whoever is called so does jobs: it may be called where a meter has room for them, and answers what was done, or that
 -- there was no memory
 pub record IsCrew {V : Type 0} (items : V → List Done) (pre : Bor Indexes → Bor (List Job) → Type 0) (post : Bor Indexes → Bor (List Job) → Result V Refusal → Type 0) : Type 0 where
-  pub may : (i : Bor Indexes) (jobs : Bor (List Job)) → sum_by (most_done i.now) jobs.now < 2 ^ 128 → pre i jobs
-  pub does : (i : Bor Indexes) (jobs : Bor (List Job)) (r : Result V Refusal) → sum_by (most_done i.now) jobs.now < 2 ^ 128 → post i jobs r → IfOk r (λ v. AreDone i.now jobs.now (items v))
-  pub refuses : (i : Bor Indexes) (jobs : Bor (List Job)) (r : Result V Refusal) → sum_by (most_done i.now) jobs.now < 2 ^ 128 → post i jobs r → OnlyNoMemory r
+  pub may : (i : Bor Indexes) (jobs : Bor (List Job)) → pre i jobs
+  pub does : (i : Bor Indexes) (jobs : Bor (List Job)) (r : Result V Refusal) → post i jobs r → IfOk r (λ v. AreDone i.now jobs.now (items v))
+  pub refuses : (i : Bor Indexes) (jobs : Bor (List Job)) (r : Result V Refusal) → post i jobs r → OnlyNoMemory r

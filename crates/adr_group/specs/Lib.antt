@@ -3,5 +3,4 @@ pub mod Group
 pub mod Jobs
 pub mod Laid
 pub mod Repair
-pub mod Room
 pub mod Writes

@@ -71,7 +71,6 @@ fn laid_line(
     coming: &[Entry],
     meter: &mut Meter,
 ) -> Result<Timeline, Refusal>
-    requires room { meter.old + (length shown.now + length coming.now) < 2 ^ 128 }
     ensures shows { IfOk result (λ laid. comes_in_turn shown.now ≡ true → comes_in_turn coming.now ≡ true → (t : ℤ) → shows laid t ≡ (if any_covers (spans_of coming.now) t then least_over shown.now coming.now t else shows line.now t)) }
     ensures compared { meter.new ≤ meter.old + (length shown.now + length coming.now) }
     ensures memory { OnlyNoMemory result }
@@ -93,7 +92,6 @@ fn left_line(
     writes: &Writes,
     meter: &mut Meter,
 ) -> Result<Timeline, Refusal>
-    requires room { meter.old + most_inside writes.now (under indexes.now payload_type.now) leaving.now < 2 ^ 128 }
     ensures shown { IfOk result (IsWithout writes.now (under indexes.now payload_type.now) number leaving.now line) }
     ensures compared { meter.new ≤ meter.old + most_inside writes.now (under indexes.now payload_type.now) leaving.now }
     ensures memory { OnlyNoMemory result }
@@ -120,7 +118,6 @@ pub(crate) fn exchanged_line(
     writes: &Writes,
     meter: &mut Meter,
 ) -> Result<Timeline, Refusal>
-    requires room { meter.old + most_exchanged writes.now (under indexes.now windows.now.payload_type) windows.now.entries.items held.now < 2 ^ 128 }
     ensures after { IfOk result (IsExchanged writes.now (under indexes.now windows.now.payload_type) windows.now.entries.items held.now line.now) }
     ensures compared { meter.new ≤ meter.old + most_exchanged writes.now (under indexes.now windows.now.payload_type) windows.now.entries.items held.now }
     ensures memory { OnlyNoMemory result }

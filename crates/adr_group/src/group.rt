@@ -149,7 +149,6 @@ impl Group {
         writes: Writes,
         meter: &mut Meter,
     ) -> Result<Group, Refusal>
-        requires room { meter.old + most_repaired (windows.now ++ more.now) writes indexes.now < 2 ^ 128 }
         ensures writes { IfOk result (λ group. group.writes ≡ writes) }
         ensures lines { IfOk result (λ group. (k : AnyType) (t : ℤ) → shown_in group.lines k t ≡ (if any_covers_at (entries_under (windows.now ++ more.now) k) t then winner_at (written_in writes (under indexes.now k)) t else shown_in self.now.lines k t)) }
         ensures right { IfOk result (λ group. (tie : Tie) (events : List Written) → IsIndexOf tie events indexes.now → AreWindowsOf events self.now.writes writes (entries_under (windows.now ++ more.now)) → IsRightOf tie events self.now → IsRightOf tie events group) }

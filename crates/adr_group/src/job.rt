@@ -94,7 +94,6 @@ fn line_after(
     job: &Job,
     meter: &mut Meter,
 ) -> Result<Timeline, Refusal>
-    requires room { meter.old + most_done indexes.now job.now < 2 ^ 128 }
     ensures after { IfOk result (IsAfter indexes.now job.now) }
     ensures compared { meter.new ≤ meter.old + most_done indexes.now job.now }
     ensures refusal { OnlyNoMemory result }
@@ -120,7 +119,6 @@ fn line_after(
 
 /// Does a job, with a count of its own.
 fn do_job(alloc: Global, indexes: &Indexes, job: &Job) -> Result<Done, Refusal>
-    requires room { most_done indexes.now job.now < 2 ^ 128 }
     ensures done { IfOk result (IsDone indexes.now job.now) }
     ensures compared { IfOk result (λ done. done.compared ≤ most_done indexes.now job.now) }
     ensures refusal { OnlyNoMemory result }
@@ -148,7 +146,6 @@ pub fn do_jobs<G: Gate>(
     worker: usize,
     jobs: &[Job],
 ) -> Result<Vec<Done>, Refusal>
-    requires room { sum_by (most_done indexes.now) jobs.now < 2 ^ 128 }
     ensures done { IfOk result (λ done. AreDone indexes.now jobs.now done.items) }
     ensures refusal { OnlyNoMemory result }
 {

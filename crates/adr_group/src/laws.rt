@@ -6,7 +6,6 @@ ghost use Rattle.adr_lines.specs.declared.grouped.TypeEntries.{TypeEntries};
 ghost use Rattle.adr_lines.specs.declared.indexes.Indexes.{Indexes};
 ghost use Rattle.adr_group.specs.Group.{RightMoves};
 ghost use Rattle.adr_group.specs.Repair.{most_possible, most_repaired};
-ghost use Rattle.adr_group.specs.Room.{RepairsHaveRoom, WindowsBound};
 
 /// A group is right of any events among which those of its writes are the same. So an event that comes or goes changes
 /// no group that doesn't have its write.
@@ -19,12 +18,4 @@ pub fn right_moves()
 pub fn repairs_compare_little()
     ensures possible { (windows : List TypeEntries) (writes : List ℕ) (indexes : Indexes) → most_repaired windows writes indexes ≤ most_possible windows indexes }
     ensures both { (windows more : List TypeEntries) (indexes : Indexes) → most_possible (windows ++ more) indexes ≡ most_possible windows indexes + most_possible more indexes }
-{}
-
-/// What is possible is bounded by how many windows there are and how many entries are indexed under one type. So a meter
-/// has room for the repairs of all resources: among the entries of events that are no more than two books may have, in
-/// windows that are no more either, as where one event goes and another comes.
-pub fn repairs_have_room()
-    ensures bound { WindowsBound }
-    ensures room { (tie : Tie) → RepairsHaveRoom tie }
 {}

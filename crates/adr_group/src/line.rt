@@ -80,7 +80,6 @@ fn with_built(
     meter: &mut Meter,
 ) -> Result<Timeline, Refusal>
     requires apart { IsTrue (are_apart windows.now) }
-    requires room { meter.old + most_compared_all (given_entries given.now) windows.now < 2 ^ 128 }
     ensures shows { IfOk result (λ timeline. (t : ℤ) → shows timeline t ≡ (if any_covers windows.now t then winner_at (given_entries given.now) t else shows inner t)) }
     ensures compared { meter.new ≤ meter.old + most_compared_all (given_entries given.now) windows.now }
     ensures memory { OnlyNoMemory result }
@@ -101,7 +100,6 @@ fn built_in(
     meter: &mut Meter,
 ) -> Result<Timeline, Refusal>
     requires last { IsTrue (all_last spans.now) }
-    requires room { meter.old + most_compared_all (given_entries given.now) spans.now < 2 ^ 128 }
     ensures shows { IfOk result (λ timeline. (t : ℤ) → shows timeline t ≡ (if any_covers spans.now t then winner_at (given_entries given.now) t else None)) }
     ensures compared { meter.new ≤ meter.old + most_compared_all (given_entries given.now) spans.now }
     ensures memory { OnlyNoMemory result }
@@ -127,7 +125,6 @@ pub(crate) fn built(
     writes: &Writes,
     meter: &mut Meter,
 ) -> Result<Timeline, Refusal>
-    requires room { meter.old + most_inside writes.now (under indexes.now payload_type.now) windows.now < 2 ^ 128 }
     ensures shows { IfOk result (λ timeline. (t : ℤ) → shows timeline t ≡ (if any_covers_at windows.now t then winner_at (written_in writes.now (under indexes.now payload_type.now)) t else None)) }
     ensures compared { meter.new ≤ meter.old + most_inside writes.now (under indexes.now payload_type.now) windows.now }
     ensures memory { OnlyNoMemory result }

@@ -35,7 +35,6 @@ pub(crate) fn line_repaired(
     writes: &Writes,
     meter: &mut Meter,
 ) -> Result<Timeline, Refusal>
-    requires room { meter.old + most_inside writes.now (under indexes.now payload_type.now) windows.now < 2 ^ 128 }
     ensures shows { IfOk result (IsRepaired writes.now (under indexes.now payload_type.now) windows.now (shows line.now)) }
     ensures compared { meter.new ≤ meter.old + most_inside writes.now (under indexes.now payload_type.now) windows.now }
     ensures memory { OnlyNoMemory result }
@@ -56,7 +55,6 @@ fn repaired_line(
     writes: &Writes,
     meter: &mut Meter,
 ) -> Result<Timeline, Refusal>
-    requires room { meter.old + most_inside writes.now (under indexes.now windows.now.payload_type) windows.now.entries.items < 2 ^ 128 }
     ensures shows { IfOk result (IsRepaired writes.now (under indexes.now windows.now.payload_type) windows.now.entries.items (shown_in lines.now windows.now.payload_type)) }
     ensures compared { meter.new ≤ meter.old + most_inside writes.now (under indexes.now windows.now.payload_type) windows.now.entries.items }
     ensures memory { OnlyNoMemory result }
@@ -78,7 +76,6 @@ pub(crate) fn repaired_type(
     writes: &Writes,
     meter: &mut Meter,
 ) -> Result<Timelines, Refusal>
-    requires room { meter.old + most_inside writes.now (under indexes.now windows.now.payload_type) windows.now.entries.items < 2 ^ 128 }
     ensures shown { IfOk result (λ timelines. (k : AnyType) (t : ℤ) → shown_in timelines k t ≡ (if any_covers_at (own_entries windows.now k) t then winner_at (written_in writes.now (under indexes.now k)) t else shown_in lines.now k t)) }
     ensures compared { meter.new ≤ meter.old + most_inside writes.now (under indexes.now windows.now.payload_type) windows.now.entries.items }
     ensures memory { OnlyNoMemory result }
@@ -97,7 +94,6 @@ pub(crate) fn repaired(
     writes: &Writes,
     meter: &mut Meter,
 ) -> Result<Timelines, Refusal>
-    requires room { meter.old + most_repaired windows.now writes.now indexes.now < 2 ^ 128 }
     ensures shown { IfOk result (λ timelines. (k : AnyType) (t : ℤ) → shown_in timelines k t ≡ (if any_covers_at (entries_under windows.now k) t then winner_at (written_in writes.now (under indexes.now k)) t else shown_in old.now k t)) }
     ensures compared { meter.new ≤ meter.old + most_repaired windows.now writes.now indexes.now }
     ensures memory { OnlyNoMemory result }

@@ -25,7 +25,6 @@ fn bound(count: usize, workers: usize, worker: usize) -> usize
 fn chunk(jobs: &[Job], workers: usize, worker: usize) -> &[Job]
     requires { (worker < workers) × (workers ≤ 64) }
     ensures part { result.now ≡ slice_range jobs.now (worker * length jobs.now / workers) ((worker + 1) * length jobs.now / workers) }
-    ensures room { (indexes : AllIndexes) → sum_by (most_done indexes) jobs.now < 2 ^ 128 → sum_by (most_done indexes) result.now < 2 ^ 128 }
 {
     let from = bound(jobs.len(), workers, worker);
     let until = bound(jobs.len(), workers, worker + 1);
@@ -45,7 +44,6 @@ fn do_first<R: Threads + Sync, G: Gate + Sync>(
     count: usize,
 ) -> Result<Vec<Done>, Refusal>
     requires count { (1 ≤ count) × (count ≤ workers) × (workers ≤ 64) }
-    requires room { sum_by (most_done indexes.now) jobs.now < 2 ^ 128 }
     ensures done { IfOk result (λ done. AreDone indexes.now (take (count * length jobs.now / workers) jobs.now) done.items) }
     ensures refusal { OnlyNoMemory result }
 {
@@ -58,12 +56,12 @@ fn do_first<R: Threads + Sync, G: Gate + Sync>(
         return do_first(rt, alloc, indexes, gate, jobs, workers, worker);
     }
     let last = || -> Result<Vec<Done>, Refusal>
-        requires { IsSync G.row × (sum_by (most_done indexes.now) part.now < 2 ^ 128) }
+        requires { IsSync G.row }
         ensures done { IfOk result (λ done. AreDone indexes.entry.now part.entry.now done.items) }
         ensures refusal { OnlyNoMemory result }
     { do_jobs(alloc, indexes, gate, worker, part) };
     let others = || -> Result<Vec<Done>, Refusal>
-        requires { IsSync R.row × IsSync G.row × (1 ≤ worker) × (worker ≤ workers) × (workers ≤ 64) × (sum_by (most_done indexes.now) jobs.now < 2 ^ 128) }
+        requires { IsSync R.row × IsSync G.row × (1 ≤ worker) × (worker ≤ workers) × (workers ≤ 64) }
         ensures done { IfOk result (λ done. AreDone indexes.entry.now (take (worker * length jobs.entry.now / workers) jobs.entry.now) done.items) }
         ensures refusal { OnlyNoMemory result }
     { do_first(rt, alloc, indexes, gate, jobs, workers, worker) };
@@ -90,7 +88,6 @@ pub fn do_all<R: Threads + Sync, G: Gate + Sync>(
     gate: &G,
     jobs: &[Job],
 ) -> Result<Vec<Done>, Refusal>
-    requires room { sum_by (most_done indexes.now) jobs.now < 2 ^ 128 }
     ensures done { IfOk result (λ done. AreDone indexes.now jobs.now done.items) }
     ensures refusal { OnlyNoMemory result }
 {

@@ -1,15 +1,14 @@
 -- How many chunks there are, how long they are, and how many looks a search of them takes.
-use Rattle.std.proofs.Common.{◌≡◌, ℕ, suc, ◌+◌, ◌*◌, ◌^◌, ◌<◌, ◌≤◌, Bool, true, false, List, [], ◌∷◌, length, if◌then◌else◌, arith}
+use Rattle.std.proofs.Common.{◌≡◌, ℕ, suc, ◌+◌, ◌*◌, ◌^◌, ◌≤◌, Bool, true, false, List, [], ◌∷◌, length, if◌then◌else◌, arith}
 use Rattle.std.specs.List.{AllByRecursion}
 use Rattle.std.proofs.Math.Nat.{mul-le-mul_left}
 use Rattle.std.proofs.lemmas.List.{length-append}
-use Rattle.std.proofs.lemmas.List.Sums.{length-filter, count_by-le-length}
 use Rattle.adr_model.specs.declared.entry.Entry.{Entry}
 use Rattle.adr_index.specs.declared.chunk.Chunk.{Chunk}
 use Rattle.adr_index.specs.declared.query.Query.{Query}
 use Rattle.adr_index.specs.Chunks.{all_listed, listed, AreChunks}
 use Rattle.adr_index.specs.Index.{digits, most_probes}
-use Rattle.adr_index.specs.Query.{any_late, hits, is_hit, looks, reached}
+use Rattle.adr_index.specs.Query.{any_late, hits, looks, reached}
 
 pub chunks_few : (cs : List Chunk) → AreChunks cs → length cs ≤ length (all_listed cs)
 chunks_few [] h = omega arith
@@ -31,19 +30,8 @@ reached_most es q = either (any_late es q)
     either true = omega arith
     either false = omega arith
 
-hits_fewer : (es : List Entry) (q : Query) → length (hits es q) ≤ length es
-hits_fewer es q = rw (length-filter (is_hit q) es) (count_by-le-length (is_hit q) es)
-
 paid : (d r m : ℕ) → r ≤ m + 1 → 1 + 2 * (d + (d + 1)) * r ≤ 4 * (d + 1) * (m + 1)
 paid d r m h = omega (arith, mul-le-mul_left (4 * d + 2) h)
 
 pub looks_few : (es : List Entry) (q : Query) → looks (digits (length es) + (digits (length es) + 1)) es q ≤ most_probes es (length (hits es q))
 looks_few es q = paid (digits (length es)) (reached es q) (length (hits es q)) (reached_most es q)
-
-pub looks_room : (es : List Entry) (q : Query) → looks (digits (length es) + (digits (length es) + 1)) es q ≤ most_probes es (length es)
-looks_room es q = paid (digits (length es)) (reached es q) (length es) (omega (arith, reached_most es q, hits_fewer es q))
-
-pub looks_fit : (d : ℕ) (es : List Entry) (q : Query) → d ≤ 64 → length es < 2 ^ 64 → looks (d + (d + 1)) es q < 2 ^ 128
-looks_fit d es q small short =
-    let r : reached es q ≤ 2 ^ 64 = omega (arith, reached_most es q, hits_fewer es q) in
-    omega (arith, mul-le-mul_left (4 * d + 2) r, small)

@@ -278,7 +278,6 @@ impl Chunk {
         requires chunk { IsChunk self.now }
         requires depth { 2 * length self.now.entries.items ≤ 2 ^ depth }
         requires order { IsByStart self.now.entries.items }
-        requires room { meter.old + looks depth self.now.entries.items query.now < 2 ^ 128 }
         ensures found { OnOk result (found.new.items ≡ found.old.items ++ hits self.now.entries.items query.now) }
         ensures late { IfOk result (λ is_late. is_late ≡ any_late self.now.entries.items query.now) }
         ensures looks { meter.new ≤ meter.old + looks depth self.now.entries.items query.now }

@@ -352,7 +352,6 @@ impl Index {
 
     /// The entries that are asked for, with a tick for each look.
     fn find_counted(&self, query: &Query, meter: &mut Meter) -> Result<Vec<Entry>, AllocError>
-        requires { meter.old + most_probes self.now.entries (length self.now.entries) < 2 ^ 128 }
         ensures found { IfOk result (λ found. found.items ≡ hits self.now.entries query.now) }
         ensures probes { meter.new ≤ meter.old + most_probes self.now.entries (length (hits self.now.entries query.now)) }
     {
@@ -374,19 +373,8 @@ impl Index {
     fn find(&self, query: &Query) -> Result<Vec<Entry>, AllocError>
         ensures { IfOk result (λ found. found.items ≡ hits self.now.entries query.now) }
     {
-        let mut found = Vec::with_capacity(*self.tops.allocator(), OFTEN)?;
         let mut meter = Meter::new();
-        let depth = digits(self.table.count);
-        search_chunks(
-            depth,
-            depth + 1,
-            &self.table.chunks,
-            &self.tops,
-            query,
-            &mut found,
-            &mut meter,
-        )?;
-        Ok(found)
+        self.find_counted(query, &mut meter)
     }
 
     /// The entries that cover the moment, in order. Cost: as much as [`Index::covering_counted`] says.
@@ -427,7 +415,6 @@ impl Index {
     ///
     /// `NoMemory` where there is no room for them.
     pub fn covering_counted(&self, at: Moment, meter: &mut Meter) -> Result<Vec<Entry>, Refusal>
-        requires { meter.old + most_probes self.now.entries (length self.now.entries) < 2 ^ 128 }
         ensures found { IfOk result (λ found. found.items ≡ covering self.now.entries at) }
         ensures probes { meter.new ≤ meter.old + most_probes self.now.entries (length (covering self.now.entries at)) }
         ensures refused { OnlyNoMemory result }
@@ -448,7 +435,6 @@ impl Index {
         window: Span,
         meter: &mut Meter,
     ) -> Result<Vec<Entry>, Refusal>
-        requires { meter.old + most_probes self.now.entries (length self.now.entries) < 2 ^ 128 }
         ensures found { IfOk result (λ found. found.items ≡ meeting self.now.entries window) }
         ensures probes { meter.new ≤ meter.old + most_probes self.now.entries (length (meeting self.now.entries window)) }
         ensures refused { OnlyNoMemory result }

@@ -27,7 +27,6 @@ fn scan_chunks(
     requires chunks { AreChunks chunks.now }
     requires depth { AllByRecursion (λ c. 2 * length (listed c) ≤ 2 ^ depth) chunks.now }
     requires order { IsByStart (all_listed chunks.now) }
-    requires room { meter.old + length chunks.now + 2 * depth * reached (all_listed chunks.now) query.now < 2 ^ 128 }
     ensures found { OnOk result (found.new.items ≡ found.old.items ++ hits (all_listed chunks.now) query.now) }
     ensures late { IfOk result (λ is_late. is_late ≡ any_late (all_listed chunks.now) query.now) }
     ensures looks { meter.new ≤ meter.old + length chunks.now + 2 * depth * reached (all_listed chunks.now) query.now }
@@ -67,7 +66,6 @@ pub(crate) fn search_chunks(
     requires lengths { length chunks.now ≤ length tops.now + 1 }
     requires tree { IsTree listed 6 levels chunks.now tops.now }
     requires order { IsByStart (all_listed chunks.now) }
-    requires room { meter.old + looks (levels + depth) (all_listed chunks.now) query.now < 2 ^ 128 }
     ensures found { OnOk result (found.new.items ≡ found.old.items ++ hits (all_listed chunks.now) query.now) }
     ensures late { IfOk result (λ is_late. is_late ≡ any_late (all_listed chunks.now) query.now) }
     ensures looks { meter.new ≤ meter.old + looks (levels + depth) (all_listed chunks.now) query.now }

@@ -52,7 +52,6 @@ fn scan(
     meter: &mut Meter,
 ) -> Result<bool, AllocError>
     requires order { IsByStart entries.now }
-    requires room { meter.old + length entries.now < 2 ^ 128 }
     ensures found { OnOk result (found.new.items ≡ found.old.items ++ hits entries.now query.now) }
     ensures late { IfOk result (λ is_late. is_late ≡ any_late entries.now query.now) }
     ensures looks { meter.new ≤ meter.old + length entries.now }
@@ -92,7 +91,6 @@ pub(crate) fn search(
     requires lengths { length entries.now ≤ length greatest.now + 1 }
     requires tree { IsTree only 8 levels entries.now greatest.now }
     requires order { IsByStart entries.now }
-    requires room { meter.old + looks levels entries.now query.now < 2 ^ 128 }
     ensures found { OnOk result (found.new.items ≡ found.old.items ++ hits entries.now query.now) }
     ensures late { IfOk result (λ is_late. is_late ≡ any_late entries.now query.now) }
     ensures looks { meter.new ≤ meter.old + looks levels entries.now query.now }

@@ -39,7 +39,6 @@ fn reseated_in<C: Fn(&Indexes, &[Job]) -> Result<Vec<Done>, Refusal>>(
     requires kept { KeepsEvents edited.now.old.now.objects edited.now.new.now.objects }
     requires places { (p : ℕ) → is_among places.now p ≡ true → p < length edited.now.new.now.objects.resources }
     requires seated { AreSeatedBut edited.now.tie edited.now.new.now.objects places.now schedule }
-    requires room { meter.old + length places.now * most_reseated < 2 ^ 128 }
     ensures seated { IfOk result (AreSeatedFor edited.now.tie edited.now.new.now.objects) }
     ensures least { OnOk result (meter.new ≤ meter.old + sum_by (most_reseated_at edited.now.new.now.objects schedule) places.now) }
     ensures refusal { OnlyNoMemory result }

@@ -136,7 +136,6 @@ pub(crate) fn with_writes<C: Fn(&Indexes, &[Job]) -> Result<Vec<Done>, Refusal>>
 ) -> Result<Schedule, Refusal>
     requires crew { IsCrew (λ v. v.items) (C.pre crew.now) (C.post crew.now) }
     requires within { spot.place < length schedule.now.seats }
-    requires room { (most : ℕ) × IsMostOf basis.now.tie basis.now.new.now.objects.events basis.now.indexes.now most × ((g : Lines) → group_at schedule.now spot.place ≡ Some g → meter.old + (length g.writes + length writes.now) * most < 2 ^ 128) }
     ensures writes { IfOk result (λ after. IsRewritten spot.place writes.now schedule.now after) }
     ensures right { IfOk result (λ after. IsIndexOf basis.now.tie basis.now.new.now.objects.events basis.now.indexes.now → AreRight basis.now.tie basis.now.new.now.objects.events schedule.now → AreRight basis.now.tie basis.now.new.now.objects.events after) }
     ensures compared { (g : Lines) (most : ℕ) → group_at schedule.now spot.place ≡ Some g → IsMostOf basis.now.tie basis.now.new.now.objects.events basis.now.indexes.now most → meter.new ≤ meter.old + (length g.writes + length writes.now) * most }

@@ -138,7 +138,6 @@ fn reseated<C: Fn(&Indexes, &[Job]) -> Result<Vec<Done>, Refusal>>(
     requires basis { IsBasis basis.now }
     requires writes { AreWritesAt basis.now.new.now.objects spot.place writes.now }
     requires seated { AreSeatedBut basis.now.tie basis.now.new.now.objects (spot.place ∷ others.now) schedule.now }
-    requires room { meter.old + most_reseated < 2 ^ 128 }
     ensures seated { IfOk result (AreSeatedBut basis.now.tie basis.now.new.now.objects others.now) }
     ensures compared { meter.new ≤ meter.old + most_reseated }
     ensures least { OnOk result (meter.new ≤ meter.old + most_reseated_at basis.now.new.now.objects schedule.now spot.place) }
@@ -172,7 +171,6 @@ pub(crate) fn reseated_all<C: Fn(&Indexes, &[Job]) -> Result<Vec<Done>, Refusal>
     requires places { (p : ℕ) → is_among places.now p ≡ true → p < length basis.now.new.now.objects.resources }
     requires basis { IsBasis basis.now }
     requires seated { AreSeatedBut basis.now.tie basis.now.new.now.objects places.now schedule }
-    requires room { meter.old + length places.now * most_reseated < 2 ^ 128 }
     ensures seated { IfOk result (AreSeatedFor basis.now.tie basis.now.new.now.objects) }
     ensures compared { meter.new ≤ meter.old + length places.now * most_reseated }
     ensures least { OnOk result (meter.new ≤ meter.old + sum_by (most_reseated_at basis.now.new.now.objects schedule) places.now) }

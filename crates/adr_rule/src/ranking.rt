@@ -1,12 +1,12 @@
 //! Which of two ranks goes first, and the count of such comparisons.
-ghost use Rattle.std.specs.Prelude.{◌≡◌, ◌+◌, ◌<◌, ◌^◌};
+ghost use Rattle.std.specs.Prelude.{◌≡◌, ◌+◌, ◌-◌, ◌<◌, ◌≤◌, ◌^◌, min};
 ghost use Rattle.adr_model.specs.Rank.{breaks_tie, goes_before};
 ghost use Rattle.adr_rule.specs.Laws.{GoingBeforePassesOn, NoneGoesBeforeItself, OneOfTwoGoesBefore};
 
 use adr_model::Rank;
 use std::marker::Model;
 
-/// Counts comparisons and probes. Contracts see the count.
+/// Counts comparisons and probes, up to 2^128 - 1, where it stays. Contracts see the count.
 #[derive(Drop, Debug)]
 pub struct Meter {
     count: u128,
@@ -38,18 +38,18 @@ impl Meter {
 
     /// Counts one more.
     pub fn tick(&mut self)
-        requires { self.old + 1 < 2 ^ 128 }
-        ensures { self.new ≡ self.old + 1 }
+        ensures counted { self.new ≡ min (self.old + 1) (2 ^ 128 - 1) }
+        ensures most { self.new ≤ self.old + 1 }
     {
-        self.count += 1;
+        self.count = self.count.saturating_add(1);
     }
 
     /// Counts that many more, as another meter counted them.
     pub fn add(&mut self, more: u128)
-        requires { self.old + more < 2 ^ 128 }
-        ensures { self.new ≡ self.old + more }
+        ensures counted { self.new ≡ min (self.old + more) (2 ^ 128 - 1) }
+        ensures most { self.new ≤ self.old + more }
     {
-        self.count += more;
+        self.count = self.count.saturating_add(more);
     }
 }
 
@@ -66,9 +66,9 @@ fn goes_first(a: &Rank, b: &Rank) -> bool
 /// lesser `late` (where ties go to the latest start, minus the start), then the later write, then the earlier place.
 /// It counts one comparison.
 pub fn before(a: &Rank, b: &Rank, meter: &mut Meter) -> bool
-    requires room { meter.old + 1 < 2 ^ 128 }
     ensures order { result ≡ goes_before a.now b.now }
-    ensures counted { meter.new ≡ meter.old + 1 }
+    ensures counted { meter.new ≡ min (meter.old + 1) (2 ^ 128 - 1) }
+    ensures most { meter.new ≤ meter.old + 1 }
 {
     meter.tick();
     a.priority < b.priority || (a.priority == b.priority && goes_first(a, b))

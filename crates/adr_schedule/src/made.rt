@@ -165,7 +165,6 @@ fn all_jobs<R: Ranks>(
 
 /// Counts what was compared for all.
 fn count(meter: &mut Meter, done: &[Done])
-    requires { meter.old + sum_by (λ d. d.compared) done.now < 2 ^ 128 }
     ensures { meter.new ≡ meter.old + sum_by (λ d. d.compared) done.now }
 {
     let mut rest = done;
@@ -249,7 +248,6 @@ fn done_by<C: Fn(&Indexes, &[Job]) -> Result<Vec<Done>, Refusal>>(
     crew: &C,
     jobs: &[Job],
 ) -> Result<Vec<Done>, Refusal>
-    requires room { sum_by (most_done indexes.now) jobs.now < 2 ^ 128 }
     requires crew { IsCrew (λ v. v.items) (C.pre crew.now) (C.post crew.now) }
     ensures done { IfOk result (λ done. AreDone indexes.now jobs.now done.items) }
     ensures refusal { OnlyNoMemory result }
@@ -267,7 +265,6 @@ pub(crate) fn one_made_by<C: Fn(&Indexes, &[Job]) -> Result<Vec<Done>, Refusal>>
     meter: &mut Meter,
 ) -> Result<Group, Refusal>
     requires own { HaveOwnTypes draft.now.windows.items }
-    requires room { meter.old + most_repaired draft.now.windows.items draft.now.writes indexes.now < 2 ^ 128 }
     requires crew { IsCrew (λ v. v.items) (C.pre crew.now) (C.post crew.now) }
     ensures made { IfOk result (IsMadeOf indexes.now draft.now) }
     ensures compared { meter.new ≤ meter.old + most_repaired draft.now.windows.items draft.now.writes indexes.now }
@@ -293,7 +290,6 @@ pub(crate) fn made_by<C: Fn(&Indexes, &[Job]) -> Result<Vec<Done>, Refusal>, R: 
 ) -> Result<SharedMap<u64, Group>, Refusal>
     requires drafts { AreDraftsOf change.now drafts.now }
     requires laid { IsLaidBy (option_map R.rank (option_copied ranks)) indexes.now change.now }
-    requires room { meter.old + most_drafted indexes.now drafts.now < 2 ^ 128 }
     requires crew { IsCrew (λ v. v.items) (C.pre crew.now) (C.post crew.now) }
     ensures made { IfOk result (AreMadeOf indexes.now drafts.now) }
     ensures compared { meter.new ≤ meter.old + most_drafted indexes.now drafts.now }

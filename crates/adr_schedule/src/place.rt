@@ -57,7 +57,6 @@ fn remade<C: Fn(&Indexes, &[Job]) -> Result<Vec<Done>, Refusal>>(
     meter: &mut Meter,
 ) -> Result<Group, Refusal>
     requires crew { IsCrew (λ v. v.items) (C.pre crew.now) (C.post crew.now) }
-    requires room { meter.old + most_possible windows.now indexes.now < 2 ^ 128 }
     ensures writes { IfOk result (λ made. made.writes ≡ writes.now) }
     ensures right { IfOk result (λ made. (tie : Tie) (events : List Written) → IsIndexOf tie events indexes.now → AreWindowsOf events group.now.writes writes.now (entries_under windows.now) → IsRightOf tie events group.now → IsRightOf tie events made) }
     ensures compared { meter.new ≤ meter.old + most_possible windows.now indexes.now }
@@ -266,7 +265,6 @@ impl Schedule {
     ) -> Result<Schedule, Refusal>
         requires within { place < length self.now.seats }
         requires crew { IsCrew (λ v. v.items) (C.pre crew.now) (C.post crew.now) }
-        requires room { meter.old + most_possible windows.now indexes.now < 2 ^ 128 }
         ensures writes { IfOk result (λ after. IsRewritten place writes.now self.now after) }
         ensures right { IfOk result (λ after. StaysRightInside indexes.now windows.now place writes.now self.now after) }
         ensures compared { meter.new ≤ meter.old + most_possible windows.now indexes.now }

@@ -159,7 +159,6 @@ impl Schedule {
         requires two { AreTwo change.now }
         requires laid { IsLaidBy (option_map R.rank (option_copied ranks)) indexes.now change.now }
         requires crew { IsCrew (λ v. v.items) (C.pre crew.now) (C.post crew.now) }
-        requires room { meter.old + length places.now * most_possible (sides_of change.now) indexes.now < 2 ^ 128 }
         ensures made { IfOk result (λ made. AreMadeFor (Becomes change.now indexes.now) places.now self.now.seats self.now.groups made.groups) }
         ensures all { IfOk result (λ made. IfSome made.slots (λ slots. AreAllOf self.now.seats places.now slots.items)) }
         ensures compared { meter.new ≤ meter.old + length places.now * most_possible (sides_of change.now) indexes.now }
@@ -218,7 +217,6 @@ impl Schedule {
         requires two { AreTwo change.now }
         requires laid { IsLaidBy (option_map R.rank (option_copied ranks)) indexes.now change.now }
         requires crew { IsCrew (λ v. v.items) (C.pre crew.now) (C.post crew.now) }
-        requires room { meter.old + length places.now * most_possible (sides_of change.now) indexes.now < 2 ^ 128 }
         ensures shifted { IfOk result (λ after. IsShifted (number_in change.now.gone) (number_in change.now.come) places.now self.now after) }
         ensures right { IfOk result (λ after. (tie : Tie) (events : List Written) → IsIndexOf tie events indexes.now → AreSidesOf tie events change.now → AreRight tie events self.now → AreRight tie events after) }
         ensures compared { meter.new ≤ meter.old + length places.now * most_possible (sides_of change.now) indexes.now }

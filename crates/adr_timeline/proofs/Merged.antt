@@ -131,14 +131,8 @@ module _ (left right done new : List Step) (a b r : Option Rank) (i j now later 
     compared = omega (arith, so_far.compared, cost, (both_rise a x.rank).1, ap rises (taken right j x lt h));
   }
 
--- there is room to compare the next step, and no more is compared then
-module _ (left right done : List Step) (a b : Option Rank) (i j now start most : ℕ) (x : Step) (so_far : IsBegun left right done a b i j now start) (room : start + (rises left + rises right) < most) where
-  pub room_left : i < length left → x ≡ get_or left i x → now + rise x.rank * rise b < most
-  room_left lt h = omega (arith, so_far.compared, room, (both_rise x.rank b).0, ap rises (taken left i x lt h))
-
-  pub room_right : j < length right → x ≡ get_or right j x → now + rise a * rise x.rank < most
-  room_right lt h = omega (arith, so_far.compared, room, (both_rise a x.rank).1, ap rises (taken right j x lt h))
-
+-- with the next step no more is compared
+module _ (left right done : List Step) (a b : Option Rank) (i j now start : ℕ) (x : Step) (so_far : IsBegun left right done a b i j now start) where
   pub over_left : (later : ℕ) → i < length left → x ≡ get_or left i x → later ≤ now + rise x.rank * rise b → later ≤ start + (rises left + rises right)
   over_left later lt h cost = omega (arith, so_far.compared, cost, (both_rise x.rank b).0, ap rises (taken left i x lt h))
 

@@ -1,5 +1,5 @@
 -- Steps of one entry, and the segments of a list of steps.
-use Rattle.std.proofs.Common.{◌≡◌, ℕ, ◌+◌, ◌*◌, ◌-◌, ◌/◌, ◌<◌, ◌≤◌, not, ◌&&◌, Bool, true, false, List, [], ◌∷◌, ◌++◌, length, take, drop, Option, Some, None, filter, inl, inr, if◌then◌else◌, append_assoc, length-append, refl, sym, ◌∙◌, ap, arith, ℤ, ◌≤ℤ◌, int_le, int_lt}
+use Rattle.std.proofs.Common.{◌≡◌, ℕ, ◌+◌, ◌*◌, ◌-◌, ◌/◌, ◌≤◌, not, ◌&&◌, Bool, true, false, List, [], ◌∷◌, ◌++◌, length, take, drop, Option, Some, None, filter, inl, inr, if◌then◌else◌, append_assoc, length-append, refl, sym, ◌∙◌, ap, arith, ℤ, ◌≤ℤ◌, int_le, int_lt}
 use Rattle.std.specs.Option.{option_map}
 use Rattle.std.proofs.Math.Nat.{mul-le-mul_left}
 use Rattle.std.proofs.lemmas.List.{length-take-le, length-drop, take-append-drop}
@@ -180,14 +180,8 @@ halved front back all first later p n f b =
       back_some = omega arith;
     }
 
-pub back_room : (front back all : List Entry) (before now limit : ℕ) → IsHalved front back all → before + cost (length all) < limit → now ≤ before + cost (length front) → now + cost (length back) < limit
-back_room front back all before now limit h room so_far = omega (arith, both_cost (length front) (length back) (length all) h.whole)
-
 pub both_within : (front back all : List Entry) (before between now : ℕ) → IsHalved front back all → between ≤ before + cost (length front) → now ≤ between + cost (length back) → now ≤ before + cost (length all)
 both_within front back all before between now h first second = omega (arith, both_cost (length front) (length back) (length all) h.whole)
-
-pub merge_room : (front back all : List Entry) (before between later left right limit : ℕ) → IsHalved front back all → before + cost (length all) < limit → between ≤ before + cost (length front) → later ≤ between + cost (length back) → left ≤ 2 * length front → right ≤ 2 * length back → later + (left + right) < limit
-merge_room front back all before between later left right limit h room first second l r = omega (arith, halves_cost (length front) (length back) (length all) h.whole h.front_some h.back_some)
 
 pub all_within : (front back all : List Entry) (before between later now left right : ℕ) → IsHalved front back all → between ≤ before + cost (length front) → later ≤ between + cost (length back) → left ≤ 2 * length front → right ≤ 2 * length back → now ≤ later + (left + right) → now ≤ before + cost (length all)
 all_within front back all before between later now left right h first second l r merge = omega (arith, halves_cost (length front) (length back) (length all) h.whole h.front_some h.back_some)

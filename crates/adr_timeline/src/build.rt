@@ -59,7 +59,6 @@ fn join_window(
     window: &Span,
     meter: &mut Meter,
 ) -> Result<(), Refusal>
-    requires room { meter.old + most_compared near.now window.now < 2 ^ 128 }
     ensures taken { OnOk result (Takes (meeting near.now window.now) window.now line.old line.new) }
     ensures compared { meter.new ≤ meter.old + most_compared near.now window.now }
     ensures refused { OnlyNoMemory result }
@@ -84,7 +83,6 @@ pub(crate) fn join_windows<S: Source>(
 ) -> Result<(), Refusal>
     requires empty { line.old ≡ [] }
     requires apart { IsTrue (are_apart windows.now) }
-    requires room { meter.old + most_compared_all (S.entries source.now) windows.now < 2 ^ 128 }
     ensures canonical { OnOk result (IsCanonical line.new) }
     ensures shows { OnOk result ((t : ℤ) → shows line.new t ≡ (if any_covers windows.now t then winner_at (S.entries source.now) t else None)) }
     ensures compared { meter.new ≤ meter.old + most_compared_all (S.entries source.now) windows.now }

@@ -124,7 +124,6 @@ fn merged<R: StepList>(
     right: R,
     meter: &mut Meter,
 ) -> Result<Vec<Step>, AllocError>
-    requires room { meter.old + (rises left.now + rises (R.listed right)) < 2 ^ 128 }
     requires left { IsInOrder left.now }
     requires right { IsInOrder (R.listed right) }
     ensures merged { IfOk result (λ steps. IsMergeOf left.now (R.listed right) steps.items) }
@@ -144,7 +143,6 @@ pub(crate) fn steps_over(
     run: &[Entry],
     meter: &mut Meter,
 ) -> Result<Vec<Step>, AllocError>
-    requires room { meter.old + (length shown.now + length run.now) < 2 ^ 128 }
     requires shown { IsTrue (is_run shown.now) }
     requires in_turn { IsTrue (is_run run.now) }
     ensures order { IfOk result (λ steps. IsInOrder steps.items) }

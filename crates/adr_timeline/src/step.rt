@@ -20,7 +20,6 @@ pub(crate) struct Step {
 
 /// The rank that goes before the other, where there are two: only then they are compared.
 fn lesser(first: Option<Rank>, second: Option<Rank>, meter: &mut Meter) -> Option<Rank>
-    requires { meter.old + rise first * rise second < 2 ^ 128 }
     ensures lesser { result ≡ lesser first second }
     ensures compared { meter.new ≤ meter.old + rise first * rise second }
 {
@@ -58,7 +57,6 @@ pub(crate) fn merge<R: StepList>(
     right: R,
     meter: &mut Meter,
 ) -> Result<(), AllocError>
-    requires room { meter.old + (rises left.now + rises (R.listed right)) < 2 ^ 128 }
     requires left { IsInOrder left.now }
     requires right { IsInOrder (R.listed right) }
     ensures merged { OnOk result (Adds (IsMergeOf left.now (R.listed right)) steps.old.items steps.new.items) }
@@ -152,7 +150,6 @@ fn rank_over_run(
     run: &[Entry],
     meter: &mut Meter,
 ) -> Result<(), AllocError>
-    requires room { meter.old + 2 * (1 + length run.now) < 2 ^ 128 }
     requires in_turn { IsTrue (are_in_turn run.now) }
     ensures ranked { OnOk result (Adds (AreRanked (one.now ∷ run.now)) steps.old.items steps.new.items) }
     ensures kept { OnOk result (other.new.items ≡ other.old.items) }
@@ -176,7 +173,6 @@ fn merge_from(
     meter: &mut Meter,
 ) -> Result<(), AllocError>
     requires places { (start ≤ middle) × (middle ≤ length other.old.items) }
-    requires room { meter.old + (rises (drop start (take middle other.old.items)) + rises (drop middle other.old.items)) < 2 ^ 128 }
     requires left { IsInOrder (drop start (take middle other.old.items)) }
     requires right { IsInOrder (drop middle other.old.items) }
     ensures merged { OnOk result (Adds (IsMergeOf (drop start (take middle other.old.items)) (drop middle other.old.items)) steps.old.items steps.new.items) }
@@ -198,7 +194,6 @@ fn rank(
     entries: &[Entry],
     meter: &mut Meter,
 ) -> Result<(), AllocError>
-    requires { meter.old + length entries.now * (2 * length entries.now + 1) < 2 ^ 128 }
     ensures ranked { OnOk result (Adds (AreRanked entries.now) steps.old.items steps.new.items) }
     ensures kept { OnOk result (other.new.items ≡ other.old.items) }
     ensures compared { meter.new ≤ meter.old + length entries.now * (2 * length entries.now + 1) }
@@ -229,7 +224,6 @@ pub(crate) fn rank_anew(
     entries: &[Entry],
     meter: &mut Meter,
 ) -> Result<(), AllocError>
-    requires { meter.old + length entries.now * (2 * length entries.now + 1) < 2 ^ 128 }
     ensures order { OnOk result (IsInOrder steps.new.items) }
     ensures few { OnOk result (length steps.new.items ≤ 2 * length entries.now) }
     ensures ranks { OnOk result ((t : ℤ) → rank_from None steps.new.items t ≡ rank_at entries.now t) }
@@ -251,7 +245,6 @@ pub(crate) fn ranked(
     entries: &[Entry],
     meter: &mut Meter,
 ) -> Result<Vec<Step>, AllocError>
-    requires { meter.old + length entries.now * (2 * length entries.now + 1) < 2 ^ 128 }
     ensures order { IfOk result (λ steps. IsInOrder steps.items) }
     ensures few { IfOk result (λ steps. length steps.items ≤ 2 * length entries.now) }
     ensures ranks { IfOk result (λ steps. (t : ℤ) → rank_from None steps.items t ≡ rank_at entries.now t) }

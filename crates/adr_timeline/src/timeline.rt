@@ -121,7 +121,6 @@ fn laid_in(
     window: Span,
     meter: &mut Meter,
 ) -> Result<Timeline, Refusal>
-    requires room { meter.old + (length shown.now + length entries.now) < 2 ^ 128 }
     requires shown { IsTrue (is_run shown.now) }
     requires in_turn { IsTrue (is_run entries.now) }
     ensures shows { IfOk result (λ timeline. (t : ℤ) → shows timeline t ≡ (if covers window t then option_map winner_of_rank (lesser (rank_at shown.now t) (rank_at entries.now t)) else None)) }
@@ -160,7 +159,6 @@ impl Timeline {
         window: Span,
         meter: &mut Meter,
     ) -> Result<Timeline, Refusal>
-        requires { meter.old + most_compared entries.now window < 2 ^ 128 }
         ensures canonical { IfOk result (λ timeline. IsCanonical timeline) }
         ensures shows { IfOk result (λ timeline. (t : ℤ) → shows timeline t ≡ (if covers window t then winner_at entries.now t else None)) }
         ensures compared { meter.new ≤ meter.old + most_compared entries.now window }
@@ -189,7 +187,6 @@ impl Timeline {
         meter: &mut Meter,
     ) -> Result<Timeline, Refusal>
         requires apart { IsTrue (are_apart windows.now) }
-        requires room { meter.old + most_compared_all (S.entries source.now) windows.now < 2 ^ 128 }
         ensures canonical { IfOk result (λ timeline. IsCanonical timeline) }
         ensures shows { IfOk result (λ timeline. (t : ℤ) → shows timeline t ≡ (if any_covers windows.now t then winner_at (S.entries source.now) t else None)) }
         ensures compared { meter.new ≤ meter.old + most_compared_all (S.entries source.now) windows.now }
@@ -207,7 +204,6 @@ impl Timeline {
         window: Span,
         meter: &mut Meter,
     ) -> Result<Timeline, Refusal>
-        requires { meter.old + length entries.now * (2 * length entries.now + 1) < 2 ^ 128 }
         ensures canonical { IfOk result (λ timeline. IsCanonical timeline) }
         ensures shows { IfOk result (λ timeline. (t : ℤ) → shows timeline t ≡ (if covers window t then winner_at entries.now t else None)) }
         ensures compared { meter.new ≤ meter.old + length entries.now * (2 * length entries.now + 1) }
@@ -371,7 +367,6 @@ impl Timeline {
         entries: &[Entry],
         meter: &mut Meter,
     ) -> Result<Timeline, Refusal>
-        requires room { meter.old + (length shown.now + length entries.now) < 2 ^ 128 }
         requires shown { IsTrue (is_run shown.now) }
         requires in_turn { IsTrue (is_run entries.now) }
         ensures canonical { IfOk result (λ timeline. IsCanonical timeline) }

@@ -7,10 +7,6 @@ use Rattle.adr_group.specs.Repair.{given_entries}
 use Rattle.adr_group.proofs.Seen.{parted, parted_cost, run_taken}
 use Rattle.adr_group.proofs.line.built_in.Goals as goal
 
-pub with_built-requires-clause-room : goal.with_built-requires-clause-room
-with_built-requires-clause-room c =
-    omega (arith, parted_cost (given_entries c.args.given.now) c.split_at.result.0.now c.split_at.result.1.now c.rest.rest.now (parted c.split_at.result.0.now c.split_at.result.1.now c.rest.rest.now _ c.split_at.ensures.front c.split_at.ensures.back c.rest.invariant.last), c.rest.invariant.compared, c.requires.room)
-
 pub returns-in_err-inner-clause-compared : goal.returns-in_err-inner-clause-compared
 returns-in_err-inner-clause-compared c =
     omega (arith, parted_cost (given_entries c.args.given.now) c.split_at.result.0.now c.split_at.result.1.now c.rest.rest.now (parted c.split_at.result.0.now c.split_at.result.1.now c.rest.rest.now _ c.split_at.ensures.front c.split_at.ensures.back c.rest.invariant.last), c.rest.invariant.compared, c.with_built.ensures.compared)

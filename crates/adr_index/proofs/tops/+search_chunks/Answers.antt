@@ -20,28 +20,19 @@ returns-then-not-any_chunk_reaches-clause-late t c =
     let none : any_lasts (all_listed c.args.chunks.now) c.args.query.now.from ≡ false = sym c.any_chunk_reaches.ensures ∙ c.if-not-any_chunk_reaches.true in
     sym (none_late_last (all_listed c.args.chunks.now) c.args.query.now none)
 
-pub scan_chunks-requires-then-count-le-FEW-clause-room : goal.scan_chunks-requires-then-count-le-FEW-clause-room
-scan_chunks-requires-then-count-le-FEW-clause-room t c =
-    let two : 1 < length c.args.chunks.now = c.if-count-lt2.false in
-    let last : any_lasts (all_listed c.args.chunks.now) c.args.query.now.from ≡ true = sym c.any_chunk_reaches.ensures ∙ c.if-not-any_chunk_reaches.false in
-    let cost = few_chunks_paid c.args.levels c.args.depth (length c.args.chunks.now) (reached (all_listed c.args.chunks.now) c.args.query.now) (reached_some (all_listed c.args.chunks.now) c.args.query.now last) (few_levels c.args.levels (length c.args.chunks.now) two (c.if-count-le-FEW.true) c.requires.levels) in
-    omega (arith, cost, c.tick.ensures, c.requires.room)
-
 pub returns-then-count-le-FEW-clause-looks : goal.returns-then-count-le-FEW-clause-looks
 returns-then-count-le-FEW-clause-looks t c =
     let two : 1 < length c.args.chunks.now = c.if-count-lt2.false in
     let last : any_lasts (all_listed c.args.chunks.now) c.args.query.now.from ≡ true = sym c.any_chunk_reaches.ensures ∙ c.if-not-any_chunk_reaches.false in
     let cost = few_chunks_paid c.args.levels c.args.depth (length c.args.chunks.now) (reached (all_listed c.args.chunks.now) c.args.query.now) (reached_some (all_listed c.args.chunks.now) c.args.query.now last) (few_levels c.args.levels (length c.args.chunks.now) two (c.if-count-le-FEW.true) c.requires.levels) in
-    omega (arith, cost, c.tick.ensures, c.scan_chunks-then-count-le-FEW.ensures.looks)
+    omega (arith, cost, c.tick.ensures.most, c.scan_chunks-then-count-le-FEW.ensures.looks)
 
 pub search_chunks-requires : goal.search_chunks-requires
 search_chunks-requires t c =
     let two : 1 < length c.args.chunks.now = c.if-count-lt2.false in
     let more : 6 < length c.args.chunks.now = c.if-count-le-FEW.false in
     let level : 0 < c.args.levels = level_some c.args.levels (length c.args.chunks.now) two c.requires.levels in
-    let last : any_lasts (all_listed c.args.chunks.now) c.args.query.now.from ≡ true = sym c.any_chunk_reaches.ensures ∙ c.if-not-any_chunk_reaches.false in
-    let whole = both_halves c.args.chunks.now c.split_at.result.0.now c.split_at.result.1.now (length c.args.chunks.now / 2) c.split_at.ensures.front c.split_at.ensures.back in
-    let cost = left_paid c.args.chunks.now c.split_at.result.0.now c.split_at.result.1.now c.args.query.now c.args.levels c.args.depth whole level last in (
+    let whole = both_halves c.args.chunks.now c.split_at.result.0.now c.split_at.result.1.now (length c.args.chunks.now / 2) c.split_at.ensures.front c.split_at.ensures.back in (
       search rules,
       (
         rw c.split_at.ensures.front (each_taken IsChunk (length c.args.chunks.now / 2) c.args.chunks.now c.requires.chunks),
@@ -53,7 +44,7 @@ search_chunks-requires t c =
               omega (arith, c.split_at.ensures.front_len, c.split_at-2.ensures.front_len),
               (
                 rw (c.split_at.ensures.front, c.split_at-2.ensures.front) ((tree_at listed 6 c.args.levels c.args.chunks.now c.args.tops.now level two c.requires.tree).1 more).0,
-                (starts_left (all_listed c.split_at.result.0.now) (all_listed c.split_at.result.1.now) (rw whole at c.requires.order), omega (arith, cost, c.tick.ensures, c.requires.room)),
+                starts_left (all_listed c.split_at.result.0.now) (all_listed c.split_at.result.1.now) (rw whole at c.requires.order),
               ),
             ),
           ),
@@ -68,7 +59,7 @@ returns-in_err-search_chunks-clause-looks t c =
     let last : any_lasts (all_listed c.args.chunks.now) c.args.query.now.from ≡ true = sym c.any_chunk_reaches.ensures ∙ c.if-not-any_chunk_reaches.false in
     let whole = both_halves c.args.chunks.now c.split_at.result.0.now c.split_at.result.1.now (length c.args.chunks.now / 2) c.split_at.ensures.front c.split_at.ensures.back in
     let cost = left_paid c.args.chunks.now c.split_at.result.0.now c.split_at.result.1.now c.args.query.now c.args.levels c.args.depth whole level last in
-    omega (arith, cost, c.tick.ensures, c.search_chunks.ensures.looks)
+    omega (arith, cost, c.tick.ensures.most, c.search_chunks.ensures.looks)
 
 pub returns-then-branch-clause-found : goal.returns-then-branch-clause-found
 returns-then-branch-clause-found t c =
@@ -82,17 +73,14 @@ returns-then-branch-clause-looks t c =
     let last : any_lasts (all_listed c.args.chunks.now) c.args.query.now.from ≡ true = sym c.any_chunk_reaches.ensures ∙ c.if-not-any_chunk_reaches.false in
     let whole = both_halves c.args.chunks.now c.split_at.result.0.now c.split_at.result.1.now (length c.args.chunks.now / 2) c.split_at.ensures.front c.split_at.ensures.back in
     let cost = left_paid c.args.chunks.now c.split_at.result.0.now c.split_at.result.1.now c.args.query.now c.args.levels c.args.depth whole level last in
-    omega (arith, cost, c.tick.ensures, c.search_chunks.ensures.looks)
+    omega (arith, cost, c.tick.ensures.most, c.search_chunks.ensures.looks)
 
 pub search_chunks-requires-2 : goal.search_chunks-requires-2
 search_chunks-requires-2 t c =
     let two : 1 < length c.args.chunks.now = c.if-count-lt2.false in
     let more : 6 < length c.args.chunks.now = c.if-count-le-FEW.false in
     let level : 0 < c.args.levels = level_some c.args.levels (length c.args.chunks.now) two c.requires.levels in
-    let last : any_lasts (all_listed c.args.chunks.now) c.args.query.now.from ≡ true = sym c.any_chunk_reaches.ensures ∙ c.if-not-any_chunk_reaches.false in
-    let whole = both_halves c.args.chunks.now c.split_at.result.0.now c.split_at.result.1.now (length c.args.chunks.now / 2) c.split_at.ensures.front c.split_at.ensures.back in
-    let early : any_late (all_listed c.split_at.result.0.now) c.args.query.now ≡ false = sym c.in_ok-search_chunks.ensures.late ∙ c.if-branch.false in
-    let cost = both_paid c.args.chunks.now c.split_at.result.0.now c.split_at.result.1.now c.args.query.now c.args.levels c.args.depth whole level last early in (
+    let whole = both_halves c.args.chunks.now c.split_at.result.0.now c.split_at.result.1.now (length c.args.chunks.now / 2) c.split_at.ensures.front c.split_at.ensures.back in (
       search rules,
       (
         rw c.split_at.ensures.back (each_left IsChunk (length c.args.chunks.now / 2) c.args.chunks.now c.requires.chunks),
@@ -104,7 +92,7 @@ search_chunks-requires-2 t c =
               omega (arith, c.split_at.ensures.back_len, c.split_at-3.ensures.back_len, c.requires.lengths),
               (
                 rw (c.split_at.ensures.back, c.split_at-3.ensures.back) ((tree_at listed 6 c.args.levels c.args.chunks.now c.args.tops.now level two c.requires.tree).1 more).1,
-                (starts_right (all_listed c.split_at.result.0.now) (all_listed c.split_at.result.1.now) (rw whole at c.requires.order), omega (arith, cost, c.tick.ensures, c.requires.room, c.search_chunks.ensures.looks)),
+                starts_right (all_listed c.split_at.result.0.now) (all_listed c.split_at.result.1.now) (rw whole at c.requires.order),
               ),
             ),
           ),
@@ -120,4 +108,4 @@ returns-clause-looks t c =
     let early : any_late (all_listed c.split_at.result.0.now) c.args.query.now ≡ false = sym c.in_ok-search_chunks.ensures.late ∙ c.if-branch.false in
     let whole = both_halves c.args.chunks.now c.split_at.result.0.now c.split_at.result.1.now (length c.args.chunks.now / 2) c.split_at.ensures.front c.split_at.ensures.back in
     let cost = both_paid c.args.chunks.now c.split_at.result.0.now c.split_at.result.1.now c.args.query.now c.args.levels c.args.depth whole level last early in
-    omega (arith, cost, c.tick.ensures, c.search_chunks.ensures.looks, c.search_chunks-2.ensures.looks)
+    omega (arith, cost, c.tick.ensures.most, c.search_chunks.ensures.looks, c.search_chunks-2.ensures.looks)

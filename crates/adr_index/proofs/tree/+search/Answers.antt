@@ -19,28 +19,19 @@ returns-then-not-any_reaches-clause-late t c =
     let none : any_lasts c.args.entries.now c.args.query.now.from ≡ false = sym c.any_reaches.ensures ∙ c.if-not-any_reaches.true in
     sym (none_late_last c.args.entries.now c.args.query.now none)
 
-pub scan-requires-then-count-le-FEW-clause-room : goal.scan-requires-then-count-le-FEW-clause-room
-scan-requires-then-count-le-FEW-clause-room t c =
-    let two : 1 < length c.args.entries.now = c.if-count-lt2.false in
-    let last : any_lasts c.args.entries.now c.args.query.now.from ≡ true = sym c.any_reaches.ensures ∙ c.if-not-any_reaches.false in
-    let cost = looks_few c.args.levels (length c.args.entries.now) c.args.entries.now c.args.query.now last (few_spared c.args.levels (length c.args.entries.now) two (c.if-count-le-FEW.true) c.requires.levels) in
-    omega (arith, cost, c.tick.ensures, c.requires.room)
-
 pub returns-then-count-le-FEW-clause-looks : goal.returns-then-count-le-FEW-clause-looks
 returns-then-count-le-FEW-clause-looks t c =
     let two : 1 < length c.args.entries.now = c.if-count-lt2.false in
     let last : any_lasts c.args.entries.now c.args.query.now.from ≡ true = sym c.any_reaches.ensures ∙ c.if-not-any_reaches.false in
     let cost = looks_few c.args.levels (length c.args.entries.now) c.args.entries.now c.args.query.now last (few_spared c.args.levels (length c.args.entries.now) two (c.if-count-le-FEW.true) c.requires.levels) in
-    omega (arith, cost, c.tick.ensures, c.scan-then-count-le-FEW.ensures.looks)
+    omega (arith, cost, c.tick.ensures.most, c.scan-then-count-le-FEW.ensures.looks)
 
 pub search-requires : goal.search-requires
 search-requires t c =
     let two : 1 < length c.args.entries.now = c.if-count-lt2.false in
     let more : 8 < length c.args.entries.now = c.if-count-le-FEW.false in
     let level : 0 < c.args.levels = level_some c.args.levels (length c.args.entries.now) two (omega (arith, c.requires.levels)) in
-    let last : any_lasts c.args.entries.now c.args.query.now.from ≡ true = sym c.any_reaches.ensures ∙ c.if-not-any_reaches.false in
-    let whole = c.split_at.ensures.by_index.0 in
-    let cost = looks_left c.args.entries.now c.split_at.result.0.now c.split_at.result.1.now c.args.query.now whole c.args.levels level last in (
+    let whole = c.split_at.ensures.by_index.0 in (
       search rules,
       (
         omega (arith, c.split_at.ensures.front_len, spare_left c.args.levels (length c.args.entries.now) level more c.requires.levels),
@@ -48,7 +39,7 @@ search-requires t c =
           omega (arith, c.split_at.ensures.front_len, c.split_at-2.ensures.front_len),
           (
             rw (c.split_at.ensures.front, c.split_at-2.ensures.front) ((tree_at only 8 c.args.levels c.args.entries.now c.args.greatest.now level two c.requires.tree).1 more).0,
-            (starts_left c.split_at.result.0.now c.split_at.result.1.now (rw whole at c.requires.order), omega (arith, cost, c.tick.ensures, c.requires.room)),
+            starts_left c.split_at.result.0.now c.split_at.result.1.now (rw whole at c.requires.order),
           ),
         ),
       ),
@@ -60,7 +51,7 @@ returns-in_err-search-clause-looks t c =
     let level : 0 < c.args.levels = level_some c.args.levels (length c.args.entries.now) two (omega (arith, c.requires.levels)) in
     let last : any_lasts c.args.entries.now c.args.query.now.from ≡ true = sym c.any_reaches.ensures ∙ c.if-not-any_reaches.false in
     let cost = looks_left c.args.entries.now c.split_at.result.0.now c.split_at.result.1.now c.args.query.now c.split_at.ensures.by_index.0 c.args.levels level last in
-    omega (arith, cost, c.tick.ensures, c.search.ensures.looks)
+    omega (arith, cost, c.tick.ensures.most, c.search.ensures.looks)
 
 pub returns-then-branch-clause-found : goal.returns-then-branch-clause-found
 returns-then-branch-clause-found t c =
@@ -73,17 +64,14 @@ returns-then-branch-clause-looks t c =
     let level : 0 < c.args.levels = level_some c.args.levels (length c.args.entries.now) two (omega (arith, c.requires.levels)) in
     let last : any_lasts c.args.entries.now c.args.query.now.from ≡ true = sym c.any_reaches.ensures ∙ c.if-not-any_reaches.false in
     let cost = looks_left c.args.entries.now c.split_at.result.0.now c.split_at.result.1.now c.args.query.now c.split_at.ensures.by_index.0 c.args.levels level last in
-    omega (arith, cost, c.tick.ensures, c.search.ensures.looks)
+    omega (arith, cost, c.tick.ensures.most, c.search.ensures.looks)
 
 pub search-requires-2 : goal.search-requires-2
 search-requires-2 t c =
     let two : 1 < length c.args.entries.now = c.if-count-lt2.false in
     let more : 8 < length c.args.entries.now = c.if-count-le-FEW.false in
     let level : 0 < c.args.levels = level_some c.args.levels (length c.args.entries.now) two (omega (arith, c.requires.levels)) in
-    let last : any_lasts c.args.entries.now c.args.query.now.from ≡ true = sym c.any_reaches.ensures ∙ c.if-not-any_reaches.false in
-    let whole = c.split_at.ensures.by_index.0 in
-    let early : any_late c.split_at.result.0.now c.args.query.now ≡ false = sym c.in_ok-search.ensures.late ∙ c.if-branch.false in
-    let cost = looks_both c.args.entries.now c.split_at.result.0.now c.split_at.result.1.now c.args.query.now whole c.args.levels level last early in (
+    let whole = c.split_at.ensures.by_index.0 in (
       search rules,
       (
         omega (arith, c.split_at.ensures.back_len, spare_right c.args.levels (length c.args.entries.now) level more c.requires.levels),
@@ -91,7 +79,7 @@ search-requires-2 t c =
           omega (arith, c.split_at.ensures.back_len, c.split_at-3.ensures.back_len, c.requires.lengths),
           (
             rw (c.split_at.ensures.back, c.split_at-3.ensures.back) ((tree_at only 8 c.args.levels c.args.entries.now c.args.greatest.now level two c.requires.tree).1 more).1,
-            (starts_right c.split_at.result.0.now c.split_at.result.1.now (rw whole at c.requires.order), omega (arith, cost, c.tick.ensures, c.requires.room, c.search.ensures.looks)),
+            starts_right c.split_at.result.0.now c.split_at.result.1.now (rw whole at c.requires.order),
           ),
         ),
       ),
@@ -104,4 +92,4 @@ returns-clause-looks t c =
     let last : any_lasts c.args.entries.now c.args.query.now.from ≡ true = sym c.any_reaches.ensures ∙ c.if-not-any_reaches.false in
     let early : any_late c.split_at.result.0.now c.args.query.now ≡ false = sym c.in_ok-search.ensures.late ∙ c.if-branch.false in
     let cost = looks_both c.args.entries.now c.split_at.result.0.now c.split_at.result.1.now c.args.query.now c.split_at.ensures.by_index.0 c.args.levels level last early in
-    omega (arith, cost, c.tick.ensures, c.search.ensures.looks, c.search-2.ensures.looks)
+    omega (arith, cost, c.tick.ensures.most, c.search.ensures.looks, c.search-2.ensures.looks)

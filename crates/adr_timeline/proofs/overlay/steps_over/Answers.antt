@@ -8,12 +8,6 @@ use Rattle.adr_timeline.proofs.overlay.steps_over.Goals as goal
 pub merged-requires-clause-left : goal.merged-requires-clause-left
 merged-requires-clause-left c = rw (c.deref.ensures.value, c.in_ok-add_run.ensures, c.in_ok-held.ensures.items) (run_ranked c.args.shown.now c.requires.shown).0
 
-pub merged-requires-clause-room : goal.merged-requires-clause-room
-merged-requires-clause-room c =
-    let held = ap rises (c.deref.ensures.value ∙ c.in_ok-add_run.ensures) in
-    let none = ap (λ (ss : List Step). rises (ss ++ steps_in_turn c.args.shown.now)) c.in_ok-held.ensures.items in
-    omega (arith, c.requires.room, held, none, run_rises c.args.shown.now, run_rises c.of.result.entries.now, ap length c.of.ensures)
-
 pub merged-requires-clause-right : goal.merged-requires-clause-right
 merged-requires-clause-right c = rw c.of.ensures (run_ranked c.args.run.now c.requires.in_turn).0
 

@@ -1,15 +1,10 @@
-use Rattle.std.proofs.Common.{rules, ◌++◌, ◌∙◌, ◌^◌, List, ap, sym}
+use Rattle.std.proofs.Common.{rules, ◌++◌, ◌∙◌, List, ap, sym}
 use Rattle.adr_timeline.specs.declared.step.Step.{Step}
 use Rattle.std.proofs.lemmas.Result.{on_ok_weaker}
 use Rattle.adr_timeline.specs.Steps.{rises}
 use Rattle.adr_timeline.proofs.Runs.{run_added}
-use Rattle.adr_timeline.proofs.Stepped.{halved, back_room, both_within, merge_room, all_within, parts_there, places_there, rises_within, whole_ranked}
+use Rattle.adr_timeline.proofs.Stepped.{halved, both_within, all_within, parts_there, places_there, rises_within, whole_ranked}
 use Rattle.adr_timeline.proofs.step.+rank.Goals as goal
-
-pub rank-requires-2 : goal.rank-requires-2
-rank-requires-2 t c =
-    let h = halved c.split_at.result.0.now c.split_at.result.1.now c.args.entries.now c.in-Some.first.now c.in-Some.later.now c.in-Some.ensures.cases.0 (sym c.is_run-2.ensures ∙ c.if-is_run-2.false) c.split_at.ensures.front c.split_at.ensures.back in
-    ((search rules), back_room c.split_at.result.0.now c.split_at.result.1.now c.args.entries.now c.args.meter.now c.rank.new.meter (2 ^ 128) h c.requires c.rank.ensures.compared)
 
 pub returns-in_err-rank-2-clause-compared : goal.returns-in_err-rank-2-clause-compared
 returns-in_err-rank-2-clause-compared t c =
@@ -26,7 +21,6 @@ merge_from-requires t c =
     let parts = parts_there c.args.other.now.items c.rank.new.steps.items c.rank-2.new.steps.items first.0 second.0 c.len-start.result c.len-middle.result first.1 second.1 (c.len-start.ensures ∙ c.args.other.now.ok.0) (c.len-middle.ensures ∙ c.rank.new.steps.ok.0) in
     record {
       places = places_there c.args.other.now.items c.rank.new.steps.items c.rank-2.new.steps.items first.0 second.0 c.len-start.result c.len-middle.result first.1 second.1 (c.len-start.ensures ∙ c.args.other.now.ok.0) (c.len-middle.ensures ∙ c.rank.new.steps.ok.0);
-      room = rw (parts.1, parts.2) (merge_room front back c.args.entries.now c.args.meter.now c.rank.new.meter c.rank-2.new.meter (rises first.0) (rises second.0) (2 ^ 128) h c.requires c.rank.ensures.compared c.rank-2.ensures.compared (rises_within front first.0 first.2) (rises_within back second.0 second.2));
       left = rw parts.1 first.2.0;
       right = rw parts.2 second.2.0;
     }

@@ -1,25 +1,9 @@
-use Rattle.std.proofs.Common.{◌++◌, ◌^◌, ◌<◌, [], ◌∷◌, List, drop, length, refl, sym, arith}
+use Rattle.std.proofs.Common.{◌++◌, ◌<◌, [], ◌∷◌, List, drop, length, refl, sym, arith}
 use Rattle.std.proofs.lemmas.Option.{get_or_from_slice_get}
 use Rattle.adr_timeline.specs.declared.step.Step.{Step}
-use Rattle.adr_timeline.proofs.Merged.{left_there, over_left, over_right, right_there, room_left, room_right, turn_left, turn_right, merge_done, goes_rest, begun_at, added_more}
+use Rattle.adr_timeline.proofs.Merged.{left_there, over_left, over_right, right_there, turn_left, turn_right, merge_done, goes_rest, begun_at, added_more}
 use Rattle.adr_timeline.proofs.step.merge.Goals as goal
 use Rattle.adr_timeline.proofs.step.merge.Goals.{then-goes_left, else-goes_left, then-passed_left-left, else-passed_left-left+then-passed_right-count}
-
-pub lesser-rank-requires : goal.lesser-rank-requires
-lesser-rank-requires g c = elim c.if-goes_left.branch [
-  | then-goes_left w ↦
-      let goes = sym (goes_rest c.args.left.now (drop c.loop-passed_left.passed_right (g.R.StepList.listed c.args.right)) c.loop-passed_left.passed_left _ w.if-goes_left.ensures) in
-      let inside : c.loop-passed_left.passed_left < length c.args.left.now = elim c.if-passed_left-left.branch [
-        | then-passed_left-left v ↦ v.if-passed_left-left.true
-        | else-passed_left-left+then-passed_right-count v ↦ left_there c.args.left.now (g.R.StepList.listed c.args.right) c.loop-passed_left.passed_left c.loop-passed_left.passed_right goes (omega (arith, v.if-passed_right-count.true, c.count-count.ensures))
-      ] in
-      rw (w.left_rank-is, w.right_rank-is) (room_left c.args.left.now (g.R.StepList.listed c.args.right) c.loop-passed_left.invariant.0 c.loop-passed_left.left_rank c.loop-passed_left.right_rank c.loop-passed_left.passed_left c.loop-passed_left.passed_right c.loop-passed_left.meter c.args.meter.now (2 ^ 128) w.index-left-passed_left.result c.loop-passed_left.invariant.2 c.requires.room inside w.index-left-passed_left.is)
-  | else-goes_left w ↦
-      let goes = sym (goes_rest c.args.left.now (drop c.loop-passed_left.passed_right (g.R.StepList.listed c.args.right)) c.loop-passed_left.passed_left _ w.if-goes_left.ensures) in
-      let inside = right_there c.args.left.now (g.R.StepList.listed c.args.right) c.loop-passed_left.passed_left c.loop-passed_left.passed_right goes in
-      let is = sym (get_or_from_slice_get (g.R.StepList.listed c.args.right) c.loop-passed_left.passed_right w.at-step.result w.at-step.result w.at-step.ensures) in
-      rw (w.left_rank-is, w.right_rank-is) (room_right c.args.left.now (g.R.StepList.listed c.args.right) c.loop-passed_left.invariant.0 c.loop-passed_left.left_rank c.loop-passed_left.right_rank c.loop-passed_left.passed_left c.loop-passed_left.passed_right c.loop-passed_left.meter c.args.meter.now (2 ^ 128) w.at-step.result c.loop-passed_left.invariant.2 c.requires.room inside is)
-]
 
 pub returns-in_err-push-clause-compared : goal.returns-in_err-push-clause-compared
 returns-in_err-push-clause-compared g c = elim c.if-goes_left.branch [
@@ -29,12 +13,12 @@ returns-in_err-push-clause-compared g c = elim c.if-goes_left.branch [
         | then-passed_left-left v ↦ v.if-passed_left-left.true
         | else-passed_left-left+then-passed_right-count v ↦ left_there c.args.left.now (g.R.StepList.listed c.args.right) c.loop-passed_left.passed_left c.loop-passed_left.passed_right goes (omega (arith, v.if-passed_right-count.true, c.count-count.ensures))
       ] in
-      over_left c.args.left.now (g.R.StepList.listed c.args.right) c.loop-passed_left.invariant.0 c.loop-passed_left.left_rank c.loop-passed_left.right_rank c.loop-passed_left.passed_left c.loop-passed_left.passed_right c.loop-passed_left.meter c.args.meter.now (2 ^ 128) w.index-left-passed_left.result c.loop-passed_left.invariant.2 c.requires.room c.lesser-rank.new.meter inside w.index-left-passed_left.is (rw (w.left_rank-is, w.right_rank-is) at c.lesser-rank.ensures.compared)
+      over_left c.args.left.now (g.R.StepList.listed c.args.right) c.loop-passed_left.invariant.0 c.loop-passed_left.left_rank c.loop-passed_left.right_rank c.loop-passed_left.passed_left c.loop-passed_left.passed_right c.loop-passed_left.meter c.args.meter.now w.index-left-passed_left.result c.loop-passed_left.invariant.2 c.lesser-rank.new.meter inside w.index-left-passed_left.is (rw (w.left_rank-is, w.right_rank-is) at c.lesser-rank.ensures.compared)
   | else-goes_left w ↦
       let goes = sym (goes_rest c.args.left.now (drop c.loop-passed_left.passed_right (g.R.StepList.listed c.args.right)) c.loop-passed_left.passed_left _ w.if-goes_left.ensures) in
       let inside = right_there c.args.left.now (g.R.StepList.listed c.args.right) c.loop-passed_left.passed_left c.loop-passed_left.passed_right goes in
       let is = sym (get_or_from_slice_get (g.R.StepList.listed c.args.right) c.loop-passed_left.passed_right w.at-step.result w.at-step.result w.at-step.ensures) in
-      over_right c.args.left.now (g.R.StepList.listed c.args.right) c.loop-passed_left.invariant.0 c.loop-passed_left.left_rank c.loop-passed_left.right_rank c.loop-passed_left.passed_left c.loop-passed_left.passed_right c.loop-passed_left.meter c.args.meter.now (2 ^ 128) w.at-step.result c.loop-passed_left.invariant.2 c.requires.room c.lesser-rank.new.meter inside is (rw (w.left_rank-is, w.right_rank-is) at c.lesser-rank.ensures.compared)
+      over_right c.args.left.now (g.R.StepList.listed c.args.right) c.loop-passed_left.invariant.0 c.loop-passed_left.left_rank c.loop-passed_left.right_rank c.loop-passed_left.passed_left c.loop-passed_left.passed_right c.loop-passed_left.meter c.args.meter.now w.at-step.result c.loop-passed_left.invariant.2 c.lesser-rank.new.meter inside is (rw (w.left_rank-is, w.right_rank-is) at c.lesser-rank.ensures.compared)
 ]
 
 pub loop-passed_left-preserved : goal.loop-passed_left-preserved

@@ -6,11 +6,6 @@ use Rattle.adr_timeline.proofs.Runs.{one_few, one_ranked, run_ranked}
 use Rattle.adr_timeline.proofs.Stepped.{right_part}
 use Rattle.adr_timeline.proofs.step.rank_over_run.Goals as goal
 
-pub merge-requires-clause-room : goal.merge-requires-clause-room
-merge-requires-clause-room c =
-    let left = right_part c.args.other.now.items c.add_steps_of.new.steps.items c.deref.result.now (steps_of c.args.one.now) c.split_at.result.1.now c.len-start.result c.in_ok-add_steps_of.ensures (c.len-start.ensures ∙ c.args.other.now.ok.0) c.deref.ensures.value c.split_at.ensures.back in
-    omega (arith, c.requires.room, one_few c.args.one.now c.args.run.now c.of.result.entries.now c.split_at.result.1.now left c.of.ensures c.requires.in_turn, rises_few c.split_at.result.1.now, rises_few (steps_in_turn c.of.result.entries.now))
-
 pub merge-requires-clause-right : goal.merge-requires-clause-right
 merge-requires-clause-right c = rw c.of.ensures (run_ranked c.args.run.now c.requires.in_turn).0
 

@@ -7,20 +7,10 @@ use Rattle.adr_group.proofs.Turns.{both_repaired, most_both, wins}
 use Rattle.adr_group.proofs.Rights.{repaired_moves, repaired_right}
 use Rattle.adr_group.proofs.group.Group.repaired.Goals as goal
 
-pub repaired-requires : goal.repaired-requires
-repaired-requires c =
-    let both = most_both c.args.windows.now c.args.more.now c.args.writes c.args.indexes.now in
-    record { room = omega (arith, both, c.requires.room) }
-
 pub returns-in_err-lines-clause-compared : goal.returns-in_err-lines-clause-compared
 returns-in_err-lines-clause-compared c =
     let both = most_both c.args.windows.now c.args.more.now c.args.writes c.args.indexes.now in
     omega (arith, both, c.repaired.ensures.compared)
-
-pub repaired-requires-2 : goal.repaired-requires-2
-repaired-requires-2 c =
-    let both = most_both c.args.windows.now c.args.more.now c.args.writes c.args.indexes.now in
-    record { room = omega (arith, both, c.requires.room, c.repaired.ensures.compared) }
 
 pub returns-in_err-lines-2-clause-compared : goal.returns-in_err-lines-2-clause-compared
 returns-in_err-lines-2-clause-compared c =

@@ -1,7 +1,7 @@
 use Rattle.std.proofs.Common.{◌≡◌, ◌≤◌, ◌^◌, length, arith, ◌∙◌, ap}
 use Rattle.adr_index.specs.Chunks.{all_listed, listed}
 use Rattle.adr_index.specs.Index.{digits}
-use Rattle.adr_index.proofs.Depth.{chunks_few, chunks_short, looks_few, looks_room}
+use Rattle.adr_index.proofs.Depth.{chunks_few, chunks_short, looks_few}
 use Rattle.adr_index.proofs.Grown.{tree_levels}
 use Rattle.adr_index.proofs.Ordered.{ordered_starts}
 use Rattle.adr_index.proofs.index.Index.find_counted.Goals as goal
@@ -21,11 +21,6 @@ search_chunks-requires-clause-tree c = rw (c.deref.ensures.value, c.deref-2.ensu
 
 pub search_chunks-requires-clause-order : goal.search_chunks-requires-clause-order
 search_chunks-requires-clause-order c = rw c.deref.ensures.value (ordered_starts (all_listed c.self.inside.table.chunks.items) c.self.invariant.table.order)
-
-pub search_chunks-requires-clause-room : goal.search_chunks-requires-clause-room
-search_chunks-requires-clause-room c =
-    let depth : c.digits-depth.result ≡ digits (length (all_listed c.self.inside.table.chunks.items)) = c.digits-depth.ensures.digits ∙ ap digits c.self.invariant.table.count in
-    rw (c.deref.ensures.value, depth) (omega (arith, looks_room (all_listed c.self.inside.table.chunks.items) c.args.query.now, rw (← c.self.view_is) at c.requires))
 
 pub returns-in_err-search_chunks-clause-probes : goal.returns-in_err-search_chunks-clause-probes
 returns-in_err-search_chunks-clause-probes c =
