@@ -1,9 +1,8 @@
 -- Windows that cover all that entries of their types cover.
-use Rattle.std.proofs.Common.{◌≡◌, ℕ, ℤ, ◌≤ℤ◌, ◌<◌, ◌^◌, ◌⊎◌, inl, inr, ◌||◌, Bool, true, false, List, [], ◌∷◌, ◌++◌, length, if◌then◌else◌, refl, ap, sym, subst, ◌∙◌, arith}
+use Rattle.std.proofs.Common.{◌≡◌, ℤ, ◌≤ℤ◌, ◌⊎◌, inl, inr, ◌||◌, Bool, true, false, List, [], ◌∷◌, ◌++◌, length, if◌then◌else◌, refl, ap, sym, subst, ◌∙◌, arith}
 use Rattle.std.specs.Prelude.{int_le}
 use Rattle.std.proofs.lemmas.Bool.{and_parts, or_cases}
 use Rattle.std.proofs.lemmas.Int.{ints}
-use Rattle.std.proofs.lemmas.List.Sums.{sum_by-cons}
 use Rattle.adr_value.specs.Payload.{name_of}
 use Rattle.adr_value.specs.Same.{same_type}
 use Rattle.adr_value.specs.declared.payload.PayloadType.{PayloadType}
@@ -11,7 +10,6 @@ use Rattle.adr_time.specs.Spans.{covers, is_before}
 use Rattle.adr_model.specs.declared.entry.Entry.{Entry}
 use Rattle.adr_model.proofs.Lists.{bytes_eq_self}
 use Rattle.adr_lines.specs.declared.grouped.TypeEntries.{TypeEntries}
-use Rattle.adr_lines.specs.Counted.{entries_in_groups}
 use Rattle.adr_lines.specs.Grouped.{any_covers_at, entries_under}
 use Rattle.adr_lines.proofs.Covered.{any_left, any_right}
 use Rattle.adr_lines.proofs.Groups.{same_as_each}
@@ -94,24 +92,9 @@ module _ (from : ℤ) (old new : List TypeEntries) (w : TypeEntries) (made : new
 
 -- ---- one group after the other
 
--- one entry in each window
-pub one_each : (from : ℤ) (windows : List TypeEntries) → AreFrom from windows → entries_in_groups windows ≡ length windows
-one_each from [] all = refl
-one_each from (g ∷ gs) all =
-    let first = sum_by-cons (λ (w : TypeEntries). length w.entries.items) g gs in
-    let own = all.0.0 in
-    let rest = one_each from gs all.1 in
-    omega (arith, first, own, rest)
-
 pub own_same : (j k : PayloadType) → j ≡ k → same_type j k ≡ true
 own_same j k e = ap (λ i. same_type i k) e ∙ bytes_eq_self (name_of k)
 
 pub late_in : (from : ℤ) (g : TypeEntries) (entries : List Entry) → entries ≡ g.entries.items → ((t : ℤ) → any_covers_at entries t ≡ true → from ≤ℤ t)
     → (t : ℤ) → any_covers_at g.entries.items t ≡ true → from ≤ℤ t
 late_in from g entries e late t c = late t (ap (λ es. any_covers_at es t) e ∙ c)
-
-pub few_windows : (from : ℤ) (windows : List TypeEntries) (count : ℕ) → AreFrom from windows → (same : List TypeEntries) → same ≡ windows → count ≡ length same → count < 2 ^ 64 → entries_in_groups windows < 2 ^ 64
-few_windows from windows count all same e counts fits =
-    let one = one_each from windows all in
-    let all_of : length same ≡ length windows = ap (λ gs. length gs) e in
-    omega (arith, one, all_of, counts, fits)

@@ -4,7 +4,6 @@ pub mod Joining
 pub mod Laid
 pub mod LastKind
 pub mod Made
-pub mod Room
 pub mod Shifted
 pub mod Sides
 pub mod KeysCrossing

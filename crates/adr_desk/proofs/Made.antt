@@ -1,5 +1,5 @@
 -- The indexes while an edit of an event is made, and the groups after it.
-use Rattle.std.proofs.Common.{◌≡◌, ℕ, ◌+◌, ◌*◌, ◌<◌, ◌≤◌, ◌^◌, inl, inr, List, [], ◌++◌, length, slice_get, Option, Some, None, refl, ap, sym, subst, ◌∙◌, arith}
+use Rattle.std.proofs.Common.{◌≡◌, ℕ, inl, inr, List, [], slice_get, Option, Some, None, refl, ap, sym, subst, ◌∙◌}
 use Rattle.std.specs.Prelude.{option_to_list}
 use Rattle.adr_value.specs.declared.payload.PayloadType.{PayloadType}
 use Rattle.adr_object.specs.declared.party.Resource.{Resource}
@@ -8,27 +8,21 @@ use Rattle.adr_model.specs.declared.written.Written.{Written}
 use Rattle.adr_model.specs.Book.{Book}
 use Rattle.adr_model.specs.Governor.{applies_to}
 use Rattle.adr_index.specs.Index.{inserted_all, others_all, AreNew}
-use Rattle.adr_lines.specs.declared.grouped.TypeEntries.{TypeEntries}
 use Rattle.adr_lines.specs.Grouped.{entries_under}
 use Rattle.adr_lines.specs.declared.indexes.Indexes.{Indexes}
 use Rattle.adr_lines.specs.Exchange.{AreEntriesOf, FitsTheIndex, IsIndexOf, IsUndone, MakesTheIndex}
 use Rattle.adr_lines.specs.Indexes.{under}
 use Rattle.adr_group.specs.Group.{RightMoves}
-use Rattle.adr_group.specs.Repair.{most_possible}
 use Rattle.adr_schedule.specs.declared.change.Change.{Change}
 use Rattle.adr_schedule.specs.declared.change.Side.{Side}
 use Rattle.adr_schedule.specs.Moves.{is_among}
 use Rattle.adr_schedule.specs.Seating.{Seating, AreRight, AreSeatedFor, IsShifted}
-use Rattle.adr_schedule.specs.Shift.{entries_in, number_in, sides_of, AreSidesOf}
-use Rattle.adr_value.specs.Limits.{limits}
-use Rattle.adr_value.specs.declared.limits.TheConstants.{MOST_VERSION}
-use Rattle.adr_model.specs.Within.{IsWithin}
+use Rattle.adr_schedule.specs.Shift.{entries_in, number_in, AreSidesOf}
 use Rattle.adr_audience.specs.Keys.{AreKeysOf, Keys}
-use Rattle.adr_desk.specs.Desk.{HasRoom, IsDesk, IsSideOf}
-use Rattle.adr_desk.specs.Room.{EditsHaveRoom}
+use Rattle.adr_desk.specs.Desk.{IsDesk, IsSideOf}
 use Rattle.adr_desk.specs.Edited.{number_of, with_come, IsExchanged}
 use Rattle.adr_desk.proofs.Shifted.{right_with, seated_then}
-use Rattle.adr_desk.proofs.Sides.{entries_of_side, first_exchange, less_share, part_share, second_exchange, side_number, sides_of_events}
+use Rattle.adr_desk.proofs.Sides.{entries_of_side, first_exchange, second_exchange, side_number, sides_of_events}
 
 -- ---- the indexes
 
@@ -88,23 +82,6 @@ module _ (law : (tie : Tie) → RightMoves tie) (tie : Tie) (old : Book) (gone c
           none_some : (z : Side) → None ≡ Some z → ⊥
           none_some z h = absurd (cc)
 
--- ---- the room
-
--- the places among the resources have room for both events
-pub room_for_both : (n r m : ℕ) → n ≤ r → r * m < 2 ^ 127 → n * m < 2 ^ 127
-room_for_both n r m h k = omega (arith, less_share n r m h, k)
-
--- and for the one that goes alone
-pub room_for_one : (indexes : Indexes) → ((windows more : List TypeEntries) (ix : Indexes) → most_possible (windows ++ more) ix ≡ most_possible windows ix + most_possible more ix)
-    → (alone : Change) (entering : List TypeEntries) (n r : ℕ) → alone.come ≡ None → n ≤ r → r * most_possible (entries_in alone.gone ++ entering) indexes < 2 ^ 127
-    → n * most_possible (sides_of alone) indexes < 2 ^ 127
-room_for_one indexes both alone entering n r lone h k =
-    let m : most_possible (sides_of alone) indexes ≡ most_possible (entries_in alone.gone) indexes =
-    both (entries_in alone.gone) (entries_in alone.come) indexes ∙ ap (λ s. most_possible (entries_in alone.gone) indexes + most_possible (entries_in s) indexes) lone ∙ omega arith in
-    let l : r * most_possible (entries_in alone.gone) indexes < 2 ^ 127 =
-    omega (arith, part_share r (most_possible (entries_in alone.gone) indexes) (most_possible entering indexes), ap (λ x. r * x) (both (entries_in alone.gone) entering indexes), k) in
-    subst (λ x. n * x < 2 ^ 127) (sym m) (room_for_both n r (most_possible (entries_in alone.gone) indexes) h l)
-
 -- ---- the desk
 
 module _ (tie : Tie) (old new : Book) (gone come : Option Written) (x : IsExchanged old new gone come) (keys : Keys) (before with after : Indexes) (s t : Seating) (desk : IsDesk tie old keys before s)
@@ -130,9 +107,3 @@ module _ (tie : Tie) (old new : Book) (gone come : Option Written) (x : IsExchan
     indexed = come_out tie old new gone come x undone makes with after change.come (come_indexed tie old new gone come x makes before with change.come desk.indexed c put) c taken;
     seated = desk.seated;
   }
-
--- ---- the room of an edit
-
-pub has_room : (tie : Tie) (old new : Book) (gone come : Option Written) → EditsHaveRoom tie → IsWithin limits MOST_VERSION old → IsWithin limits MOST_VERSION new → IsExchanged old new gone come
-    → HasRoom tie old gone come
-has_room tie old new gone come law w v x indexes leaving entering i l e = law old new gone come indexes leaving entering (length old.resources) w v x i l e w.resources

@@ -1,5 +1,5 @@
 -- The sides of a change, and the events that are indexed while it is made.
-use Rattle.std.proofs.Common.{◌≡◌, ℕ, ◌+◌, ◌*◌, ◌≤◌, ◌⊎◌, inl, inr, true, List, [], ◌∷◌, ◌++◌, map, Option, Some, None, refl, ap, sym, subst, ◌∙◌, arith}
+use Rattle.std.proofs.Common.{◌≡◌, ◌+◌, ◌⊎◌, inl, inr, true, List, [], ◌∷◌, ◌++◌, map, Option, Some, None, refl, ap, sym, subst, ◌∙◌}
 use Rattle.std.specs.List.{IsDistinct}
 use Rattle.std.specs.Prelude.{option_to_list}
 use Rattle.adr_value.specs.declared.payload.PayloadType.{PayloadType}
@@ -18,7 +18,6 @@ use Rattle.adr_schedule.specs.declared.change.Change.{Change}
 use Rattle.adr_schedule.specs.declared.change.Side.{Side}
 use Rattle.adr_schedule.specs.Shift.{entries_in, number_in, AreSidesOf, AreTwo}
 use Rattle.adr_desk.specs.Desk.{IsSideOf}
-use Rattle.adr_desk.specs.Room.{AreGroupsOf}
 use Rattle.adr_desk.specs.Edited.{number_of, with_come, IsExchanged}
 use Rattle.adr_desk.proofs.Shifted.{come_in, in_come, of_number}
 
@@ -45,13 +44,6 @@ module _ (tie : Tie) where
       no_more : (es : List Entry) → es ++ [] ≡ es
       no_more [] = refl
       no_more (e ∷ es) = ap (λ l. e ∷ l) (no_more es)
-
-  -- its groups
-  pub groups_of_side : (w : Option Written) (s : Option Side) → IsSideOf tie w s → AreGroupsOf tie w (entries_in s)
-  groups_of_side None None h = refl
-  groups_of_side None (Some s) h = absurd h
-  groups_of_side (Some w) None h = absurd h
-  groups_of_side (Some w) (Some s) h = (h.2, h.1)
 
   module _ (old new : Book) (gone come : Option Written) (x : IsExchanged old new gone come) (change : Change) (g : IsSideOf tie gone change.gone) (c : IsSideOf tie come change.come) where
     pub two_sides : AreTwo change
@@ -145,9 +137,3 @@ module _ (old new : Book) (gone come : Option Written) (x : IsExchanged old new 
       one w v (inr a) (inr b) h = some_one w v (sym (in_come come w a) ∙ in_come come v b)
 
 -- ---- shares
-
-pub less_share : (n r m : ℕ) → n ≤ r → n * m ≤ r * m
-less_share n r m h = grind (arith, h)
-
-pub part_share : (r a b : ℕ) → r * a ≤ r * (a + b)
-part_share r a b = grind arith

@@ -7,7 +7,7 @@ use Rattle.adr_book.specs.Judged.{placed_by}
 use Rattle.adr_lines.specs.declared.indexes.Indexes.{Indexes}
 use Rattle.adr_schedule.specs.declared.change.Change.{Change}
 use Rattle.adr_desk.specs.declared.accepted.Accepted.{Accepted}
-use Rattle.adr_desk.specs.Desk.{HasRoom, IsDesk, IsSideOf}
+use Rattle.adr_desk.specs.Desk.{IsDesk, IsSideOf}
 use Rattle.adr_desk.specs.Edited.{come_of, gone_of, HaveOneId, IsExchanged}
 
 -- the edit makes the new book of the old one, whose keys, indexes and groups these are
@@ -26,4 +26,3 @@ pub record IsChangeBy (a : Accepted) (change : Change) : Type 0 where
   pub one_id : HaveOneId a.old.now.objects a.new.now.objects (gone_of a.old.now.objects a.edit.now) (come_of a.old.now.objects a.edit.now)
   pub gone : IsSideOf a.tie (gone_of a.old.now.objects a.edit.now) change.gone
   pub come : IsSideOf a.tie (come_of a.old.now.objects a.edit.now) change.come
-  pub room : HasRoom a.tie a.old.now.objects (gone_of a.old.now.objects a.edit.now) (come_of a.old.now.objects a.edit.now)

@@ -1,21 +1,17 @@
 -- What a desk keeps beside a book and its timelines.
-use Rattle.std.specs.Prelude.{◌≡◌, ◌*◌, ◌^◌, ◌<◌, ⊤, List, ◌++◌, length, map, Option, Some, None}
+use Rattle.std.specs.Prelude.{◌≡◌, ⊤, map, Option, Some, None}
 use Rattle.adr_value.specs.declared.payload.PayloadType.{PayloadType}
 use Rattle.adr_model.specs.declared.entry.Tie.{Tie}
 use Rattle.adr_model.specs.declared.written.Written.{Written}
 use Rattle.adr_model.specs.Book.{Book}
 use Rattle.adr_model.specs.Governor.{entries_of}
 use Rattle.adr_model.specs.Rank.{ranked}
-use Rattle.adr_lines.specs.declared.grouped.TypeEntries.{TypeEntries}
 use Rattle.adr_lines.specs.Grouped.{entries_under, HaveOwnTypes}
 use Rattle.adr_audience.specs.Keys.{AreKeysOf, Keys}
 use Rattle.adr_lines.specs.declared.indexes.Indexes.{Indexes}
 use Rattle.adr_lines.specs.Exchange.{IsIndexOf}
 use Rattle.adr_schedule.specs.declared.change.Side.{Side}
 use Rattle.adr_schedule.specs.Seating.{AreSeatedFor, Seating}
-use Rattle.adr_group.specs.Repair.{most_possible}
-use Rattle.adr_desk.specs.Edited.{with_come}
-use Rattle.adr_desk.specs.Room.{AreGroupsOf}
 
 -- the keys and the indexes are those of the book
 pub record AreOf (tie : Tie) (book : Book) (keys : Keys) (indexes : Indexes) : Type 0 where
@@ -37,10 +33,3 @@ IsSideOf tie (Some w) (Some s) =
     (s.written ≡ w.written)
     × ((k : PayloadType) → entries_under s.entries.items k ≡ map (ranked tie) (entries_of k w))
     × HaveOwnTypes s.entries.items
-
--- repairs for all resources in the windows of both events compare little, whatever the indexes of the events are
-abbrev pub HasRoom : Tie → Book → Option Written → Option Written → Type 0
-HasRoom tie book gone come =
-    (indexes : Indexes) (leaving entering : List TypeEntries) → IsIndexOf tie (with_come book come) indexes
-    → AreGroupsOf tie gone leaving → AreGroupsOf tie come entering
-    → length book.resources * most_possible (leaving ++ entering) indexes < 2 ^ 127

@@ -3,6 +3,5 @@ pub mod Accepted
 pub mod Desk
 pub mod Edited
 pub mod Ranks
-pub mod Room
 pub mod Bulk
 pub mod Loaded

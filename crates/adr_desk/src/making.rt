@@ -19,11 +19,10 @@ ghost use Rattle.adr_desk.specs.Edited.{come_of, is_of_event, with_come};
 
 use crate::accepted::Accepted;
 use crate::events::{joining, leaving};
-use crate::laws::edits_have_room;
 use crate::ranks::NewestRanks;
 use crate::side::{come_side, gone_side};
 use adr_audience::Audiences;
-use adr_group::{Done, Job, repairs_compare_little, right_moves};
+use adr_group::{Done, Job, right_moves};
 use adr_lines::{Indexes, TypeEntries, exchange_laws};
 use adr_rule::Meter;
 use adr_schedule::{Change, Schedule, Side};
@@ -81,7 +80,6 @@ fn regrouped<C: Fn(&Indexes, &[Job]) -> Result<Vec<Done>, Refusal>>(
     ensures least { OnOk result (meter.new ≤ most_compared_in accepted.now.new.now.objects (touches accepted.now.old.now.objects accepted.now.new.now.objects)) }
     ensures refusal { OnlyNoMemory result }
 {
-    repairs_compare_little();
     right_moves();
     let joining = joining(alloc, keys, accepted.old, accepted.edit)?;
     let leaving = leaving(alloc, keys, accepted.old, accepted.edit)?;
@@ -195,7 +193,6 @@ pub(crate) fn after_event<C: Fn(&Indexes, &[Job]) -> Result<Vec<Done>, Refusal>>
 {
     accepted.old.book_laws();
     accepted.new.book_laws();
-    edits_have_room();
     let come = come_side(
         alloc,
         accepted.tie,

@@ -13,7 +13,7 @@ use Rattle.adr_model.specs.Entries.{meeting}
 use Rattle.adr_timeline.specs.Build.{most_compared}
 use Rattle.adr_lines.specs.Right.{written_in}
 use Rattle.adr_group.specs.Repair.{most_inside}
-use Rattle.adr_group.proofs.Possible.{cost_rises}
+use Rattle.adr_group.proofs.Costs.{cost_rises}
 
 -- what meets a part of a window meets the window
 pub part_meets : (a w : Span) (s : ℤ) (e : End) → meets a (record { start = int_max w.start s; end = earlier_end w.end e }) ≡ true → meets a w ≡ true

@@ -9,7 +9,7 @@ pub mod Listed
 pub mod Numbers
 pub mod Owned
 pub mod Parting
-pub mod Possible
+pub mod Costs
 pub mod Rights
 pub mod Seen
 pub mod Sharing

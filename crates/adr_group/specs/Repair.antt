@@ -1,5 +1,5 @@
 -- How much the repair of timelines compares.
-use Rattle.std.specs.Prelude.{◌≡◌, ℕ, ℤ, ◌+◌, ◌*◌, List, [], ◌∷◌, length, Option, if◌then◌else◌}
+use Rattle.std.specs.Prelude.{◌≡◌, ℕ, ℤ, ◌+◌, List, [], ◌∷◌, Option, if◌then◌else◌}
 use Rattle.std.specs.Option.{option_copied, option_map_or}
 use Rattle.adr_model.specs.declared.entry.Entry.{Entry}
 use Rattle.adr_model.specs.declared.timeline.Segment.{Segment}
@@ -32,12 +32,6 @@ most_inside writes entries (w ∷ windows) = most_compared (written_in writes en
 abbrev pub most_repaired : List TypeEntries → List ℕ → Indexes → ℕ
 most_repaired [] writes indexes = 0
 most_repaired (g ∷ windows) writes indexes = most_inside writes (under indexes g.payload_type) g.entries.items + most_repaired windows writes indexes
-
--- to build what wins inside each of the windows compares at most so much, whatever the writes
-abbrev pub most_possible : List TypeEntries → Indexes → ℕ
-most_possible [] indexes = 0
-most_possible (g ∷ windows) indexes =
-    (let n = length (under indexes g.payload_type) in length g.entries.items * (n * (2 * n + 1))) + most_possible windows indexes
 
 -- inside the windows the line shows what wins among the entries of the writes, and elsewhere what was shown
 abbrev pub IsRepaired : List ℕ → List Entry → List Entry → (ℤ → Option Winner) → List Segment → Type 0

@@ -21,6 +21,6 @@ mod writes;
 pub use gate::{Gate, NoGate};
 pub use group::Group;
 pub use job::{Done, Held, Job, do_jobs, shared_windows};
-pub use laws::{repairs_compare_little, right_moves};
+pub use laws::right_moves;
 pub use share::do_all;
 pub use writes::Writes;

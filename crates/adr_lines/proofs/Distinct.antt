@@ -1,5 +1,5 @@
 -- Entries that stand once: as they are taken out and inserted, and how many there can be.
-use Rattle.std.proofs.Common.{◌≡◌, inl, inr, ℕ, ◌+◌, ◌≤◌, ◌==◌, ◌||◌, Bool, true, false, not, cond, if◌then◌else◌, List, [], ◌∷◌, ◌++◌, length, map, filter, Some, refl, ap, sym, subst, ◌∙◌, eqb-true, arith}
+use Rattle.std.proofs.Common.{◌≡◌, inl, inr, ℕ, ◌+◌, ◌≤◌, ◌==◌, ◌||◌, Bool, true, false, not, cond, if◌then◌else◌, List, [], ◌∷◌, ◌++◌, length, filter, Some, refl, ap, sym, subst, ◌∙◌, eqb-true, arith}
 use Rattle.std.specs.HashMap.{HashMap, IsUnchanged, UpdatesBy, get_by_text}
 use Rattle.std.specs.List.{list_any}
 use Rattle.std.specs.Prelude.{String, Result, Ok, Err, OnErr, OnOk}
@@ -7,21 +7,14 @@ use Rattle.std.specs.Str.{bytes_eq}
 use Rattle.std.specs.String.{string_bytes, string_eq}
 use Rattle.std.proofs.lemmas.Bool.{and_parts}
 use Rattle.std.proofs.lemmas.Bool.Decides.{nat_tests}
-use Rattle.std.proofs.lemmas.List.{length-map}
 use Rattle.std.proofs.lemmas.List.Filters.{length-filter_both, sum_by-filter_both}
 use Rattle.std.proofs.lemmas.List.Sums.{length-filter, sum_by-append, sum_by-cons}
-use Rattle.adr_value.specs.Payload.{name_of}
 use Rattle.adr_model.specs.declared.entry.Entry.{Entry}
-use Rattle.adr_model.specs.declared.entry.Tie.{Tie}
 use Rattle.adr_model.specs.Entries.{is_listed_before}
 use Rattle.adr_model.specs.Lists.{In}
-use Rattle.adr_model.specs.Rank.{ranked}
 use Rattle.adr_model.proofs.Lists.{filter_none, none_passes, passing_in, In-filter}
-use Rattle.adr_lines.specs.Right.{all_of}
 use Rattle.adr_index.specs.Index.{inserted, inserted_all, is_entry, others, others_all, AreDistinct, AreNew, Indexed}
 use Rattle.adr_lines.specs.Distinct.{AreAllDistinct}
-use Rattle.adr_lines.specs.Exchange.{HoldsNoMore, IsIndexOf}
-use Rattle.adr_lines.specs.Indexes.{under}
 use Rattle.adr_lines.proofs.Put.{entries_at, entries_put, entries_there}
 
 -- ---- taken out
@@ -130,13 +123,6 @@ no_more (e ∷ es) xs d held =
     let rest = no_more es (filter there xs) (λ w p. omega (arith, d w p, count_cons (is_entry w p) e es))
     (λ x m. In-filter there xs x (held x (inr m)) (ap not (none_passes here es (none_left e es d) x m))) in
     omega (arith, both, one, rest)
-
-pub holds_no_more : (tie : Tie) → HoldsNoMore tie
-unfolding IsIndexOf
-holds_no_more tie events indexes held k =
-    let ranks = map (ranked tie) (all_of events k) in
-    let few : length (under indexes k) ≤ length ranks = no_more (under indexes k) ranks (indexes.distinct (name_of k)) (λ e m. (held k e).0 m) in
-    omega (arith, few, length-map (all_of events k) (ranked tie))
 
 -- ---- an index in its place
 

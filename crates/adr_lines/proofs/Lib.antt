@@ -5,7 +5,6 @@ pub mod Filled
 pub mod Held
 pub mod Put
 pub mod Turns
-pub mod Counted
 pub mod Covered
 pub mod Groups
 pub mod Intervals

@@ -1,5 +1,5 @@
 -- Events that go and come, and the entries that are indexed before and after.
-use Rattle.std.specs.Prelude.{◌≡◌, ◌↔◌, ◌⊎◌, ◌==◌, ◌≤◌, List, [], length, map}
+use Rattle.std.specs.Prelude.{◌≡◌, ◌↔◌, ◌⊎◌, ◌==◌, List, [], map}
 use Rattle.std.specs.List.{IsDistinct}
 use Rattle.adr_value.specs.declared.payload.PayloadType.{PayloadType}
 use Rattle.adr_model.specs.declared.entry.Tie.{Tie}
@@ -33,12 +33,6 @@ pub record IsExchange (old new gone come : List Written) : Type 0 where
   pub one : (w v : Written) → In w old → In v old → w.written ≡ v.written → w ≡ v
   pub gone_apart : HaveOwnNumbers gone
   pub come_apart : HaveOwnNumbers come
-
--- under no type are there more entries than the events have
-abbrev pub HoldsNoMore : Tie → Type 0
-HoldsNoMore tie =
-    (events : List Written) (indexes : Indexes) → IsIndexOf tie events indexes
-    → (payload_type : PayloadType) → length (under indexes payload_type) ≤ length (all_of events payload_type)
 
 -- the entries that come can be put in where those that go are taken out
 abbrev pub FitsTheIndex : Tie → Type 0

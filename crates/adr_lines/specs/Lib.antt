@@ -1,7 +1,6 @@
 pub mod Distinct
 pub mod Exchange
 pub mod Indexes
-pub mod Counted
 pub mod Grouped
 pub mod Laws
 pub mod Right

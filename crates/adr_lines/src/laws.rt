@@ -1,7 +1,7 @@
 //! What the indexes hold, and what an exchange makes of it: laws of the definitions, under either rule for ties.
 
 ghost use Rattle.adr_model.specs.declared.entry.Tie.{Tie};
-ghost use Rattle.adr_lines.specs.Exchange.{AreApart, FillsTheIndex, FitsTheIndex, HoldsNoMore, IsUndone, KeepsTheIndex, MakesTheIndex};
+ghost use Rattle.adr_lines.specs.Exchange.{AreApart, FillsTheIndex, FitsTheIndex, IsUndone, KeepsTheIndex, MakesTheIndex};
 
 /// Where the indexes hold the entries of the old events, and some of those go and others come, `Indexes::exchange`
 /// may be called, and then they hold the entries of the new ones; and they hold those of the old ones as long as no
@@ -20,10 +20,4 @@ pub fn exchange_laws()
 pub fn filling_laws()
     ensures apart { (tie : Tie) → AreApart tie }
     ensures fills { (tie : Tie) → FillsTheIndex tie }
-{}
-
-/// Where the indexes hold the entries of events, there are under no type more than those, as each entry stands once.
-/// The body does nothing.
-pub fn index_laws()
-    ensures { (tie : Tie) → HoldsNoMore tie }
 {}

@@ -10,5 +10,5 @@ mod winning;
 
 pub use grouped::{TypeEntries, event_entries, placed_entries};
 pub use indexes::Indexes;
-pub use laws::{exchange_laws, filling_laws, index_laws};
-pub use winning::{groups_are_counted, held_wins, same_wins};
+pub use laws::{exchange_laws, filling_laws};
+pub use winning::{held_wins, same_wins};

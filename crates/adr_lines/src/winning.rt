@@ -6,7 +6,6 @@
 //! resource: timelines of one payload type whose writes are the same are the same.
 
 ghost use Rattle.adr_model.specs.declared.entry.Tie.{Tie};
-ghost use Rattle.adr_lines.specs.Counted.{GroupsAreCounted};
 ghost use Rattle.adr_lines.specs.Laws.{HeldWins, SameWins};
 
 /// At an instant at which two lists of writes, each of its own events, agree on every event that competes there,
@@ -20,9 +19,4 @@ pub fn same_wins()
 /// taking those of its writes.
 pub fn held_wins()
     ensures { (tie : Tie) → HeldWins tie }
-{}
-
-/// The groups of an event's entries, as `event_entries` makes them, have together no more than the limit counts of it.
-pub fn groups_are_counted()
-    ensures { (tie : Tie) → GroupsAreCounted tie }
 {}

@@ -32,7 +32,7 @@ use Rattle.adr_lines.specs.declared.indexes.Indexes.{Indexes}
 use Rattle.adr_lines.specs.Indexes.{under}
 use Rattle.adr_group.specs.Repair.{most_inside, most_repaired}
 use Rattle.adr_regroup.specs.Compared.{most_compared_at, most_compared_in}
-use Rattle.adr_regroup.proofs.Possible.{made, made_carried}
+use Rattle.adr_regroup.proofs.Carried.{made, made_carried}
 use Rattle.adr_regroup.proofs.Sums.{sum_flat, sum_map, sum_nothing, sum_rises}
 
 -- ---- windows that don't last

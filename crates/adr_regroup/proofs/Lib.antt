@@ -1,15 +1,13 @@
 pub mod Applying
 pub mod Differing
 pub mod EditCosts
-pub mod EventCosts
 pub mod EventTouches
-pub mod Few
 pub mod Meeting
 pub mod PartyEdits
 pub mod PartyNumbers
 pub mod PartyWindows
 pub mod Placing
-pub mod Possible
+pub mod Carried
 pub mod Programs
 pub mod Reseated
 pub mod Sums

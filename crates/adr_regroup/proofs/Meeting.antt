@@ -23,7 +23,7 @@ use Rattle.adr_lines.specs.declared.indexes.Indexes.{Indexes}
 use Rattle.adr_lines.specs.Exchange.{IsIndexOf}
 use Rattle.adr_lines.specs.Indexes.{under}
 use Rattle.adr_lines.proofs.Distinct.{distinct_kept, no_more}
-use Rattle.adr_group.proofs.Possible.{cost_rises}
+use Rattle.adr_group.proofs.Costs.{cost_rises}
 
 module _ (tie : Tie) (events : List Written) (indexes : Indexes) (indexed : IsIndexOf tie events indexes) (book : Book) (r : Resource) (found : resource_by book r.id ≡ Some r)
     (writes : List ℕ) (fit : (w : Written) → In w events → has_number writes w.written ≡ true → In w book.events × (applies_to book r w ≡ true)) where

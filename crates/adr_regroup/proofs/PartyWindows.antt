@@ -1,5 +1,5 @@
 -- The entries of events on which writes differ.
-use Rattle.std.proofs.Common.{◌≡◌, ◌≤◌, ◌+◌, ◌*◌, ◌==◌, ◌||◌, ◌⊎◌, inl, inr, ℕ, ℤ, Bool, true, false, if◌then◌else◌, List, [], ◌∷◌, ◌++◌, map, length, Option, Some, None, refl, ap, sym, subst, ◌∙◌, append_assoc, arith, eqb-true, eq-eqb}
+use Rattle.std.proofs.Common.{◌≡◌, ◌≤◌, ◌+◌, ◌==◌, ◌||◌, ◌⊎◌, inl, inr, ℕ, ℤ, Bool, true, false, if◌then◌else◌, List, [], ◌∷◌, ◌++◌, map, Option, Some, None, refl, ap, sym, subst, ◌∙◌, append_assoc, arith, eqb-true, eq-eqb}
 use Rattle.std.proofs.lemmas.Bool.{both_ways}
 use Rattle.std.proofs.lemmas.Grind.{flat_map-append}
 use Rattle.std.proofs.lemmas.List.{map-append}
@@ -20,12 +20,10 @@ use Rattle.adr_lines.specs.Right.{has_number}
 use Rattle.adr_lines.proofs.Covered.{any_left, any_ranked, any_right}
 use Rattle.adr_lines.specs.declared.indexes.Indexes.{Indexes}
 use Rattle.adr_group.specs.Group.{AreWindowsOf}
-use Rattle.adr_group.specs.Repair.{most_possible, most_repaired}
-use Rattle.adr_group.proofs.Possible.{both_possible}
+use Rattle.adr_group.specs.Repair.{most_repaired}
 use Rattle.adr_group.proofs.Turns.{most_both}
-use Rattle.adr_schedule.proofs.Shifts.{one_share}
 use Rattle.adr_regroup.specs.Compared.{cost_but, cost_unless, IsMostFor}
-use Rattle.adr_regroup.specs.Party.{entries_but, entries_by, entries_unless, IsMostOf}
+use Rattle.adr_regroup.specs.Party.{entries_but, entries_by, entries_unless}
 
 -- ---- the event of a number
 
@@ -64,16 +62,6 @@ module _ (tie : Tie) (events : List Written) (n : ℕ) (e : Event) (start after 
       ∙ ap (λ o. map (ranked tie) (option_map_or (entries_of k) o [])) (sym the_event.1)
       ∙ ap (λ (b : Bool). map (ranked tie) (if b then [] else entries_by events n k)) (sym apart))
 
-  pub added_most : HaveOwnTypes groups → (indexes : Indexes) (most : ℕ) → IsMostOf tie events indexes most → most_possible after indexes ≤ most_possible start indexes + most
-  added_most own indexes most bound =
-      let w = the_event.0 in
-      let little : most_possible groups indexes ≤ most = bound w groups (found_number events n w the_event.1).0 own its_entries in
-      let both : most_possible after indexes ≡ most_possible start indexes + most_possible groups indexes = ap (λ gs. most_possible gs indexes) made ∙ both_possible start groups indexes in
-      at_most (most_possible after indexes) (most_possible start indexes) (most_possible groups indexes) most both little
-    where
-      at_most : (a b c d : ℕ) → a ≡ b + c → c ≤ d → a ≤ b + d
-      at_most a b c d e l = omega (arith, e, l)
-
   pub added_least : (others : List ℕ) → has_number others n ≡ false → HaveOwnTypes groups → (indexes : Indexes) (writes : List ℕ) (cost : Written → ℕ) → IsMostFor tie events indexes writes cost
       → most_repaired after writes indexes ≤ most_repaired start writes indexes + cost_unless cost events others n
   added_least others apart own indexes writes cost bound =
@@ -96,14 +84,6 @@ module _ (tie : Tie) (events : List Written) (others : List ℕ) (now after : Li
       ∙ ap (λ es. entries_under now k ++ es) (sym (map-append (ranked tie) (entries_unless events others n k) (entries_but events more others k)))
       ∙ ap (λ ns. entries_under now k ++ map (ranked tie) (entries_but events ns others k)) (sym first)
       ∙ before
-
-  pub turn_most : (indexes : Indexes) (most all : ℕ) → most_possible after indexes ≤ most_possible now indexes + most
-      → most_possible now indexes + length rest * most ≤ all → most_possible after indexes + length more * most ≤ all
-  turn_most indexes most all h before =
-      by (most_possible after indexes) (most_possible now indexes) (length rest * most) (length more * most) (ap (λ ns. length ns * most) first ∙ one_share (length more) most) h before
-    where
-      by : (a b r m : ℕ) → r ≡ most + m → a ≤ b + most → b + r ≤ all → a + m ≤ all
-      by a b r m e h k = omega (arith, e, h, k)
 
   pub turn_least : (indexes : Indexes) (writes : List ℕ) (cost : Written → ℕ) (all : ℕ)
       → most_repaired after writes indexes ≤ most_repaired now writes indexes + cost_unless cost events others n
@@ -180,23 +160,6 @@ module _ (events : List Written) (one : (w v : Written) → In w events → In v
       ∙ ap (λ es. es ++ map (ranked tie) (entries_but events news old k))
       (first k ∙ ap (λ gs. entries_under gs k ++ map (ranked tie) (entries_but events olds new k)) none ∙ ap (λ ns. map (ranked tie) (entries_but events ns new k)) same)
       ∙ ap (λ ns. map (ranked tie) (entries_but events old new k) ++ map (ranked tie) (entries_but events ns old k)) same_new)
-
-shares : (a b m : ℕ) → (a + b) * m ≡ a * m + b * m
-shares a b m = grind arith
-
-pub differ_most : (indexes : Indexes) (most : ℕ) (old new olds news : List ℕ) (start mid windows : List TypeEntries) → start ≡ [] → olds ≡ old → news ≡ new
-    → most_possible mid indexes ≤ most_possible start indexes + length olds * most
-    → most_possible windows indexes ≤ most_possible mid indexes + length news * most
-    → most_possible windows indexes ≤ (length old + length new) * most
-differ_most indexes most old new olds news start mid windows none same same_new first second =
-    by (most_possible start indexes) (most_possible mid indexes) (most_possible windows indexes) (length old * most) (length new * most) ((length old + length new) * most)
-    (ap (λ gs. most_possible gs indexes) none)
-    (subst (λ ns. most_possible mid indexes ≤ most_possible start indexes + length ns * most) same first)
-    (subst (λ ns. most_possible windows indexes ≤ most_possible mid indexes + length ns * most) same_new second)
-    (shares (length old) (length new) most)
-  where
-    by : (s m w a b all : ℕ) → s ≡ 0 → m ≤ s + a → w ≤ m + b → all ≡ a + b → w ≤ all
-    by s m w a b all e f g h = omega (arith, e, f, g, h)
 
 pub differ_least : (events : List Written) (indexes : Indexes) (writes : List ℕ) (cost : Written → ℕ) (old new olds news : List ℕ) (start mid windows : List TypeEntries) → start ≡ [] → olds ≡ old → news ≡ new
     → most_repaired mid writes indexes ≤ most_repaired start writes indexes + cost_but cost events olds new

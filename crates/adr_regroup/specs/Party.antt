@@ -1,8 +1,7 @@
 -- What an edit of a ven or of a resource asks of the schedule.
-use Rattle.std.specs.Prelude.{◌≡◌, ◌<◌, ◌≤◌, ◌+◌, ◌*◌, ℕ, Bool, true, false, List, [], length, map, flat_map, slice_get, Some, if◌then◌else◌}
+use Rattle.std.specs.Prelude.{◌≡◌, ◌<◌, ◌≤◌, ℕ, Bool, true, false, List, [], length, flat_map, slice_get, Some, if◌then◌else◌}
 use Rattle.std.specs.Option.{option_map_or}
 use Rattle.std.specs.Str.{bytes_eq}
-use Rattle.adr_value.specs.declared.limits.TheConstants.{MOST_ENTRIES, MOST_VERSION}
 use Rattle.adr_value.specs.declared.payload.PayloadType.{PayloadType}
 use Rattle.adr_object.specs.declared.object.Edit.{Edit}
 use Rattle.adr_object.specs.declared.object.Edit.TheVariants.{Create, Change, Remove}
@@ -19,17 +18,12 @@ use Rattle.adr_model.specs.declared.written.Written.{Written}
 use Rattle.adr_model.specs.Book.{Book}
 use Rattle.adr_model.specs.Governor.{applies_to, entries_of}
 use Rattle.adr_model.specs.Lists.{In}
-use Rattle.adr_model.specs.Rank.{ranked}
 use Rattle.adr_keys.specs.declared.key.Key.{Key}
 use Rattle.adr_audience.specs.Asks.{applies_with, asked_keys, asks_of}
 use Rattle.adr_audience.specs.Offers.{offers}
-use Rattle.adr_lines.specs.declared.grouped.TypeEntries.{TypeEntries}
-use Rattle.adr_lines.specs.Grouped.{entries_under, HaveOwnTypes}
 use Rattle.adr_lines.specs.Right.{has_number}
-use Rattle.adr_lines.specs.declared.indexes.Indexes.{Indexes}
 use Rattle.adr_schedule.specs.Moves.{is_among}
 use Rattle.adr_schedule.specs.Seating.{has_at, AreRight, Seating}
-use Rattle.adr_group.specs.Repair.{most_possible}
 use Rattle.adr_regroup.specs.Compared.{StandOnce}
 use Rattle.adr_regroup.specs.declared.reseat.Seen.{Seen}
 
@@ -58,12 +52,6 @@ entries_unless events others n payload_type = if has_number others n then [] els
 abbrev pub entries_but : List Written → List ℕ → List ℕ → PayloadType → List Entry
 entries_but events numbers others payload_type = flat_map (λ n. entries_unless events others n payload_type) numbers
 
--- repair inside the entries of one event compares at most so much
-abbrev pub IsMostOf : Tie → List Written → Indexes → ℕ → Type 0
-IsMostOf tie events indexes most =
-    (w : Written) (groups : List TypeEntries) → In w events → HaveOwnTypes groups
-    → ((k : PayloadType) → entries_under groups k ≡ map (ranked tie) (entries_of k w)) → most_possible groups indexes ≤ most
-
 -- ---- the resources whose groups change
 
 -- the id of the object that the edit is of
@@ -89,18 +77,6 @@ pub record AreSeatedBut (tie : Tie) (book : Book) (places : List ℕ) (s : Seati
   pub writes : (place : ℕ) (r : Resource) (w : Written) → slice_get book.resources place ≡ Some r → In w book.events
       → is_among places place ≡ false → has_at s place w.written ≡ applies_to book r w
   pub known : (place n : ℕ) → has_at s place n ≡ true → (w : Written) × In w book.events × (w.written ≡ n)
-
--- a place has no more writes than there are versions
-abbrev pub most_writes : ℕ
-most_writes = MOST_VERSION + 1
-
--- inside the entries of one event no more is compared, within the limits
-abbrev pub most_by_event : ℕ
-most_by_event = MOST_ENTRIES * (MOST_ENTRIES * (2 * MOST_ENTRIES + 1))
-
--- to give a place other writes compares no more, within the limits
-abbrev pub most_reseated : ℕ
-most_reseated = (most_writes + most_writes) * most_by_event
 
 -- the edit is of a ven
 abbrev pub is_ven : Object → Bool

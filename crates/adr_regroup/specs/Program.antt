@@ -1,7 +1,5 @@
 -- What an edit of a program does to the seating.
-use Rattle.std.specs.Prelude.{◌≡◌, ◌<◌, ◌≤◌, ◌+◌, ◌*◌, ℕ, Bool, true, false, List, get_or, length, sum_by, Some, slice_get}
-use Rattle.adr_value.specs.declared.payload.PayloadType.{PayloadType}
-use Rattle.adr_object.specs.declared.event.Event.{Event}
+use Rattle.std.specs.Prelude.{◌≡◌, ◌<◌, ◌≤◌, ℕ, Bool, true, false, List, get_or, length, Some, slice_get}
 use Rattle.adr_object.specs.declared.object.Object.{Object}
 use Rattle.adr_object.specs.declared.object.Object.TheVariants.{Program as program}
 use Rattle.adr_object.specs.declared.object.Kind.TheVariants.{Program as program_kind}
@@ -13,9 +11,6 @@ use Rattle.adr_model.specs.declared.written.Written.{Written}
 use Rattle.adr_model.specs.Book.{Book}
 use Rattle.adr_model.specs.Edits.{made}
 use Rattle.adr_model.specs.Governor.{applies_to}
-use Rattle.adr_model.specs.Touches.{types_of}
-use Rattle.adr_lines.specs.declared.indexes.Indexes.{Indexes}
-use Rattle.adr_lines.specs.Indexes.{under}
 use Rattle.adr_schedule.specs.Moves.{is_among}
 use Rattle.adr_regroup.specs.Compared.{StandOnce}
 
@@ -51,11 +46,3 @@ pub record AreThoseMarked (marks : List Bool) (reached : ℕ) (places : List ℕ
   pub before : (p : ℕ) → is_among places p ≡ true → p < reached
   pub few : length places ≤ reached
   pub once : StandOnce places reached
-
--- to build what wins inside one window of the type compares at most so much
-abbrev pub most_under : Indexes → PayloadType → ℕ
-most_under indexes payload_type = let n = length (under indexes payload_type) in n * (2 * n + 1)
-
--- inside the windows of the event
-abbrev pub most_in : Indexes → Event → ℕ
-most_in indexes event = sum_by (λ i. sum_by (most_under indexes) (types_of i.payloads)) event.intervals

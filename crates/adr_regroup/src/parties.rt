@@ -9,7 +9,7 @@ ghost use Rattle.adr_schedule.specs.Place.{LacksPlace, StaysRight};
 ghost use Rattle.adr_schedule.specs.Seating.{AreSeatedFor};
 ghost use Rattle.adr_regroup.specs.Compared.{most_compared_in, most_reseated_at};
 ghost use Rattle.adr_regroup.specs.Edited.{IsEdited};
-ghost use Rattle.adr_regroup.specs.Party.{is_of_resource, is_of_ven, most_reseated, AreSeatedBut, KeepsEvents};
+ghost use Rattle.adr_regroup.specs.Party.{is_of_resource, is_of_ven, AreSeatedBut, KeepsEvents};
 
 use crate::basis::Basis;
 use crate::edited::Edited;

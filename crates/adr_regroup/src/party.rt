@@ -10,13 +10,13 @@ ghost use Rattle.adr_lines.specs.Grouped.{entries_under};
 ghost use Rattle.adr_lines.specs.declared.indexes.Indexes.{Indexes as AnyIndexes};
 ghost use Rattle.adr_group.specs.Group.{AreWindowsOf, Lines};
 ghost use Rattle.adr_group.specs.Jobs.{IsCrew};
-ghost use Rattle.adr_group.specs.Repair.{most_possible, most_repaired};
+ghost use Rattle.adr_group.specs.Repair.{most_repaired};
 ghost use Rattle.adr_lines.specs.Exchange.{IsIndexOf};
 ghost use Rattle.adr_schedule.specs.Place.{IsRewritten};
 ghost use Rattle.adr_schedule.specs.Seating.{group_at, AreRight};
 ghost use Rattle.adr_model.specs.declared.written.Written.{Written};
 ghost use Rattle.adr_regroup.specs.Compared.{cost_but, cost_unless, IsMostFor};
-ghost use Rattle.adr_regroup.specs.Party.{entries_but, entries_unless, AreWritesFor, IsMostOf};
+ghost use Rattle.adr_regroup.specs.Party.{entries_but, entries_unless, AreWritesFor};
 
 use crate::basis::Basis;
 use adr_audience::{Asked, Audiences, events_follow_asked};
@@ -60,7 +60,6 @@ fn add_event(
     windows: &mut Vec<TypeEntries>,
 ) -> Result<(), Refusal>
     ensures entries { OnOk result ((k : AnyType) → entries_under windows.new.items k ≡ entries_under windows.old.items k ++ map (ranked tie) (entries_unless book.now.objects.events others.now number k)) }
-    ensures most { OnOk result ((indexes : AnyIndexes) (most : ℕ) → IsMostOf tie book.now.objects.events indexes most → most_possible windows.new.items indexes ≤ most_possible windows.old.items indexes + most) }
     ensures least { OnOk result ((indexes : AnyIndexes) (writes : List ℕ) (cost : Written → ℕ) → IsMostFor tie book.now.objects.events indexes writes cost → most_repaired windows.new.items writes indexes ≤ most_repaired windows.old.items writes indexes + cost_unless cost book.now.objects.events others.now number) }
     ensures refusal { OnlyNoMemory result }
 {
@@ -85,7 +84,6 @@ fn add_events(
     windows: &mut Vec<TypeEntries>,
 ) -> Result<(), Refusal>
     ensures entries { OnOk result ((k : AnyType) → entries_under windows.new.items k ≡ entries_under windows.old.items k ++ map (ranked tie) (entries_but book.now.objects.events numbers.now others.now k)) }
-    ensures most { OnOk result ((indexes : AnyIndexes) (most : ℕ) → IsMostOf tie book.now.objects.events indexes most → most_possible windows.new.items indexes ≤ most_possible windows.old.items indexes + length numbers.now * most) }
     ensures least { OnOk result ((indexes : AnyIndexes) (writes : List ℕ) (cost : Written → ℕ) → IsMostFor tie book.now.objects.events indexes writes cost → most_repaired windows.new.items writes indexes ≤ most_repaired windows.old.items writes indexes + cost_but cost book.now.objects.events numbers.now others.now) }
     ensures refusal { OnlyNoMemory result }
 {
@@ -106,7 +104,6 @@ fn difference(
     new: &Writes,
 ) -> Result<Vec<TypeEntries>, Refusal>
     ensures windows { IfOk result (λ windows. AreWindowsOf book.now.objects.events old.now new.now (entries_under windows.items)) }
-    ensures most { IfOk result (λ windows. (indexes : AnyIndexes) (most : ℕ) → IsMostOf tie book.now.objects.events indexes most → most_possible windows.items indexes ≤ (length old.now + length new.now) * most) }
     ensures least { IfOk result (λ windows. (indexes : AnyIndexes) (writes : List ℕ) (cost : Written → ℕ) → IsMostFor tie book.now.objects.events indexes writes cost → most_repaired windows.items writes indexes ≤ cost_but cost book.now.objects.events old.now new.now + cost_but cost book.now.objects.events new.now old.now) }
     ensures refusal { OnlyNoMemory result }
 {
@@ -138,7 +135,6 @@ pub(crate) fn with_writes<C: Fn(&Indexes, &[Job]) -> Result<Vec<Done>, Refusal>>
     requires within { spot.place < length schedule.now.seats }
     ensures writes { IfOk result (λ after. IsRewritten spot.place writes.now schedule.now after) }
     ensures right { IfOk result (λ after. IsIndexOf basis.now.tie basis.now.new.now.objects.events basis.now.indexes.now → AreRight basis.now.tie basis.now.new.now.objects.events schedule.now → AreRight basis.now.tie basis.now.new.now.objects.events after) }
-    ensures compared { (g : Lines) (most : ℕ) → group_at schedule.now spot.place ≡ Some g → IsMostOf basis.now.tie basis.now.new.now.objects.events basis.now.indexes.now most → meter.new ≤ meter.old + (length g.writes + length writes.now) * most }
     ensures least { (g : Lines) (cost : Written → ℕ) → group_at schedule.now spot.place ≡ Some g → IsMostFor basis.now.tie basis.now.new.now.objects.events basis.now.indexes.now writes.now cost → meter.new ≤ meter.old + (cost_but cost basis.now.new.now.objects.events g.writes writes.now + cost_but cost basis.now.new.now.objects.events writes.now g.writes) }
     ensures refusal { OnlyNoMemory result }
 {

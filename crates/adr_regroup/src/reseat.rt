@@ -10,13 +10,13 @@ ghost use Rattle.adr_schedule.specs.Moves.{is_among};
 ghost use Rattle.adr_schedule.specs.Seating.{group_at, AreSeatedFor};
 ghost use Rattle.adr_regroup.specs.Compared.{most_reseated_at};
 ghost use Rattle.adr_regroup.specs.Edited.{IsBasis};
-ghost use Rattle.adr_regroup.specs.Party.{most_reseated, AreSeatedBut, AreWritesAt, IsSeen};
+ghost use Rattle.adr_regroup.specs.Party.{AreSeatedBut, AreWritesAt, IsSeen};
 
 use crate::basis::Basis;
 use crate::party::{Spot, with_writes, writes_for};
 use adr_audience::Asked;
 use adr_group::{Done, Job, Writes};
-use adr_lines::{Indexes, index_laws};
+use adr_lines::Indexes;
 use adr_object::{Resource, Ven};
 use adr_rule::Meter;
 use adr_schedule::Schedule;
@@ -139,13 +139,11 @@ fn reseated<C: Fn(&Indexes, &[Job]) -> Result<Vec<Done>, Refusal>>(
     requires writes { AreWritesAt basis.now.new.now.objects spot.place writes.now }
     requires seated { AreSeatedBut basis.now.tie basis.now.new.now.objects (spot.place ∷ others.now) schedule.now }
     ensures seated { IfOk result (AreSeatedBut basis.now.tie basis.now.new.now.objects others.now) }
-    ensures compared { meter.new ≤ meter.old + most_reseated }
     ensures least { OnOk result (meter.new ≤ meter.old + most_reseated_at basis.now.new.now.objects schedule.now spot.place) }
     ensures fewer { IfOk result (λ after. (p : ℕ) → most_reseated_at basis.now.new.now.objects after p ≤ most_reseated_at basis.now.new.now.objects schedule.now p) }
     ensures refusal { OnlyNoMemory result }
 {
     basis.new.book_laws();
-    index_laws();
     schedule.schedule_laws();
     let place = spot.place;
     let _ = writes.numbers();
@@ -172,7 +170,6 @@ pub(crate) fn reseated_all<C: Fn(&Indexes, &[Job]) -> Result<Vec<Done>, Refusal>
     requires basis { IsBasis basis.now }
     requires seated { AreSeatedBut basis.now.tie basis.now.new.now.objects places.now schedule }
     ensures seated { IfOk result (AreSeatedFor basis.now.tie basis.now.new.now.objects) }
-    ensures compared { meter.new ≤ meter.old + length places.now * most_reseated }
     ensures least { OnOk result (meter.new ≤ meter.old + sum_by (most_reseated_at basis.now.new.now.objects schedule) places.now) }
     ensures refusal { OnlyNoMemory result }
 {

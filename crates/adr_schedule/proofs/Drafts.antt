@@ -16,22 +16,21 @@ use Rattle.adr_lines.specs.Exchange.{IsIndexOf}
 use Rattle.adr_group.specs.declared.job.Job.{Job}
 use Rattle.adr_group.specs.Group.{AreWindowsOf, IsRightOf, Lines}
 use Rattle.adr_group.specs.Jobs.{most_done, AreGathered, IsJobOf}
-use Rattle.adr_group.specs.Repair.{most_possible, most_repaired}
-use Rattle.adr_group.proofs.Possible.{both_possible, possible}
+use Rattle.adr_group.specs.Repair.{most_repaired}
 use Rattle.adr_group.proofs.Tasks.{jobs_compare, most_asked, tasks_compare}
 use Rattle.adr_shared.specs.Map.{put}
 use Rattle.adr_schedule.specs.declared.change.Change.{Change}
 use Rattle.adr_schedule.specs.declared.change.Side.{Side}
 use Rattle.adr_schedule.specs.declared.draft.Draft.{Draft}
 use Rattle.adr_schedule.specs.Draft.{most_drafted, tasks_of, AreDraftsIn, AreDraftsOf, AreMadeOf, AreMadeSoFar, AreSeen, IsDraftOf, IsMadeOf, IsSame, IsSeen}
-use Rattle.adr_schedule.specs.Moves.{asked_at, is_among, AreMadeFor}
-use Rattle.adr_schedule.specs.Shift.{entries_in, kept_side, most_shifted, sides_for, sides_of, AreTwo, Becomes}
-use Rattle.adr_schedule.specs.Slots.{in_slot, value_at}
+use Rattle.adr_schedule.specs.Moves.{is_among, AreMadeFor}
+use Rattle.adr_schedule.specs.Shift.{entries_in, kept_side, most_shifted, sides_for, AreTwo, Becomes}
+use Rattle.adr_schedule.specs.Slots.{in_slot}
 use Rattle.std.proofs.lemmas.List.Sums.{sum_by-append, sum_by-cons, sum_by_push}
 use Rattle.adr_schedule.proofs.Least.{repaired_shifted}
 use Rattle.adr_schedule.proofs.Numbered.{one_or_other, put_elsewhere, put_here}
 use Rattle.adr_schedule.proofs.Seated.{none_is_some, some_same}
-use Rattle.adr_schedule.proofs.Variant.{becomes_itself, becomes_repaired, kept_is, sides_less}
+use Rattle.adr_schedule.proofs.Variant.{becomes_itself, becomes_repaired, kept_is}
 
 -- ---- lists with one more
 
@@ -94,24 +93,6 @@ jobs_compare_one indexes draft slice jobs same fit =
 -- a draft of a group compares what the change asks of it
 pub draft_compares : (change : Change) (indexes : Indexes) (g : Lines) (d : Draft) → AreTwo change → IsDraftOf change g d → most_repaired d.windows.items d.writes indexes ≡ most_shifted change indexes g
 draft_compares change indexes g d two of = of.windows.cost d.writes indexes ∙ repaired_shifted change indexes g d.writes two of.writes
-
--- no group is asked more than is possible
-asked_possible : (change : Change) (indexes : Indexes) (g : Lines) → most_shifted change indexes g ≤ most_possible (sides_of change) indexes
-unfolding most_shifted
-asked_possible change indexes g = by (possible (sides_for change g.writes) _ indexes) (sides_less change g.writes indexes both_possible)
-  where
-    by : {a b c : ℕ} → a ≤ b → b ≤ c → a ≤ c
-    by h k = omega (arith, h, k)
-
-pub places_possible : (change : Change) (indexes : Indexes) (seats : List ℕ) (groups : List (List ℕ × Lines)) (places : List ℕ)
-    → sum_by (asked_at (most_shifted change indexes) seats groups) places ≤ length places * most_possible (sides_of change) indexes
-places_possible change indexes seats groups [] = omega arith
-places_possible change indexes seats groups (p ∷ places) =
-    by (length places) (sum_by-cons (asked_at (most_shifted change indexes) seats groups) p places) (one (value_at seats groups p)) (places_possible change indexes seats groups places)
-  where
-    one : (o : Option Lines) → option_map_or (most_shifted change indexes) o 0 ≤ most_possible (sides_of change) indexes
-    one None = omega arith
-    one (Some g) = asked_possible change indexes g
 
     by : {s a b m : ℕ} (n : ℕ) → s ≡ a + b → a ≤ m → b ≤ n * m → s ≤ suc n * m
     by n e h k = omega (arith, e, h, k)

@@ -31,7 +31,7 @@ use Rattle.adr_group.specs.Laid.{most_exchanged, AreOwnOf, IsComing, IsHeld, IsM
 use Rattle.adr_group.specs.Repair.{most_inside}
 use Rattle.adr_group.specs.Writes.{changed_number, is_number}
 use Rattle.adr_group.proofs.Joining.{ranks_held}
-use Rattle.adr_group.proofs.Possible.{cost_rises}
+use Rattle.adr_group.proofs.Costs.{cost_rises}
 use Rattle.adr_group.proofs.Seen.{inside_append}
 use Rattle.adr_group.proofs.Tasks.{own_whole}
 use Rattle.adr_group.proofs.Turns.{under_both}

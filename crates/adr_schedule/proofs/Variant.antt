@@ -1,5 +1,5 @@
 -- What becomes of a group.
-use Rattle.std.proofs.Common.{◌≡◌, ℕ, ℤ, ◌+◌, ◌≤◌, ◌==◌, ◌⊎◌, inl, inr, Bool, true, false, if◌then◌else◌, List, ◌++◌, Option, Some, None, refl, ap, sym, subst, ◌∙◌, arith, eqb-true}
+use Rattle.std.proofs.Common.{◌≡◌, ℕ, ℤ, ◌+◌, ◌==◌, ◌⊎◌, inl, inr, Bool, true, false, if◌then◌else◌, List, ◌++◌, Option, Some, None, refl, ap, sym, subst, ◌∙◌, eqb-true}
 use Rattle.std.proofs.lemmas.Bool.{both_ways}
 use Rattle.std.proofs.lemmas.Grind.{flat_map-append}
 use Rattle.adr_value.specs.declared.payload.PayloadType.{PayloadType}
@@ -13,12 +13,11 @@ use Rattle.adr_lines.proofs.Covered.{any_left, any_ranked, any_right}
 use Rattle.adr_lines.specs.declared.indexes.Indexes.{Indexes}
 use Rattle.adr_lines.specs.Exchange.{IsIndexOf}
 use Rattle.adr_group.specs.Group.{Lines, AreWindowsOf, IsRightOf}
-use Rattle.adr_group.specs.Repair.{most_possible}
 use Rattle.adr_group.specs.Writes.{changed_number, is_number}
 use Rattle.adr_schedule.specs.declared.change.Change.{Change}
 use Rattle.adr_schedule.specs.declared.change.Side.{Side}
 use Rattle.adr_schedule.specs.Seating.{shifted}
-use Rattle.adr_schedule.specs.Shift.{entries_in, kept_side, number_in, sides_of, AreSidesOf, AreTwo, Becomes, HasEntriesOf}
+use Rattle.adr_schedule.specs.Shift.{entries_in, kept_side, number_in, AreSidesOf, AreTwo, Becomes, HasEntriesOf}
 
 -- ---- shifts of one number
 
@@ -176,34 +175,6 @@ windows_are change writes others tie events numbers sides w m = by (is_number (n
         (subst (λ o. any_covers_at (entries_under (entries_in o) k) t ≡ true) (sym r.1)
         (covered r.0 (sides r.0 (inr (kept_is false writes change.come r.0 r.1))) r.2 k t h)))
     by false g false c = inl (sym (numbers w.written ∙ rw (c, g) refl))
-
--- ---- how much is compared
-
-kept_less : (has : Bool) (writes : List ℕ) (indexes : Indexes) (o : Option Side) → most_possible (entries_in (kept_side has writes o)) indexes ≤ most_possible (entries_in o) indexes
-kept_less has writes indexes None = omega arith
-kept_less true writes indexes (Some s) = by (has_number writes s.written)
-  where
-    by : (b : Bool) → most_possible (entries_in (if b then Some s else None)) indexes ≤ most_possible s.entries.items indexes
-    by true = omega arith
-    by false = omega arith
-kept_less false writes indexes (Some s) = by (has_number writes s.written)
-  where
-    by : (b : Bool) → most_possible (entries_in (if b then None else Some s)) indexes ≤ most_possible s.entries.items indexes
-    by true = omega arith
-    by false = omega arith
-
--- the sides that make a difference have no more entries than all
-pub sides_less : (change : Change) (writes : List ℕ) (indexes : Indexes)
-    → ((windows more : List TypeEntries) (ix : Indexes) → most_possible (windows ++ more) ix ≡ most_possible windows ix + most_possible more ix)
-    → most_possible (entries_in (kept_side true writes change.gone) ++ entries_in (kept_side false writes change.come)) indexes ≤ most_possible (sides_of change) indexes
-sides_less change writes indexes both =
-    omega (
-      arith,
-      both (entries_in (kept_side true writes change.gone)) (entries_in (kept_side false writes change.come)) indexes,
-      both (entries_in change.gone) (entries_in change.come) indexes,
-      kept_less true writes indexes change.gone,
-      kept_less false writes indexes change.come,
-    )
 
 -- ---- the group
 

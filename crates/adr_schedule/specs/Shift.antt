@@ -15,7 +15,6 @@ use Rattle.adr_lines.specs.Grouped.{entries_under}
 use Rattle.adr_lines.specs.Right.{has_number}
 use Rattle.adr_group.specs.Group.{Lines, IsRightOf}
 use Rattle.adr_group.specs.Laid.{AreOwnOf, IsComing}
-pub use Rattle.adr_group.specs.Repair.{most_possible}
 use Rattle.adr_group.specs.Repair.{most_repaired}
 use Rattle.adr_group.specs.Writes.{is_number, stays}
 use Rattle.adr_schedule.specs.declared.change.Change.{Change}
@@ -60,10 +59,6 @@ pub record IsLaidBy (ranks : Option (Winner → Rank)) (indexes : Indexes) (chan
 pub record Becomes (change : Change) (indexes : Indexes) (g h : Lines) : Type 0 where
   pub writes : (n : ℕ) → has_number h.writes n ≡ shifted (number_in change.gone) (number_in change.come) (has_number g.writes n) n
   pub right : (tie : Tie) (events : List Written) → IsIndexOf tie events indexes → AreSidesOf tie events change → IsRightOf tie events g → IsRightOf tie events h
-
--- the entries of both
-abbrev pub sides_of : Change → List TypeEntries
-sides_of change = entries_in change.gone ++ entries_in change.come
 
 -- the entries of those that make a difference to a group of these writes
 abbrev pub sides_for : Change → List ℕ → List TypeEntries

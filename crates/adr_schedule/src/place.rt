@@ -8,7 +8,7 @@ ghost use Rattle.adr_lines.specs.Grouped.{entries_under};
 ghost use Rattle.adr_lines.specs.Exchange.{IsIndexOf};
 ghost use Rattle.adr_group.specs.Group.{AreWindowsOf, IsRightOf, Lines};
 ghost use Rattle.adr_group.specs.Jobs.{IsCrew};
-ghost use Rattle.adr_group.specs.Repair.{most_possible, most_repaired};
+ghost use Rattle.adr_group.specs.Repair.{most_repaired};
 ghost use Rattle.adr_schedule.specs.Place.{HasPlace, HasValue, IsPlaced, IsRewritten, IsSlotWith, LacksPlace, StaysRight, StaysRightInside};
 ghost use Rattle.adr_schedule.specs.Seating.{group_at};
 ghost use Rattle.adr_schedule.specs.Slots.{in_slot, is_taken};
@@ -17,7 +17,7 @@ use crate::draft::draft_with;
 use crate::made::one_made_by;
 use crate::moves::{Moves, sit};
 use crate::schedule::Schedule;
-use adr_group::{Done, Group, Job, Writes, repairs_compare_little};
+use adr_group::{Done, Group, Job, Writes};
 use adr_lines::{Indexes, TypeEntries};
 use adr_rule::Meter;
 use adr_seats::Seats;
@@ -59,11 +59,9 @@ fn remade<C: Fn(&Indexes, &[Job]) -> Result<Vec<Done>, Refusal>>(
     requires crew { IsCrew (λ v. v.items) (C.pre crew.now) (C.post crew.now) }
     ensures writes { IfOk result (λ made. made.writes ≡ writes.now) }
     ensures right { IfOk result (λ made. (tie : Tie) (events : List Written) → IsIndexOf tie events indexes.now → AreWindowsOf events group.now.writes writes.now (entries_under windows.now) → IsRightOf tie events group.now → IsRightOf tie events made) }
-    ensures compared { meter.new ≤ meter.old + most_possible windows.now indexes.now }
     ensures least { meter.new ≤ meter.old + most_repaired windows.now writes.now indexes.now }
     ensures refusal { OnlyNoMemory result }
 {
-    repairs_compare_little();
     let draft = draft_with(alloc, slot, group, writes, windows)?;
     let made = one_made_by(alloc, indexes, crew, &draft, meter)?;
     Ok(made)
@@ -267,8 +265,7 @@ impl Schedule {
         requires crew { IsCrew (λ v. v.items) (C.pre crew.now) (C.post crew.now) }
         ensures writes { IfOk result (λ after. IsRewritten place writes.now self.now after) }
         ensures right { IfOk result (λ after. StaysRightInside indexes.now windows.now place writes.now self.now after) }
-        ensures compared { meter.new ≤ meter.old + most_possible windows.now indexes.now }
-        ensures least { meter.new ≤ meter.old + most_repaired windows.now writes.now indexes.now }
+            ensures least { meter.new ≤ meter.old + most_repaired windows.now writes.now indexes.now }
         ensures refusal { OnlyNoMemory result }
     {
         let Some(slot) = self.seats.get().slot(place) else {

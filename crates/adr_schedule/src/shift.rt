@@ -6,7 +6,7 @@ ghost use Rattle.adr_group.specs.Group.{Lines};
 ghost use Rattle.adr_group.specs.Jobs.{IsCrew};
 ghost use Rattle.adr_schedule.specs.Moves.{is_among, AreMadeFor, AreMoving, HasMoved, IsMadeAt, IsNext, KeepsUnknown};
 ghost use Rattle.adr_schedule.specs.declared.change.Change.{Change as AnyChange};
-ghost use Rattle.adr_schedule.specs.Shift.{most_at, most_possible, number_in, sides_of, AreSidesOf, AreTwo, Becomes, IsLaidBy};
+ghost use Rattle.adr_schedule.specs.Shift.{most_at, number_in, AreSidesOf, AreTwo, Becomes, IsLaidBy};
 ghost use Rattle.adr_shared.specs.Map.{put};
 ghost use Rattle.adr_schedule.specs.Slots.{in_slot, is_taken, AreSeated};
 ghost use Rattle.adr_schedule.specs.Seating.{AreRight, IsShifted};
@@ -161,7 +161,6 @@ impl Schedule {
         requires crew { IsCrew (λ v. v.items) (C.pre crew.now) (C.post crew.now) }
         ensures made { IfOk result (λ made. AreMadeFor (Becomes change.now indexes.now) places.now self.now.seats self.now.groups made.groups) }
         ensures all { IfOk result (λ made. IfSome made.slots (λ slots. AreAllOf self.now.seats places.now slots.items)) }
-        ensures compared { meter.new ≤ meter.old + length places.now * most_possible (sides_of change.now) indexes.now }
         ensures least { OnOk result (meter.new ≤ meter.old + sum_by (most_at change.now indexes.now self.now) places.now) }
         ensures refusal { OnlyNoMemory result }
     {
@@ -219,7 +218,6 @@ impl Schedule {
         requires crew { IsCrew (λ v. v.items) (C.pre crew.now) (C.post crew.now) }
         ensures shifted { IfOk result (λ after. IsShifted (number_in change.now.gone) (number_in change.now.come) places.now self.now after) }
         ensures right { IfOk result (λ after. (tie : Tie) (events : List Written) → IsIndexOf tie events indexes.now → AreSidesOf tie events change.now → AreRight tie events self.now → AreRight tie events after) }
-        ensures compared { meter.new ≤ meter.old + length places.now * most_possible (sides_of change.now) indexes.now }
         ensures least { OnOk result (meter.new ≤ meter.old + sum_by (most_at change.now indexes.now self.now) places.now) }
         ensures refusal { OnlyNoMemory result }
     {

@@ -1,9 +1,7 @@
 //! Timelines of few entries.
-ghost use Rattle.std.specs.Prelude.{◌≤◌, length};
 
 use crate::moments::at;
 use crate::spans::{endless, entry, span};
-use adr_model::Entry;
 use adr_rule::Meter;
 use adr_time::{End, Span};
 use adr_timeline::{PackedSegment, Timeline, timeline_laws};
@@ -11,36 +9,21 @@ use adr_value::Refusal;
 use std::alloc::Global;
 use std::test::Fail;
 
-/// A timeline of so few entries that the meter has room.
-fn built(
-    alloc: Global,
-    entries: &[Entry],
-    window: Span,
-    meter: &mut Meter,
-) -> Result<Timeline, Refusal>
-    requires few { length entries.now ≤ 3 }
-    requires new { meter.old ≤ 0 }
-{
-    Timeline::build(alloc, entries, window, meter)
-}
-
 /// The timeline of three entries from 0 up to 20, of which the second goes first and the third last.
-fn three(alloc: Global, meter: &mut Meter) -> Result<Timeline, Refusal>
-    requires new { meter.old ≤ 0 }
-{
+fn three(alloc: Global, meter: &mut Meter) -> Result<Timeline, Refusal> {
     let entries = [
         entry(5, 4, span(0, 10)),
         entry(1, 5, span(5, 15)),
         entry(9, 6, endless(10)),
     ];
-    built(alloc, &entries, span(0, 20), meter)
+    Timeline::build(alloc, &entries, span(0, 20), meter)
 }
 
 /// The timeline of one entry.
 fn one(alloc: Global, start: i128, end: i128, written: u64) -> Result<Timeline, Refusal> {
     let mut meter = Meter::new();
     let entries = [entry(5, written, span(start, end))];
-    built(alloc, &entries, span(start, end), &mut meter)
+    Timeline::build(alloc, &entries, span(start, end), &mut meter)
 }
 
 /// The start, the end and the written number of a segment, whose place is 0.
@@ -137,7 +120,7 @@ fn is_overlap_copied(alloc: Global) -> Result<bool, Refusal> {
         entry(5, 5, span(1, 3)),
         entry(0, 6, span(2, 4)),
     ];
-    let timeline = built(alloc, &entries, span(0, 4), &mut meter)?;
+    let timeline = Timeline::build(alloc, &entries, span(0, 4), &mut meter)?;
     let is_copied = is_copied(&timeline, &[(0, 1, 4), (1, 2, 5), (2, 4, 6)]);
     drop(timeline);
     is_copied

@@ -1,7 +1,6 @@
 pub mod Built
 pub mod Canonical
 pub mod Chunks
-pub mod Compared
 pub mod Each
 pub mod Joined
 pub mod Laid

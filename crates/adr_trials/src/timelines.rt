@@ -1,6 +1,5 @@
 //! How much the building of a timeline compares and, where it is timed, how long it takes, as a table over how many
 //! entries there are and how they lie; and how many segments a repair leaves.
-ghost use Rattle.std.specs.Prelude.{◌≤◌, length};
 
 mod measure;
 mod repair;
@@ -38,9 +37,7 @@ fn print_build<R: AllocGlobal + Print + Clock>(
     shape: Shape,
     entries: &[Entry],
     is_timed: bool,
-) -> io::Result<()>
-    requires { length entries.now ≤ 65536 }
-{
+) -> io::Result<()> {
     let (segments, compares) = measured(rt.alloc(), entries)?;
     let (name, count) = (shape.name(), entries.len());
     print!(rt; "| {name} | {count} | {segments} | {compares} |")?;

@@ -6,9 +6,9 @@ ghost use Rattle.adr_desk.specs.Bulk.{IsGroupFor};
 use crate::bulk::gathering::gather;
 use crate::bulk::windows::whole_windows;
 use adr_book::Book;
-use adr_group::{Group, Writes, repairs_compare_little, repairs_have_room, right_moves};
-use adr_lines::{Indexes, index_laws};
-use adr_model::{Tie, entries_are_counted};
+use adr_group::{Group, Writes, right_moves};
+use adr_lines::Indexes;
+use adr_model::Tie;
 use adr_rule::Meter;
 use adr_value::Refusal;
 use std::alloc::Global;
@@ -24,12 +24,7 @@ pub(crate) fn group_for(
     ensures group { IfOk result (IsGroupFor tie book.now.objects.events writes.now) }
     ensures refusal { OnlyNoMemory result }
 {
-    book.book_laws();
-    entries_are_counted();
-    index_laws();
     right_moves();
-    repairs_have_room();
-    repairs_compare_little();
     let types = gather(alloc, tie, book, writes.numbers())?;
     let windows = whole_windows(alloc, types.as_slice())?;
     let indexes = Indexes::of(alloc, types)?;

@@ -3,7 +3,6 @@ ghost use Rattle.std.specs.Prelude.{◌≡◌, ◌≤ℤ◌, ◌<◌, ◌^◌, �
 ghost use Rattle.jiff.specs.Words.{IsTimestampNanos};
 ghost use Rattle.adr_refusal.specs.Answer.{OnlyNoMemory};
 ghost use Rattle.adr_value.specs.declared.payload.PayloadType.{PayloadType as AnyType};
-ghost use Rattle.adr_lines.specs.Counted.{entries_in_groups};
 ghost use Rattle.adr_lines.specs.Grouped.{any_covers_at, entries_under};
 ghost use Rattle.adr_lines.specs.Indexes.{has_type as the_has_type, own_entries};
 ghost use Rattle.adr_desk.specs.Bulk.{AreFrom, IsFrom};
@@ -93,7 +92,6 @@ pub(crate) fn whole_windows(
     groups: &[TypeEntries],
 ) -> Result<Vec<TypeEntries>, Refusal>
     ensures covers { IfOk result (λ windows. (k : AnyType) (t : ℤ) → any_covers_at (entries_under groups.now k) t ≡ true → any_covers_at (entries_under windows.items k) t ≡ true) }
-    ensures few { IfOk result (λ windows. entries_in_groups windows.items < 2 ^ 64) }
     ensures refusal { OnlyNoMemory result }
 {
     let from = Moment::first();

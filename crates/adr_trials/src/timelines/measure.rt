@@ -1,5 +1,4 @@
 //! What is measured: the segments, the comparisons and the time of a build.
-ghost use Rattle.std.specs.Prelude.{◌≤◌, length};
 
 use adr_rule::Meter;
 use adr_test_values::telling::taken;
@@ -30,9 +29,7 @@ pub(crate) fn segments_in(timeline: &Timeline) -> usize {
 }
 
 /// The segments of a build, and its comparisons.
-pub(crate) fn measured(alloc: Global, entries: &[Entry]) -> io::Result<(usize, u128)>
-    requires { length entries.now ≤ 65536 }
-{
+pub(crate) fn measured(alloc: Global, entries: &[Entry]) -> io::Result<(usize, u128)> {
     let mut meter = Meter::new();
     match Timeline::build(alloc, entries, all_time(), &mut meter) {
         Ok(timeline) => Ok((segments_in(&timeline), meter.count())),
@@ -41,9 +38,7 @@ pub(crate) fn measured(alloc: Global, entries: &[Entry]) -> io::Result<(usize, u
 }
 
 /// The nanoseconds of a build: the least of some times.
-pub(crate) fn fastest_build<R: AllocGlobal + Clock>(rt: &R, entries: &[Entry]) -> io::Result<u128>
-    requires { length entries.now ≤ 65536 }
-{
+pub(crate) fn fastest_build<R: AllocGlobal + Clock>(rt: &R, entries: &[Entry]) -> io::Result<u128> {
     let mut least = u128::MAX;
     for _ in 0..ROUNDS {
         let start = Instant::now(rt);

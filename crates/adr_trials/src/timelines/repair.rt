@@ -1,5 +1,4 @@
 //! A repair of a long timeline in the windows of one edit.
-ghost use Rattle.std.specs.Prelude.{◌≡◌, ◌≤◌, ◌<◌, length, IfOk};
 
 use crate::timelines::measure::{all_time, segments_in};
 use crate::timelines::shape::{Shape, entries};
@@ -19,9 +18,7 @@ const WINDOWS: u32 = 16;
 const ROUNDS: u32 = 301;
 
 /// A timeline of the entries.
-fn built(alloc: Global, entries: &[Entry]) -> io::Result<Timeline>
-    requires { length entries.now ≤ 65536 }
-{
+fn built(alloc: Global, entries: &[Entry]) -> io::Result<Timeline> {
     let mut meter = Meter::new();
     told(Timeline::build(alloc, entries, all_time(), &mut meter))
 }
@@ -49,9 +46,7 @@ impl Drop for Repair {
 
 impl Repair {
     /// A line of that many segments, and windows over four segments each.
-    pub(crate) fn of(alloc: Global, count: u32) -> io::Result<Repair>
-        requires { (64 ≤ count) × (count ≤ 65536) }
-    {
+    pub(crate) fn of(alloc: Global, count: u32) -> io::Result<Repair> {
         let inside = entries(alloc, Shape::Spread(count / WINDOWS), WINDOWS)?;
         let entries = entries(alloc, Shape::Disjoint, count)?;
         let windows = inside.iter().map(|entry| entry.span).collect(alloc)?;

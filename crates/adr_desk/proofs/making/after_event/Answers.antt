@@ -1,6 +1,4 @@
-use Rattle.adr_desk.specs.Edited.{come_of, gone_of}
 use Rattle.adr_desk.proofs.Edited.{event_exchange, one_id}
-use Rattle.adr_desk.proofs.Made.{has_room}
 use Rattle.adr_desk.proofs.making.after_event.Goals as goal
 
 pub exchanged-requires-clause-change : goal.exchanged-requires-clause-change
@@ -21,5 +19,4 @@ exchanged-requires-clause-change g c =
       one_id = one_id old new edit before.whole.sound after.whole.sound c.requires.event made;
       gone = c.in_ok-gone.ensures.side;
       come = c.in_ok-come.ensures.side;
-      room = has_room accepted.tie old new (gone_of old edit) (come_of old edit) (c.edits_have_room.ensures accepted.tie) before.within after.within exchange;
     }

@@ -1,4 +1,4 @@
-use Rattle.std.proofs.Common.{◌≡◌, List, Option, None, ℕ, ◌*◌, ◌<◌, ◌^◌, length, refl, sum_by, ap, sym, subst, ◌∙◌, arith}
+use Rattle.std.proofs.Common.{◌≡◌, List, Option, None, ℕ, refl, sum_by, ap, sym, subst, ◌∙◌, arith}
 use Rattle.std.specs.Prelude.{Result, Ok, Err, IfOk}
 use Rattle.std.specs.Option.{option_map}
 use Rattle.std.proofs.lemmas.Result.{on_ok_weaker}
@@ -9,19 +9,17 @@ use Rattle.adr_model.specs.declared.entry.Tie.{Tie}
 use Rattle.adr_model.specs.declared.timeline.Winner.{Winner}
 use Rattle.adr_model.specs.Book.{Book}
 use Rattle.adr_book.specs.Ledger.{Ledger}
-use Rattle.adr_group.specs.Repair.{most_possible}
 use Rattle.adr_schedule.specs.declared.change.Change.{Change}
 use Rattle.adr_schedule.specs.Moves.{is_among}
 use Rattle.adr_schedule.specs.Seating.{IsShifted}
-use Rattle.adr_schedule.specs.Shift.{entries_in, most_at, number_in, sides_of, IsLaidBy}
+use Rattle.adr_schedule.specs.Shift.{most_at, number_in, IsLaidBy}
 use Rattle.adr_desk.specs.declared.ranks.NewestRanks.{NewestRanks}
 use Rattle.adr_desk.specs.Edited.{come_of, gone_of}
 use Rattle.adr_desk.specs.Ranks.{if_newest, newest_rank}
 use Rattle.adr_desk.proofs.Costs.{shifts_cost}
 use Rattle.adr_desk.proofs.Laid.{gone_by, laid_by, map_if_newest}
-use Rattle.adr_desk.proofs.Made.{room_for_both, room_for_one, seated_after}
+use Rattle.adr_desk.proofs.Made.{seated_after}
 use Rattle.adr_desk.proofs.Shifted.{same_places}
-use Rattle.adr_desk.proofs.Sides.{groups_of_side}
 use Rattle.adr_desk.proofs.making.regrouped.Goals as goal
 
 abbrev rank_in : NewestRanks → Winner → Rank
@@ -49,33 +47,6 @@ shifted-requires-2-clause-laid g c =
     let ranks = ranks_are accepted.tie book c.of-newest.result _ (ap (λ (b : Ledger). b.objects) c.of-newest.ensures) c.under-ranks.ensures in
     subst (λ (o : Option (Winner → Rank)). IsLaidBy o c.args.indexes.now alone) (sym ranks)
     (gone_by book accepted.new.now.objects (gone_of book edit) (come_of book edit) c.requires.change.exchange accepted.tie c.args.indexes.now c.requires.indexed c.in_ok-gone.gone c.in_ok-gone.ensures.side)
-
-pub shifted-requires-clause-room : goal.shifted-requires-clause-room
-shifted-requires-clause-room g c =
-    let accepted = c.args.accepted.now in
-    let book = accepted.old.now.objects in
-    let edit = accepted.edit.now in
-    let room = c.requires.change.room c.args.indexes.now (entries_in c.args.change.now.gone) (entries_in c.args.change.now.come) c.requires.indexed
-    (groups_of_side accepted.tie (gone_of book edit) c.args.change.now.gone c.requires.change.gone) (groups_of_side accepted.tie (come_of book edit) c.args.change.now.come c.requires.change.come) in
-    let few : length c.as_slice.result.now * most_possible (sides_of c.args.change.now) c.args.indexes.now < 2 ^ 127 =
-    rw c.as_slice.ensures.value (room_for_both (length c.in_ok-joining.joining.items) (length book.resources) (most_possible (sides_of c.args.change.now) c.args.indexes.now) c.in_ok-joining.ensures.places.count room) in
-    omega (arith, few, c.requires.begun)
-
-pub shifted-requires-2-clause-room : goal.shifted-requires-2-clause-room
-shifted-requires-2-clause-room g c =
-    let accepted = c.args.accepted.now in
-    let book = accepted.old.now.objects in
-    let edit = accepted.edit.now in
-    let alone : Change = record { gone = c.in_ok-gone.gone; come = None } in
-    let room = c.requires.change.room c.args.indexes.now (entries_in c.args.change.now.gone) (entries_in c.args.change.now.come) c.requires.indexed
-    (groups_of_side accepted.tie (gone_of book edit) c.args.change.now.gone c.requires.change.gone) (groups_of_side accepted.tie (come_of book edit) c.args.change.now.come c.requires.change.come) in
-    let few : length c.as_slice.result.now * most_possible (sides_of c.args.change.now) c.args.indexes.now < 2 ^ 127 =
-    rw c.as_slice.ensures.value (room_for_both (length c.in_ok-joining.joining.items) (length book.resources) (most_possible (sides_of c.args.change.now) c.args.indexes.now) c.in_ok-joining.ensures.places.count room) in
-    let again = c.requires.change.room c.args.indexes.now (entries_in c.in_ok-gone.gone) (entries_in c.args.change.now.come) c.requires.indexed
-    (groups_of_side accepted.tie (gone_of book edit) c.in_ok-gone.gone c.in_ok-gone.ensures.side) (groups_of_side accepted.tie (come_of book edit) c.args.change.now.come c.requires.change.come) in
-    let less : length c.as_slice-4.result.now * most_possible (sides_of alone) c.args.indexes.now < 2 ^ 127 =
-    rw c.as_slice-4.ensures.value (room_for_one c.args.indexes.now c.repairs_compare_little.ensures.both alone (entries_in c.args.change.now.come) (length c.in_ok-leaving.leaving.items) (length book.resources) refl c.in_ok-leaving.ensures.places.count again) in
-    omega (arith, few, less, c.requires.begun, c.shifted.ensures.compared)
 
 pub returns-then-eq-clause-seated : goal.returns-then-eq-clause-seated
 returns-then-eq-clause-seated g c =

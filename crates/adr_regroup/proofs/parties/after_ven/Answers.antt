@@ -1,19 +1,12 @@
-use Rattle.std.proofs.Common.{◌≡◌, ◌+◌, ◌*◌, ◌<◌, ◌≤◌, ◌^◌, ℕ, List, true, length, sum_by, ap, ◌∙◌, arith, subst, sym}
-use Rattle.std.proofs.lemmas.Nat.{mul-le}
-use Rattle.adr_value.specs.declared.limits.TheConstants.{MOST_RESOURCES}
+use Rattle.std.proofs.Common.{◌≡◌, ◌<◌, ℕ, List, true, length, sum_by, ap, ◌∙◌, arith, subst, sym}
 use Rattle.adr_object.specs.declared.party.Resource.{Resource}
 use Rattle.adr_schedule.specs.Moves.{is_among}
 use Rattle.adr_schedule.specs.Seating.{Seating}
 use Rattle.adr_regroup.specs.Compared.{most_reseated_at, StandOnce}
-use Rattle.adr_regroup.specs.Party.{most_reseated, AreSeatedBut}
+use Rattle.adr_regroup.specs.Party.{AreSeatedBut}
 use Rattle.adr_regroup.proofs.PartyEdits.{ven_keeps, ven_places, ven_resources, ven_starts}
 use Rattle.adr_regroup.proofs.TouchCosts.{places_cost}
 use Rattle.adr_regroup.proofs.parties.after_ven.Goals as goal
-
-fits : (meter n count : ℕ) → meter ≡ 0 → n ≤ count → count ≤ MOST_RESOURCES → meter + n * most_reseated < 2 ^ 128
-fits meter n count e h l =
-    let few = mul-le n most_reseated MOST_RESOURCES most_reseated (omega (arith, h, l)) (omega arith) in
-    omega (arith, e, few)
 
 pub reseated_in-requires-clause-places : goal.reseated_in-requires-clause-places
 reseated_in-requires-clause-places g c =
@@ -33,12 +26,6 @@ reseated_in-requires-clause-seated g c =
     subst (λ (ps : List ℕ). AreSeatedBut edited.tie new ps c.in_ok-same.same) (sym c.deref.ensures.value)
     (subst (λ (s : Seating). AreSeatedBut edited.tie new c.in_ok-places.places.items s) (sym c.in_ok-same.ensures)
     (ven_starts edited.tie edited.old.now.objects new edited.edit.now c.in_ok-places.places.items edited.schedule.now c.requires.ven c.requires.edited.accepted c.in_ok-places.ensures.places c.requires.edited.seated))
-
-pub reseated_in-requires-clause-room : goal.reseated_in-requires-clause-room
-reseated_in-requires-clause-room g c =
-    let edited = c.args.edited.now in
-    subst (λ (ps : List ℕ). c.args.meter.now + length ps * most_reseated < 2 ^ 128) (sym c.deref.ensures.value)
-    (fits c.args.meter.now (length c.in_ok-places.places.items) (length edited.old.now.objects.resources) c.requires.begun c.in_ok-places.ensures.places.few c.book_laws.ensures.within.resources)
 
 pub returns-clause-least : goal.returns-clause-least
 returns-clause-least g c =

@@ -1,10 +1,10 @@
-use Rattle.std.proofs.Common.{◌+◌, ◌*◌, ◌++◌, length, map, arith}
+use Rattle.std.proofs.Common.{◌+◌, ◌++◌, map, arith}
 use Rattle.adr_model.specs.Rank.{ranked}
 use Rattle.adr_lines.specs.Grouped.{entries_under}
-use Rattle.adr_group.specs.Repair.{most_possible, most_repaired}
+use Rattle.adr_group.specs.Repair.{most_repaired}
 use Rattle.adr_regroup.specs.Compared.{cost_but}
 use Rattle.adr_regroup.specs.Party.{entries_but}
-use Rattle.adr_regroup.proofs.PartyWindows.{turn_entries, turn_least, turn_most}
+use Rattle.adr_regroup.proofs.PartyWindows.{turn_entries, turn_least}
 use Rattle.adr_regroup.proofs.party.add_events.Goals as goal
 
 pub rest-preserved : goal.rest-preserved
@@ -22,9 +22,6 @@ rest-preserved c =
       entries = λ k. turn_entries c.args.tie events others now after n rest more first k
           (entries_under start k ++ map (ranked c.args.tie) (entries_but events c.args.numbers.now others k))
           (c.in_ok-add_event.ensures.entries k) (c.rest.invariant.entries k);
-      most = λ indexes most bound. turn_most c.args.tie events others now after n rest more first indexes most
-          (most_possible start indexes + length c.args.numbers.now * most)
-          (c.in_ok-add_event.ensures.most indexes most bound) (c.rest.invariant.most indexes most bound);
       least = λ indexes writes cost bound. turn_least c.args.tie events others now after n rest more first indexes writes cost
           (most_repaired start writes indexes + cost_but cost events c.args.numbers.now others)
           (c.in_ok-add_event.ensures.least indexes writes cost bound) (c.rest.invariant.least indexes writes cost bound);

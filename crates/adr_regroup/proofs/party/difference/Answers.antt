@@ -1,5 +1,5 @@
 use Rattle.adr_model.proofs.Events.{one_write}
-use Rattle.adr_regroup.proofs.PartyWindows.{differ, differ_least, differ_most}
+use Rattle.adr_regroup.proofs.PartyWindows.{differ, differ_least}
 use Rattle.adr_regroup.proofs.party.difference.Goals as goal
 
 pub returns-clause-windows : goal.returns-clause-windows
@@ -8,12 +8,6 @@ returns-clause-windows c =
     differ events (one_write events c.book_laws.ensures.whole.sound.writes) c.args.tie c.args.old.now c.args.new.now c.numbers.result.now c.numbers-2.result.now
     c.new-windows.result.items c.add_events.new.windows.items c.add_events-2.new.windows.items
     c.new-windows.ensures.items c.numbers.ensures.numbers c.numbers-2.ensures.numbers c.in_ok-add_events.ensures.entries c.in_ok-add_events-2.ensures.entries
-
-pub returns-clause-most : goal.returns-clause-most
-returns-clause-most c indexes most bound =
-    differ_most indexes most c.args.old.now c.args.new.now c.numbers.result.now c.numbers-2.result.now
-    c.new-windows.result.items c.add_events.new.windows.items c.add_events-2.new.windows.items
-    c.new-windows.ensures.items c.numbers.ensures.numbers c.numbers-2.ensures.numbers (c.in_ok-add_events.ensures.most indexes most bound) (c.in_ok-add_events-2.ensures.most indexes most bound)
 
 pub returns-clause-least : goal.returns-clause-least
 returns-clause-least c indexes writes cost bound =

@@ -1,8 +1,8 @@
-use Rattle.std.proofs.Common.{◌≡◌, ◌≤◌, ◌<◌, ◌+◌, ◌*◌, ◌^◌, ℕ, length, ap, sym, subst, ◌∙◌, arith}
+use Rattle.std.proofs.Common.{◌≡◌, ap, sym, subst, ◌∙◌, arith}
 use Rattle.std.proofs.lemmas.Result.{IfOk-weaker}
 use Rattle.adr_lines.specs.Grouped.{entries_under}
 use Rattle.adr_group.specs.Group.{AreWindowsOf, Lines}
-use Rattle.adr_group.specs.Repair.{most_possible, most_repaired}
+use Rattle.adr_group.specs.Repair.{most_repaired}
 use Rattle.adr_schedule.proofs.Seated.{none_is_some, some_same}
 use Rattle.adr_regroup.specs.Compared.{cost_but}
 use Rattle.adr_regroup.proofs.party.with_writes.Goals as goal
@@ -11,21 +11,6 @@ pub unreachable-requires : goal.unreachable-requires
 unreachable-requires g c =
     let held = c.schedule_laws.ensures c.args.spot.place c.requires.within in
     none_is_some held.0 (c.in_default-group.ensures.value ∙ held.1)
-
-fits : (a p q l limit : ℕ) → q ≡ p → p ≤ l → a + l < limit → a + q < limit
-fits a p q l limit e f g = omega (arith, e, f, g)
-
-pub rewritten-requires-clause-room : goal.rewritten-requires-clause-room
-rewritten-requires-clause-room g c =
-    let basis = c.args.basis.now in
-    let group : Lines = c.in-Some-group.group.now in
-    let indexes = basis.indexes.now in
-    let windows = c.in_ok-windows.windows.items in
-    let most = c.requires.room.0 in
-    let new = length c.args.writes.now in
-    let few = subst (λ ns. most_possible windows indexes ≤ (length ns + new) * most) c.writes.ensures (c.in_ok-windows.ensures.most indexes most c.requires.room.1) in
-    fits c.args.meter.now (most_possible windows indexes) (most_possible c.deref.result.now indexes) ((length group.writes + new) * most) (2 ^ 128)
-    (ap (λ gs. most_possible gs indexes) c.deref.ensures.value) few (c.requires.room.2 group (sym c.in-Some-group.ensures.value))
 
 pub returns-clause-right : goal.returns-clause-right
 returns-clause-right g c =

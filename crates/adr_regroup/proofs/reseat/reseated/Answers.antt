@@ -1,59 +1,17 @@
-use Rattle.std.proofs.Common.{◌+◌, ◌<◌, ◌≤◌, ◌∷◌, ℕ, arith, subst, sym}
+use Rattle.std.proofs.Common.{◌<◌, ℕ, arith, subst, sym}
 use Rattle.adr_model.specs.declared.written.Written.{Written}
 use Rattle.adr_model.specs.Touches.{touches_of}
-use Rattle.adr_regroup.specs.Party.{most_by_event}
 use Rattle.adr_regroup.specs.Compared.{most_compared_in}
 use Rattle.adr_regroup.proofs.Differing.{most_for, place_cost, reseats_fewer}
-use Rattle.adr_regroup.proofs.Few.{few_at, is_most}
 use Rattle.adr_regroup.proofs.Placing.{there}
 use Rattle.adr_regroup.proofs.Reseated.{next_seated}
 use Rattle.adr_regroup.proofs.reseat.reseated.Goals as goal
-
-fits : (meter a most limit : ℕ) → a ≤ most → meter + most < limit → meter + a < limit
-fits meter a most limit h l = omega (arith, h, l)
-
-stays : (after meter a most : ℕ) → after ≤ meter + a → a ≤ most → after ≤ meter + most
-stays after meter a most h l = omega (arith, h, l)
-
-pub with_writes-requires-clause-room : goal.with_writes-requires-clause-room
-with_writes-requires-clause-room g c =
-    let basis = c.args.basis.now in
-    let book = basis.new.now.objects in
-    let laws = c.book_laws.ensures in (
-      most_by_event,
-      is_most basis.tie book basis.indexes.now laws.within c.requires.basis.indexed (c.index_laws.ensures basis.tie),
-      λ g at. fits _ _ _ _
-          (few_at basis.tie book (c.args.spot.place ∷ c.args.others.now) c.args.spot.place c.args.schedule.now g c.args.writes.now laws.whole.sound laws.within c.requires.seated at
-          (c.writes_ascend.ensures g at) c.requires.writes c.numbers.ensures.order) c.requires.room,
-    )
-
-pub returns-in_err-after-clause-compared : goal.returns-in_err-after-clause-compared
-returns-in_err-after-clause-compared g c =
-    let basis = c.args.basis.now in
-    let book = basis.new.now.objects in
-    let laws = c.book_laws.ensures in
-    let held = c.schedule_laws.ensures c.args.spot.place (subst (λ n. c.args.spot.place < n) (sym c.requires.seated.count) c.requires.place) in
-    stays _ _ _ _
-    (c.in_err-after.ensures.compared held.0 most_by_event held.1 (is_most basis.tie book basis.indexes.now laws.within c.requires.basis.indexed (c.index_laws.ensures basis.tie)))
-    (few_at basis.tie book (c.args.spot.place ∷ c.args.others.now) c.args.spot.place c.args.schedule.now held.0 c.args.writes.now laws.whole.sound laws.within c.requires.seated held.1
-    (c.writes_ascend.ensures held.0 held.1) c.requires.writes c.numbers.ensures.order)
 
 pub returns-clause-seated : goal.returns-clause-seated
 returns-clause-seated g c =
     let basis = c.args.basis.now in
     next_seated basis.tie basis.new.now.objects c.args.spot.place c.args.others.now c.args.writes.now c.args.schedule.now c.in_ok-after.after c.requires.seated c.in_ok-after.ensures.writes
     (c.in_ok-after.ensures.right c.requires.basis.indexed c.requires.seated.right) c.requires.writes
-
-pub returns-clause-compared : goal.returns-clause-compared
-returns-clause-compared g c =
-    let basis = c.args.basis.now in
-    let book = basis.new.now.objects in
-    let laws = c.book_laws.ensures in
-    let held = c.schedule_laws.ensures c.args.spot.place (subst (λ n. c.args.spot.place < n) (sym c.requires.seated.count) c.requires.place) in
-    stays _ _ _ _
-    (c.in_ok-after.ensures.compared held.0 most_by_event held.1 (is_most basis.tie book basis.indexes.now laws.within c.requires.basis.indexed (c.index_laws.ensures basis.tie)))
-    (few_at basis.tie book (c.args.spot.place ∷ c.args.others.now) c.args.spot.place c.args.schedule.now held.0 c.args.writes.now laws.whole.sound laws.within c.requires.seated held.1
-    (c.writes_ascend.ensures held.0 held.1) c.requires.writes c.numbers.ensures.order)
 
 pub returns-clause-fewer : goal.returns-clause-fewer
 returns-clause-fewer g c =

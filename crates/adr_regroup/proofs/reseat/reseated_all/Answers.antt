@@ -1,23 +1,15 @@
-use Rattle.std.proofs.Common.{◌≡◌, ◌∷◌, ◌+◌, ◌*◌, ◌<◌, ◌≤◌, ℕ, List, suc, true, length, sum_by, ap, ◌∙◌, arith, le_refl, subst}
+use Rattle.std.proofs.Common.{◌≡◌, ◌∷◌, ◌<◌, ℕ, List, true, length, sum_by, ap, ◌∙◌, arith, le_refl, subst}
 use Rattle.std.proofs.lemmas.List.Sums.{sum_by-cons}
 use Rattle.adr_schedule.specs.Moves.{is_among}
 use Rattle.adr_regroup.specs.Compared.{most_reseated_at}
-use Rattle.adr_regroup.specs.Party.{most_reseated}
 use Rattle.adr_regroup.proofs.Reseated.{first_among, later_among}
 use Rattle.adr_regroup.proofs.reseat.reseated_all.Goals as goal
-
-left : (after meter n rest start all : ℕ) → after ≤ meter + most_reseated → rest ≡ suc n → meter + rest * most_reseated ≤ start + all → after + n * most_reseated ≤ start + all
-left after meter n rest start all h e l = by most_reseated h (subst (λ k. meter + k * most_reseated ≤ start + all) e l)
-  where
-    by : (m : ℕ) → after ≤ meter + m → meter + suc n * m ≤ start + all → after + n * m ≤ start + all
-    by m h l = omega (arith, h, l)
 
 pub rest-init : goal.rest-init
 rest-init g c = record {
   within = c.requires.places;
   seated = c.requires.seated;
   last = tt;
-  compared = le_refl _;
   fewer = λ p. le_refl _;
   least = le_refl _;
 }
@@ -41,7 +33,6 @@ rest-preserved g c =
           (subst (λ (ps : List ℕ). (p : ℕ) → is_among ps p ≡ true → p < n) c.in-Some.ensures.cases.0 c.rest.invariant.within);
       seated = c.in_ok-after.ensures.seated;
       last = c.in_ok-seen.ensures.seen;
-      compared = left _ _ _ _ _ _ c.in_ok-after.ensures.compared (ap (λ (ps : List ℕ). length ps) c.in-Some.ensures.cases.0) c.rest.invariant.compared;
       fewer = λ p. omega (arith, c.in_ok-after.ensures.fewer p, c.rest.invariant.fewer p);
       least = (let parts = ap (sum_by asked) c.in-Some.ensures.cases.0 ∙ sum_by-cons asked c.in-Some.place.now c.in-Some.others.now in
           let own = c.rest.invariant.fewer c.in-Some.place.now in

@@ -6,19 +6,6 @@ use Rattle.adr_schedule.specs.Draft.{tasks_of}
 use Rattle.adr_schedule.proofs.Drafts.{jobs_compare_all}
 use Rattle.adr_schedule.proofs.made.made_by.Goals as goal
 
-pub done_by-requires-clause-room : goal.done_by-requires-clause-room
-done_by-requires-clause-room g c =
-    let indexes = c.args.indexes.now in
-    let cost = jobs_compare_all indexes c.args.drafts.now c.as_slice.result.now c.in_ok-jobs.jobs.items c.as_slice.ensures.value (c.in_ok-jobs.ensures.jobs c.requires.laid) in
-    omega (arith, cost, c.requires.room)
-
-pub count-requires : goal.count-requires
-count-requires g c =
-    let indexes = c.args.indexes.now in
-    let cost = jobs_compare_all indexes c.args.drafts.now c.as_slice.result.now c.in_ok-jobs.jobs.items c.as_slice.ensures.value (c.in_ok-jobs.ensures.jobs c.requires.laid) in
-    let same = ap (sum_by (λ d. d.compared)) c.as_slice-2.ensures.value in
-    omega (arith, cost, same, c.in_ok-done.ensures.done.compared, c.requires.room)
-
 pub made_each-requires : goal.made_each-requires
 made_each-requires g c = record { own = λ d m. (c.requires.drafts d m).windows.own }
 

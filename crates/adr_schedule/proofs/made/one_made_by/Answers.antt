@@ -6,19 +6,6 @@ use Rattle.adr_schedule.specs.Draft.{tasks_of}
 use Rattle.adr_schedule.proofs.Drafts.{jobs_compare_one}
 use Rattle.adr_schedule.proofs.made.one_made_by.Goals as goal
 
-pub done_by-requires-clause-room : goal.done_by-requires-clause-room
-done_by-requires-clause-room g c =
-    let indexes = c.args.indexes.now in
-    let cost = jobs_compare_one indexes c.args.draft.now c.as_slice.result.now c.in_ok-jobs.jobs.items c.as_slice.ensures.value (c.in_ok-jobs.ensures.jobs indexes) in
-    omega (arith, cost, c.requires.room)
-
-pub count-requires : goal.count-requires
-count-requires g c =
-    let indexes = c.args.indexes.now in
-    let cost = jobs_compare_one indexes c.args.draft.now c.as_slice.result.now c.in_ok-jobs.jobs.items c.as_slice.ensures.value (c.in_ok-jobs.ensures.jobs indexes) in
-    let same = ap (sum_by (λ d. d.compared)) c.as_slice-2.ensures.value in
-    omega (arith, cost, same, c.in_ok-done.ensures.done.compared, c.requires.room)
-
 pub returns-in_err-made-clause-compared : goal.returns-in_err-made-clause-compared
 returns-in_err-made-clause-compared g c =
     let indexes = c.args.indexes.now in

@@ -3,22 +3,6 @@ use Rattle.adr_group.specs.Repair.{most_repaired}
 use Rattle.adr_schedule.proofs.Drafts.{made_right}
 use Rattle.adr_schedule.proofs.place.remade.Goals as goal
 
-pub one_made_by-requires-clause-room : goal.one_made_by-requires-clause-room
-one_made_by-requires-clause-room g c =
-    let indexes = c.args.indexes.now in
-    let draft = c.in_ok-draft.draft in
-    let same = c.in_ok-draft.ensures.windows.cost draft.writes indexes in
-    let few = c.repairs_compare_little.ensures.possible c.args.windows.now draft.writes indexes in
-    omega (arith, same, few, c.requires.room)
-
-pub returns-in_err-made-clause-compared : goal.returns-in_err-made-clause-compared
-returns-in_err-made-clause-compared g c =
-    let indexes = c.args.indexes.now in
-    let draft = c.in_ok-draft.draft in
-    let same = c.in_ok-draft.ensures.windows.cost draft.writes indexes in
-    let few = c.repairs_compare_little.ensures.possible c.args.windows.now draft.writes indexes in
-    omega (arith, same, few, c.one_made_by.ensures.compared)
-
 pub returns-in_err-made-clause-least : goal.returns-in_err-made-clause-least
 returns-in_err-made-clause-least g c =
     let indexes = c.args.indexes.now in
@@ -31,14 +15,6 @@ pub returns-clause-right : goal.returns-clause-right
 returns-clause-right g c =
     let made = c.in_ok-draft.ensures in
     made_right c.args.indexes.now c.args.group.now c.in_ok-made.made c.in_ok-draft.draft c.args.writes.now c.args.windows.now made.group made.writes made.windows c.in_ok-made.ensures.made
-
-pub returns-clause-compared : goal.returns-clause-compared
-returns-clause-compared g c =
-    let indexes = c.args.indexes.now in
-    let draft = c.in_ok-draft.draft in
-    let same = c.in_ok-draft.ensures.windows.cost draft.writes indexes in
-    let few = c.repairs_compare_little.ensures.possible c.args.windows.now draft.writes indexes in
-    omega (arith, same, few, c.one_made_by.ensures.compared)
 
 pub returns-clause-least : goal.returns-clause-least
 returns-clause-least g c =

@@ -1,19 +1,9 @@
-use Rattle.std.proofs.Common.{◌<◌, ◌^◌, ap, sym, subst, ◌∙◌}
-use Rattle.adr_lines.specs.Counted.{entries_in_groups}
+use Rattle.std.proofs.Common.{ap, sym, ◌∙◌}
 use Rattle.adr_lines.specs.Grouped.{any_covers_at, entries_under}
 use Rattle.adr_group.specs.Group.{Lines}
 use Rattle.adr_desk.specs.Bulk.{chosen}
-use Rattle.adr_desk.proofs.Owning.{group_room, own_windows, right_of_all}
+use Rattle.adr_desk.proofs.Owning.{own_windows, right_of_all}
 use Rattle.adr_desk.proofs.bulk.grouping.group_for.Goals as goal
-
-pub repaired-requires : goal.repaired-requires
-repaired-requires c =
-    record {
-      room = group_room c.args.tie c.args.book.now.objects.events c.numbers.result.now c.in_ok-indexes.indexes (c.index_laws.ensures c.args.tie) c.entries_are_counted.ensures.entries
-          (c.in_ok-types.ensures.indexed c.in_ok-indexes.indexes c.in_ok-indexes.ensures.entries) c.book_laws.ensures.within.entries c.repairs_have_room.ensures.bound c.repairs_compare_little.ensures.possible
-          c.as_slice-2.result.now c.in_ok-writes.writes c.new-meter.result
-          (subst (λ gs. entries_in_groups gs < 2 ^ 64) (sym c.as_slice-2.ensures.value) c.in_ok-windows.ensures.few) c.new-meter.ensures;
-    }
 
 pub returns-clause-group : goal.returns-clause-group
 returns-clause-group c =

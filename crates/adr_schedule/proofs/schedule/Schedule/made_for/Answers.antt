@@ -1,34 +1,10 @@
-use Rattle.std.proofs.Common.{ap, sym, subst, arith}
-use Rattle.adr_schedule.specs.Draft.{most_drafted, AreDraftsOf, AreMadeOf}
-use Rattle.adr_schedule.proofs.Drafts.{all_become, places_possible}
+use Rattle.std.proofs.Common.{sym, subst}
+use Rattle.adr_schedule.specs.Draft.{AreDraftsOf, AreMadeOf}
+use Rattle.adr_schedule.proofs.Drafts.{all_become}
 use Rattle.adr_schedule.proofs.schedule.Schedule.made_for.Goals as goal
 
 pub made_by-requires-clause-drafts : goal.made_by-requires-clause-drafts
 made_by-requires-clause-drafts g c = subst (AreDraftsOf c.args.change.now) (sym c.as_slice.ensures.value) c.in_ok-drafted.ensures.own
-
-pub made_by-requires-clause-room : goal.made_by-requires-clause-room
-made_by-requires-clause-room g c =
-    let indexes = c.args.indexes.now in
-    let least = c.in_ok-drafted.ensures.least indexes in
-    let most = places_possible c.args.change.now indexes c.get.result.now c.self.inside.groups c.args.places.now in
-    let same = ap (most_drafted indexes) c.as_slice.ensures.value in
-    omega (arith, same, least, most, c.requires.room)
-
-pub returns-in_err-groups-clause-compared : goal.returns-in_err-groups-clause-compared
-returns-in_err-groups-clause-compared g c =
-    let indexes = c.args.indexes.now in
-    let least = c.in_ok-drafted.ensures.least indexes in
-    let most = places_possible c.args.change.now indexes c.get.result.now c.self.inside.groups c.args.places.now in
-    let same = ap (most_drafted indexes) c.as_slice.ensures.value in
-    omega (arith, same, least, most, c.made_by.ensures.compared)
-
-pub returns-clause-compared : goal.returns-clause-compared
-returns-clause-compared g c =
-    let indexes = c.args.indexes.now in
-    let least = c.in_ok-drafted.ensures.least indexes in
-    let most = places_possible c.args.change.now indexes c.get.result.now c.self.inside.groups c.args.places.now in
-    let same = ap (most_drafted indexes) c.as_slice.ensures.value in
-    omega (arith, same, least, most, c.made_by.ensures.compared)
 
 pub returns-clause-made : goal.returns-clause-made
 returns-clause-made g c =
