@@ -20,6 +20,9 @@ number_below n m h = grind (arith, h)
 code_below : (n m : ℕ) → n < m → code_cmp (m ∷ []) (n ∷ []) ≡ Greater
 code_below n m h = ap (λ o. ordering_then o (code_cmp [] [])) (number_below n m h)
 
+last_or_earlier : (n m : ℕ) → n < m + 1 → (n < m) ⊎ (n ≡ m)
+last_or_earlier n m h = grind (arith, h)
+
 module _ {T : Type 0} where
   -- what holds of all rows holds of the one at a place
   all_at : (P : List ℕ × T → Type 0) (rows : List (List ℕ × T)) (n : ℕ) (e : List ℕ × T) → AllByRecursion P rows → slice_get rows n ≡ Some e → P e
@@ -71,9 +74,6 @@ module _ {T : Type 0} where
   numbers_stay : (bound : ℕ) (rows more : List (List ℕ × T)) → AreAtNumbers bound rows → AreAtNumbers bound (rows ++ more)
   numbers_stay bound rows more f n h =
       let r = row_at bound rows f n h in ap (option_map (λ e. e.0)) (front_stays rows more n r.0 r.1) ∙ ap (λ c. Some c) r.2
-
-  last_or_earlier : (n m : ℕ) → n < m + 1 → (n < m) ⊎ (n ≡ m)
-  last_or_earlier n m h = grind (arith, h)
 
   pub dense_pushed : (dense next : ℕ) (rows : List (List ℕ × T)) (v : T) → AreBelow next rows → AreAtNumbers dense rows
       → AreAtNumbers (dense_with dense next (length rows)) (put (next ∷ []) v rows)

@@ -107,11 +107,10 @@ impl<T: Keyed + TryClone> Table<T> {
         ensures found { is_some result ≡ is_some (find_by T.key self.now id.entry) }
         ensures value { IfSome result (λ place. slice_get self.now place ≡ find_by T.key self.now id.entry) }
     {
-        let number = self.numbers.seek(&id)?;
-        if *number < self.dense {
-            Some(*number as usize)
-        } else {
-            self.rows.place(number)
+        match self.numbers.seek(&id) {
+            Some(number) if *number < self.dense => Some(*number as usize),
+            Some(number) => self.rows.place(number),
+            None => None,
         }
     }
 
