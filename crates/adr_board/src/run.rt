@@ -4,7 +4,7 @@ ghost use Rattle.std.specs.Arc.{arc_value};
 ghost use mathlib.Core.List.{IsPrefix};
 ghost use Rattle.adr_refusal.specs.declared.refusal.Refusal.TheVariants.{NoMemory};
 ghost use Rattle.adr_model.specs.Machine.{start, State};
-ghost use Rattle.adr_board.specs.Boards.{newcomer, View};
+ghost use Rattle.adr_board.specs.Boards.{View};
 ghost use Rattle.adr_board.specs.Publications.{publications_in};
 ghost use Rattle.adr_board.specs.Replay.{AreSteps, IsOf, IsRun, IsStep, NamesReader, OnlyWant, reach};
 

@@ -7,7 +7,6 @@ ghost use Rattle.adr_refusal.specs.Copy.{IsCopyOf};
 ghost use Rattle.adr_value.specs.declared.limits.TheConstants.{MOST_VERSION};
 ghost use Rattle.adr_value.specs.declared.payload.PayloadType.{PayloadType as AnyType};
 ghost use Rattle.adr_model.specs.Book.{empty};
-ghost use Rattle.adr_model.specs.Edits.{after_from};
 ghost use Rattle.adr_model.specs.Governor.{governs};
 ghost use Rattle.adr_model.specs.Timeline.{shows, IsCanonical};
 ghost use Rattle.adr_book.specs.Ledger.{closed_edits, sealed_of};

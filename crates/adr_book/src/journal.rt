@@ -1,7 +1,6 @@
 //! The accepted edits in order, in batches.
 ghost use Rattle.std.specs.Prelude.{◌≡◌, ◌++◌, ◌∷◌, [], OnOk, OnErr, IfOk};
 ghost use Rattle.adr_refusal.specs.Answer.{OnlyNoMemory};
-ghost use Rattle.adr_refusal.specs.Copy.{IsCopyOf};
 
 use adr_object::Edit;
 use adr_shared::SharedList;

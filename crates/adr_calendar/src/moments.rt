@@ -1,5 +1,5 @@
 //! Moments that are printed one after the other.
-ghost use Rattle.std.specs.Prelude.{◌≡◌, ◌++◌, ◌+◌, ◌<◌, ◌*◌, ◌/◌, ◌%◌, ◌∷◌, [], None, codes, IfSome};
+ghost use Rattle.std.specs.Prelude.{◌≡◌, ◌++◌, ◌+◌, ◌<◌, ◌*◌, ◌/◌, ◌%◌, [], None, codes, IfSome};
 ghost use Rattle.std.specs.Option.{ForSome};
 ghost use Rattle.adr_time.specs.Calendar.{clock_of, date_of_day, day_of};
 ghost use Rattle.adr_time.specs.Text.{clock_text, date_text, moment_text};

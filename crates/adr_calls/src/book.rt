@@ -1,5 +1,5 @@
 //! The calls of a book.
-ghost use Rattle.std.specs.Prelude.{◌≡◌, [], IsTrue};
+ghost use Rattle.std.specs.Prelude.{◌≡◌, IsTrue};
 ghost use Rattle.adr_book.specs.Ledger.{sealed_of};
 
 use crate::calls::{Call, Tried, try_line};

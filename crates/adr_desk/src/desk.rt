@@ -1,10 +1,10 @@
 //! The desk.
 ghost use denote.Param.Send.{IsSync};
-ghost use Rattle.std.specs.Prelude.{◌≡◌, ◌≢◌, ◌<◌, ◌≤◌, ◌^◌, ◌++◌, ◌∷◌, [], sum_by, ℤ, None, Ok, IsOk, IfOk, IfSome, OnOk, OnErr};
+ghost use Rattle.std.specs.Prelude.{◌≡◌, ◌≢◌, ◌<◌, ◌≤◌, ◌++◌, ◌∷◌, [], ℤ, None, Ok, IsOk, IfOk, IfSome, OnOk, OnErr};
 ghost use Rattle.std.specs.Option.{option_copied, option_map_or};
 ghost use Rattle.adr_refusal.specs.Answer.{OnlyNoMemory};
 ghost use Rattle.adr_refusal.specs.Copy.{IsCopyOf};
-ghost use Rattle.adr_group.specs.Jobs.{most_done, AreDone, IsCrew};
+ghost use Rattle.adr_group.specs.Jobs.{AreDone, IsCrew};
 ghost use Rattle.adr_model.specs.Book.{empty};
 ghost use Rattle.adr_model.specs.Edits.{full_at, step_to};
 ghost use Rattle.adr_model.specs.Governor.{governs};

@@ -1,6 +1,5 @@
 //! Writing the readers' parts.
-ghost use Rattle.std.specs.Prelude.{◌≡◌, ◌++◌, true, OnOk, OnErr, codes};
-ghost use Rattle.std.specs.Fmt.{decimal};
+ghost use Rattle.std.specs.Prelude.{◌≡◌, true, OnOk, OnErr};
 ghost use Rattle.std.specs.Io.KnownBytes.{Appends};
 ghost use Rattle.adr_script.specs.Logs.{has_write_failed};
 ghost use Rattle.adr_resolver.specs.Fan.{reader_line};

@@ -101,7 +101,7 @@ pub record AreDone (indexes : Indexes) (jobs : List Job) (done : List Done) : Ty
   pub each : AllZip (IsDone indexes) jobs done
   pub compared : sum_by (λ d. d.compared) done ≤ sum_by (most_done indexes) jobs
 
--- whoever is called so does jobs: it may be called where a meter has room for them, and answers what was done, or that
+-- whoever is called so does jobs: it may be called with any, and answers what was done, or that
 -- there was no memory
 pub record IsCrew {V : Type 0} (items : V → List Done) (pre : Bor Indexes → Bor (List Job) → Type 0) (post : Bor Indexes → Bor (List Job) → Result V Refusal → Type 0) : Type 0 where
   pub may : (i : Bor Indexes) (jobs : Bor (List Job)) → pre i jobs

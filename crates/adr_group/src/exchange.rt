@@ -1,5 +1,5 @@
 //! A timeline over which an event is laid, or which an event leaves.
-ghost use Rattle.std.specs.Prelude.{◌≡◌, ◌⊎◌, ◌+◌, ◌*◌, ◌<◌, ◌≤◌, ◌^◌, ℤ, true, false, drop, take, length, IfOk, IfSome, if◌then◌else◌};
+ghost use Rattle.std.specs.Prelude.{◌≡◌, ◌+◌, ◌<◌, ◌≤◌, ℤ, true, drop, take, length, IfOk, IfSome, if◌then◌else◌};
 ghost use Rattle.adr_refusal.specs.Answer.{OnlyNoMemory};
 ghost use Rattle.adr_model.specs.Timeline.{shows};
 ghost use Rattle.adr_timeline.specs.Overlay.{spans_of};

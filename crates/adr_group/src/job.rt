@@ -1,5 +1,5 @@
 //! The work of a repair, in jobs that may be done apart.
-ghost use Rattle.std.specs.Prelude.{◌≡◌, ◌+◌, ◌<◌, ◌≤◌, ◌^◌, ◌++◌, ◌∷◌, [], position, sum_by, IfOk, OnOk};
+ghost use Rattle.std.specs.Prelude.{◌≡◌, ◌+◌, ◌<◌, ◌≤◌, ◌++◌, ◌∷◌, [], position, IfOk, OnOk};
 ghost use Rattle.adr_refusal.specs.Answer.{OnlyNoMemory};
 ghost use Rattle.adr_lines.specs.Grouped.{HaveOwnTypes};
 ghost use Rattle.adr_value.specs.Same.{same_type};

@@ -1,9 +1,8 @@
 //! Which jobs a worker has, and how the workers do theirs.
-ghost use Rattle.std.specs.Prelude.{◌≡◌, ◌≤◌, ◌<◌, ◌+◌, ◌*◌, ◌/◌, ◌^◌, length, take, slice_range, sum_by, IfOk};
+ghost use Rattle.std.specs.Prelude.{◌≡◌, ◌≤◌, ◌<◌, ◌+◌, ◌*◌, ◌/◌, length, take, slice_range, IfOk};
 ghost use denote.Param.Send.{IsSync};
 ghost use Rattle.adr_refusal.specs.Answer.{OnlyNoMemory};
-ghost use Rattle.adr_lines.specs.declared.indexes.Indexes.{Indexes as AllIndexes};
-ghost use Rattle.adr_group.specs.Jobs.{most_done, AreDone};
+ghost use Rattle.adr_group.specs.Jobs.{AreDone};
 
 use crate::gate::Gate;
 use crate::job::{Done, Job, do_jobs};

@@ -1,5 +1,5 @@
 //! The spans of windows.
-ghost use Rattle.std.specs.Prelude.{◌≡◌, ◌≤◌, ◌||◌, ℕ, ℤ, List, true, IfOk, IsTrue, OnOk};
+ghost use Rattle.std.specs.Prelude.{◌≡◌, ◌≤◌, ℕ, ℤ, List, true, IfOk, IsTrue};
 ghost use Rattle.adr_refusal.specs.Answer.{OnlyNoMemory};
 ghost use Rattle.adr_model.specs.declared.entry.Entry.{Entry as AnyEntry};
 ghost use Rattle.adr_timeline.specs.Build.{most_compared_all};

@@ -1,7 +1,7 @@
 //! A chunk of an index: some entries in order, under a tree of their ends.
 ghost use Rattle.std.specs.Prelude.{◌≡◌, ◌+◌, ◌-◌, ◌*◌, ◌<◌, ◌≤◌, ◌++◌, ◌∷◌, [], ◌^◌, IfNone, IfOk, IfSome, OnOk, length, vec_capacity};
 ghost use Rattle.std.specs.List.{remove_range};
-ghost use Rattle.adr_index.specs.Chunks.{listed, listed_too, ArePooled, HasEnds, IsChunk, IsPooled, IsRoomy, StartsLast};
+ghost use Rattle.adr_index.specs.Chunks.{listed_too, ArePooled, HasEnds, IsChunk, IsPooled, IsRoomy, StartsLast};
 ghost use Rattle.adr_index.specs.Query.{any_late, hits, looks};
 ghost use Rattle.adr_index.specs.Tree.{IsByStart};
 ghost use Rattle.adr_index.specs.Index.{inserted, inserted_all, others_all, IsOrdered};

@@ -1,6 +1,6 @@
 //! The order in which an index lists its entries.
-ghost use Rattle.std.specs.Prelude.{◌≡◌, ◌≤◌, ◌<◌, ℕ, true, false, length, take, drop};
-ghost use Rattle.std.specs.List.{insert, list_any, AllByRecursion};
+ghost use Rattle.std.specs.Prelude.{◌≡◌, ◌≤◌, ◌<◌, true, false, length, take, drop};
+ghost use Rattle.std.specs.List.{insert, AllByRecursion};
 ghost use Rattle.std.specs.List.Sorted.{IsPermutation};
 ghost use Rattle.std.specs.Ordering.{is_lt};
 ghost use Rattle.adr_model.specs.Entries.{is_listed_before};

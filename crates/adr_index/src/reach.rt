@@ -1,6 +1,5 @@
 //! The greatest end of some entries.
 ghost use Rattle.std.specs.Prelude.{◌≡◌, None};
-ghost use Rattle.adr_index.specs.Reach.{endless_number, no_number};
 ghost use Rattle.adr_index.specs.Tree.{comes_after, greater_end, own_end};
 
 use adr_model::Entry;

@@ -1,5 +1,5 @@
 //! The chunks of an index, one after the other.
-ghost use Rattle.std.specs.Prelude.{◌≡◌, ◌⊎◌, ◌+◌, ◌-◌, ◌*◌, ◌^◌, ◌<◌, ◌≤◌, ◌++◌, ◌∷◌, [], List, true, false, IfNone, IfOk, IfSome, OnOk, length, take, drop, vec_len, vec_capacity};
+ghost use Rattle.std.specs.Prelude.{◌≡◌, ◌⊎◌, ◌+◌, ◌-◌, ◌*◌, ◌^◌, ◌<◌, ◌≤◌, ◌∷◌, [], List, true, false, IfNone, IfOk, IfSome, OnOk, length, take, drop, vec_len, vec_capacity};
 ghost use Rattle.std.specs.List.{AllByRecursion, list_any};
 ghost use Rattle.adr_model.specs.Entries.{is_listed_before};
 ghost use Rattle.adr_index.specs.Chunks.{all_listed, AreChunks, ArePooled, EndsBefore, GoTogether, IsChunk, IsPooled};

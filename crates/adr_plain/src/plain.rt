@@ -1,5 +1,5 @@
 //! The machine that keeps the book and answers from its last publication.
-ghost use Rattle.std.specs.Prelude.{◌≡◌, ◌+◌, ◌++◌, ◌⊎◌, ◌<◌, ◌≤◌, OnOk, OnErr, IfOk, IfErr, Ok, Err};
+ghost use Rattle.std.specs.Prelude.{◌≡◌, ◌+◌, ◌⊎◌, ◌<◌, ◌≤◌, OnOk, OnErr, IfOk, IfErr, Ok, Err};
 ghost use Rattle.adr_refusal.specs.Answer.{Answers, OnlyNoMemory, result_map};
 ghost use Rattle.adr_refusal.specs.declared.refusal.Refusal.TheVariants.{NoMemory, Full};
 ghost use Rattle.adr_model.specs.Kept.{kept_start};

@@ -72,4 +72,3 @@ module _ (f : PayloadType → ℕ) (alike : (k l : PayloadType) → same_type k 
       let a = made_same (carries i) (λ t. list_any (λ k. same_type k t) (types_of i.payloads)) gs (λ t. sym (types_carried t i.payloads)) in
       let b = made_any (types_of i.payloads) gs d in
       omega (arith, a, b)
-

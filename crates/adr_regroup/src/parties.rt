@@ -1,5 +1,5 @@
 //! What an edit of a ven or of a resource does to the schedule.
-ghost use Rattle.std.specs.Prelude.{◌≡◌, ◌≤◌, ◌<◌, ◌+◌, ◌*◌, ◌^◌, ◌∷◌, [], ℕ, true, length, is_some, slice_get, sum_by, IfOk, OnOk};
+ghost use Rattle.std.specs.Prelude.{◌≡◌, ◌≤◌, ◌<◌, ◌+◌, ◌∷◌, [], ℕ, true, length, is_some, slice_get, sum_by, IfOk, OnOk};
 ghost use Rattle.adr_refusal.specs.Answer.{OnlyNoMemory};
 ghost use Rattle.adr_model.specs.Book.{resource_by};
 ghost use Rattle.adr_model.specs.Touches.{touches};

@@ -4,7 +4,6 @@ ghost use Rattle.std.specs.Str.{bytes_eq};
 ghost use Rattle.adr_refusal.specs.Answer.{OnlyNoMemory};
 ghost use Rattle.adr_object.specs.declared.party.Resource.{Resource as OneResource};
 ghost use Rattle.adr_model.specs.Edits.{step};
-ghost use Rattle.adr_model.specs.Whole.{IsWhole};
 ghost use Rattle.adr_regroup.specs.Party.{id_of_edit, is_of_ven, AreOfVen};
 
 use adr_book::Book;

@@ -187,7 +187,7 @@ fn put_answer_or_refusal(
 }
 
 impl<R: Resolver> Machine for ScriptOf<R> {
-    ghost use Rattle.std.specs.Prelude.{List, ℕ};
+    ghost use Rattle.std.specs.Prelude.{List};
     ghost use Rattle.adr_script.specs.Text.{AnswersBy};
     ghost use Rattle.adr_resolver.specs.Kept.{kept_reply, kept_next};
 

@@ -1,7 +1,6 @@
 //! The replies, made in room that is there.
-ghost use Rattle.std.specs.Prelude.{◌≡◌, ◌≢◌, ◌++◌, ◌+◌, ◌^◌, ◌≤◌, ◌<◌, [], Err, codes, length, vec_len, vec_capacity, OnOk, OnErr};
+ghost use Rattle.std.specs.Prelude.{◌≡◌, ◌≢◌, ◌++◌, ◌+◌, ◌^◌, ◌≤◌, ◌<◌, [], Err, length, vec_len, vec_capacity, OnOk, OnErr};
 ghost use Rattle.std.specs.Fmt.{decimal};
-ghost use Rattle.adr_refusal.specs.Refusal.{number_of, name_of};
 ghost use Rattle.adr_resolver.specs.Text.{refusal_line, ok_line, published_line, condensed_line};
 
 use adr_script::Unanswered;

@@ -1,5 +1,5 @@
 //! The groups that are made of drafts.
-ghost use Rattle.std.specs.Prelude.{◌≡◌, ◌≤◌, ◌<◌, ◌+◌, ◌∷◌, ◌^◌, Some, [], flat_map, length, sum_by, IfOk};
+ghost use Rattle.std.specs.Prelude.{◌≡◌, ◌≤◌, ◌<◌, ◌+◌, ◌∷◌, Some, [], flat_map, length, sum_by, IfOk};
 ghost use Rattle.std.specs.List.{AllZip};
 ghost use Rattle.std.specs.Option.{option_copied, option_map};
 ghost use Rattle.adr_refusal.specs.Answer.{OnlyNoMemory};
@@ -8,7 +8,7 @@ ghost use Rattle.adr_shared.specs.Map.{put};
 ghost use Rattle.adr_model.specs.Lists.{In};
 ghost use Rattle.adr_lines.specs.Grouped.{entries_under, HaveOwnTypes};
 ghost use Rattle.adr_lines.specs.declared.indexes.Indexes.{Indexes as AllIndexes};
-ghost use Rattle.adr_group.specs.Jobs.{most_done, AreDone, IsCrew, IsJobOf, IsTaskDone};
+ghost use Rattle.adr_group.specs.Jobs.{AreDone, IsCrew, IsJobOf, IsTaskDone};
 ghost use Rattle.adr_group.specs.Repair.{most_repaired};
 ghost use Rattle.adr_schedule.specs.declared.draft.Draft.{Draft as AnyDraft};
 ghost use Rattle.adr_schedule.specs.Draft.{most_drafted, tasks_of, AreDraftsOf, AreMadeOf, IsDraftOf, IsMadeOf};

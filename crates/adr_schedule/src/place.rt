@@ -1,5 +1,5 @@
 //! A place comes, goes, or has other writes.
-ghost use Rattle.std.specs.Prelude.{◌≡◌, ◌<◌, ◌≤◌, ◌+◌, ◌^◌, ◌∷◌, ◌++◌, [], ℕ, List, Some, length, slice_get, IfOk, IfSome, if◌then◌else◌};
+ghost use Rattle.std.specs.Prelude.{◌≡◌, ◌<◌, ◌≤◌, ◌+◌, ◌∷◌, [], ℕ, List, Some, length, slice_get, IfOk, IfSome, if◌then◌else◌};
 ghost use Rattle.adr_refusal.specs.Answer.{OnlyNoMemory};
 ghost use Rattle.adr_model.specs.declared.entry.Tie.{Tie};
 ghost use Rattle.adr_model.specs.declared.written.Written.{Written};
@@ -265,7 +265,7 @@ impl Schedule {
         requires crew { IsCrew (λ v. v.items) (C.pre crew.now) (C.post crew.now) }
         ensures writes { IfOk result (λ after. IsRewritten place writes.now self.now after) }
         ensures right { IfOk result (λ after. StaysRightInside indexes.now windows.now place writes.now self.now after) }
-            ensures least { meter.new ≤ meter.old + most_repaired windows.now writes.now indexes.now }
+        ensures least { meter.new ≤ meter.old + most_repaired windows.now writes.now indexes.now }
         ensures refusal { OnlyNoMemory result }
     {
         let Some(slot) = self.seats.get().slot(place) else {

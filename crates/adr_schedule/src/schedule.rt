@@ -1,7 +1,6 @@
 //! The group of timelines of each resource.
-ghost use Rattle.std.specs.Prelude.{◌≡◌, ◌<◌, [], Some, length, IfOk};
+ghost use Rattle.std.specs.Prelude.{◌≡◌, ◌<◌, [], Some, length};
 ghost use Rattle.std.specs.Option.{option_copied};
-ghost use Rattle.adr_refusal.specs.Answer.{OnlyNoMemory};
 ghost use Rattle.adr_refusal.specs.Copy.{IsCopyOf};
 ghost use Rattle.adr_group.specs.Group.{Lines};
 ghost use Rattle.adr_schedule.specs.Seating.{group_at};

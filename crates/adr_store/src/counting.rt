@@ -1,5 +1,5 @@
 //! How many entries an event has.
-ghost use Rattle.std.specs.Prelude.{◌≡◌, ◌+◌, ◌*◌, ◌≤◌, length, sum_by};
+ghost use Rattle.std.specs.Prelude.{◌≡◌, ◌+◌, ◌*◌, ◌≤◌, length};
 ghost use Rattle.std.specs.List.{list_any};
 ghost use Rattle.adr_value.specs.Same.{same_type as is_same_type};
 ghost use Rattle.adr_model.specs.Edits.{distinct_types, entry_count as number_of_entries};

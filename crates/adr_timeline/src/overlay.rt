@@ -1,5 +1,5 @@
 //! What is shown, as entries, and those of a new event, as steps that are merged.
-ghost use Rattle.std.specs.Prelude.{◌≡◌, ◌+◌, ◌<◌, ◌≤◌, ◌^◌, ◌++◌, ℤ, IfOk, IsTrue, OnOk, None, map, length};
+ghost use Rattle.std.specs.Prelude.{◌≡◌, ◌+◌, ◌<◌, ◌≤◌, ◌++◌, ℤ, IfOk, IsTrue, OnOk, None, map, length};
 ghost use Rattle.std.specs.Option.{option_map};
 ghost use Rattle.adr_model.specs.Timeline.{shows, IsCanonical};
 ghost use Rattle.adr_timeline.specs.Chunks.{listed};

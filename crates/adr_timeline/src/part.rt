@@ -1,5 +1,5 @@
 //! Parts of lists of segments, put together.
-ghost use Rattle.std.specs.Prelude.{◌≡◌, ◌≤◌, OnOk, IfOk, IsTrue, ℤ, if◌then◌else◌, None, [], length};
+ghost use Rattle.std.specs.Prelude.{◌≡◌, ◌≤◌, OnOk, IsTrue, ℤ, if◌then◌else◌, None, [], length};
 ghost use Rattle.adr_time.specs.Spans.{covers};
 ghost use Rattle.adr_model.specs.Timeline.{shows, IsCanonical};
 ghost use Rattle.adr_timeline.specs.Chunks.{listed, AreFilled, chunks_from as from_chunk, is_from as is_start_from, is_over_by as is_ended_by, is_past as is_passed, is_within as lies_within, last_of, starts_late as is_late};

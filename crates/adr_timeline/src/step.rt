@@ -1,5 +1,5 @@
 //! Steps: the least rank from moment to moment, by halves that are merged.
-ghost use Rattle.std.specs.Prelude.{◌≡◌, ◌+◌, ◌*◌, ◌<◌, ◌≤◌, ◌^◌, ℤ, [], ◌++◌, ◌∷◌, IfOk, IsTrue, OnOk, None, drop, take, length, map};
+ghost use Rattle.std.specs.Prelude.{◌≡◌, ◌+◌, ◌*◌, ◌<◌, ◌≤◌, ℤ, [], ◌++◌, ◌∷◌, IfOk, IsTrue, OnOk, None, drop, take, length, map};
 ghost use Rattle.adr_timeline.specs.Parts.{joined_all, part};
 ghost use Rattle.adr_timeline.specs.Steps.{Adds, AreRanked, IsInOrder, IsMergeOf, first_from, goes_left as is_left_next, is_run as are_in_turn, starts_from as starts_from_end, steps_in_turn, lesser, own_segment as segment_of, piece, pieces, rank_at, rank_from, rise, rises, steps_of};
 

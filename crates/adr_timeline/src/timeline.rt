@@ -1,5 +1,5 @@
 //! Timelines.
-ghost use Rattle.std.specs.Prelude.{◌≡◌, ◌&&◌, ◌++◌, List, length, IsTrue, true, drop, ◌+◌, ◌*◌, ◌<◌, ◌≤◌, ◌^◌, nat_le, ℤ, [], if◌then◌else◌, None, IfOk};
+ghost use Rattle.std.specs.Prelude.{◌≡◌, List, length, IsTrue, true, drop, ◌+◌, ◌*◌, ◌<◌, ◌≤◌, nat_le, ℤ, [], if◌then◌else◌, None, IfOk};
 ghost use Rattle.std.specs.Option.{option_map};
 ghost use Rattle.adr_refusal.specs.Answer.{OnlyNoMemory};
 ghost use Rattle.adr_refusal.specs.Copy.{IsCopyOf};

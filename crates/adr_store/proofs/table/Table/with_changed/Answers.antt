@@ -24,8 +24,7 @@ pub invariant_of-result : goal.invariant_of-result
 invariant_of-result g c =
     let key = g.T.Keyed.key in
     let there = ap (λ id. lookup id c.self.inside.numbers) (sym c.id.ensures) ∙ sym c.get.ensures ∙ ap option_copied c.in-Some.is in
-    rw (c.in_ok-put.ensures, c.in_ok-copy.ensures)
-    (
+    rw (c.in_ok-put.ensures, c.in_ok-copy.ensures) (
       changed key c.self.inside.rows c.self.inside.numbers c.self.inside.next c.self.invariant.0 c.args.value c.in-Some.number.now there,
       changed_dense key c.self.inside.rows c.self.inside.numbers c.self.inside.next c.self.invariant.0 c.args.value c.in-Some.number.now there c.self.inside.dense c.self.invariant.1,
     )

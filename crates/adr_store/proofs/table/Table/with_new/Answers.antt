@@ -7,10 +7,9 @@ use Rattle.adr_store.proofs.table.Table.with_new.Goals as goal
 pub invariant_of-result : goal.invariant_of-result
 invariant_of-result g c =
     let key = g.T.Keyed.key in
-    rw (c.in_ok-put.ensures, c.in_ok-put-2.ensures, c.in_ok-id.ensures, c.id.ensures, c.dense_with.ensures, c.len.ensures)
-    (
+    rw (c.in_ok-put.ensures, c.in_ok-put-2.ensures, c.in_ok-id.ensures, c.id.ensures, c.dense_with.ensures, c.len.ensures) (
       pushed key c.self.inside.rows c.self.inside.numbers c.self.inside.next c.self.invariant.0 c.args.value
-      (ap (λ vs. find_by key vs (key c.args.value)) c.self.view_is ∙ c.requires),
+          (ap (λ vs. find_by key vs (key c.args.value)) c.self.view_is ∙ c.requires),
       dense_pushed c.self.inside.dense c.self.inside.next c.self.inside.rows c.args.value c.self.invariant.0.earlier c.self.invariant.1,
     )
 

@@ -9,8 +9,7 @@ use Rattle.adr_store.proofs.table.Table.without.Goals as goal
 
 pub invariant_of-result : goal.invariant_of-result
 invariant_of-result g c =
-    rw (c.in_ok-without-in-Some.ensures, c.in_ok-without-in-Some-2.ensures, c.min.ensures)
-    (
+    rw (c.in_ok-without-in-Some.ensures, c.in_ok-without-in-Some-2.ensures, c.min.ensures) (
       taken g.T.Keyed.key c.self.inside.rows c.self.inside.numbers c.self.inside.next c.self.invariant.0 c.args.id.now c.in-Some.number.now (sym c.get.ensures ∙ ap option_copied c.in-Some.is),
       dense_taken c.self.inside.dense c.in-Some.number.now c.self.inside.rows c.self.invariant.0.ordered c.self.invariant.1,
     )
