@@ -1,5 +1,5 @@
 -- What is made of groups before places move.
-use Rattle.std.proofs.Common.{◌≡◌, ◌⊎◌, inl, inr, ℕ, ℤ, suc, ◌+◌, ◌*◌, ◌≤◌, ◌==◌, ◌||◌, Bool, true, false, List, [], ◌∷◌, ◌++◌, length, flat_map, sum_by, slice_get, take, drop, Option, Some, None, refl, ap, sym, subst, ◌∙◌, eqb-true, append_assoc, append-nil, arith}
+use Rattle.std.proofs.Common.{◌≡◌, ◌⊎◌, inl, inr, ℕ, ℤ, ◌+◌, ◌≤◌, ◌==◌, ◌||◌, Bool, true, false, List, [], ◌∷◌, ◌++◌, length, flat_map, sum_by, slice_get, take, drop, Option, Some, None, refl, ap, sym, subst, ◌∙◌, eqb-true, append_assoc, append-nil, arith}
 use Rattle.std.specs.Prelude.{MatchOption}
 use Rattle.std.specs.List.{AllZip}
 use Rattle.std.specs.Option.{option_map_or}
@@ -93,9 +93,6 @@ jobs_compare_one indexes draft slice jobs same fit =
 -- a draft of a group compares what the change asks of it
 pub draft_compares : (change : Change) (indexes : Indexes) (g : Lines) (d : Draft) → AreTwo change → IsDraftOf change g d → most_repaired d.windows.items d.writes indexes ≡ most_shifted change indexes g
 draft_compares change indexes g d two of = of.windows.cost d.writes indexes ∙ repaired_shifted change indexes g d.writes two of.writes
-
-    by : {s a b m : ℕ} (n : ℕ) → s ≡ a + b → a ≤ m → b ≤ n * m → s ≤ suc n * m
-    by n e h k = omega (arith, e, h, k)
 
 -- ---- what is made of drafts
 
