@@ -119,18 +119,19 @@ fn push(entries: &mut Vec<Entry>, entry: &Entry) -> Result<(), Refusal>
     Ok(())
 }
 
-/// A group of one entry.
+/// A group of one entry, with room for so many.
 fn group_of(
     alloc: Global,
     payload_type: &PayloadType,
     entry: &Entry,
+    room: usize,
 ) -> Result<TypeEntries, Refusal>
     ensures payload_type { IfOk result (λ group. group.payload_type ≡ payload_type.now) }
     ensures entries { IfOk result (λ group. group.entries.items ≡ entry.now ∷ []) }
     ensures memory { OnlyNoMemory result }
 {
     let payload_type = payload_type.copy()?;
-    let mut entries = Vec::new(alloc);
+    let mut entries = Vec::with_capacity(alloc, room)?;
     push(&mut entries, entry)?;
     Ok(TypeEntries {
         payload_type,
@@ -138,11 +139,13 @@ fn group_of(
     })
 }
 
-/// Adds the entry under the type.
+/// Adds the entry under the type. The first group gets room for an entry of each interval that is left, so that it need
+/// not grow: most events have one type.
 fn add_entry(
     groups: &mut Vec<TypeEntries>,
     payload_type: &PayloadType,
     entry: &Entry,
+    left: usize,
 ) -> Result<(), Refusal>
     requires { HaveOwnTypes groups.old.items }
     ensures entries { OnOk result ((k : AnyType) → entries_under groups.new.items k ≡ entries_under groups.old.items k ++ once_for_each entry.now (payload_type.now ∷ []) k) }
@@ -153,7 +156,8 @@ fn add_entry(
         push(&mut groups[place].entries, entry)?;
         return Ok(());
     }
-    let group = group_of(*groups.allocator(), payload_type, entry)?;
+    let room = if groups.is_empty() { left } else { 1 };
+    let group = group_of(*groups.allocator(), payload_type, entry, room)?;
     groups.push(group)?;
     Ok(())
 }
@@ -164,6 +168,7 @@ fn add_type(
     entry: &Entry,
     earlier: &[Payload],
     payload_type: &PayloadType,
+    left: usize,
 ) -> Result<(), Refusal>
     requires { HaveOwnTypes groups.old.items }
     ensures entries { OnOk result ((k : AnyType) → entries_under groups.new.items k ≡ entries_under groups.old.items k ++ once_for_each entry.now (unless_carried earlier.now payload_type.now) k) }
@@ -173,7 +178,7 @@ fn add_type(
     if carry(earlier, payload_type) {
         return Ok(());
     }
-    add_entry(groups, payload_type, entry)
+    add_entry(groups, payload_type, entry, left)
 }
 
 /// Adds the entry under each type of the payloads.
@@ -181,6 +186,7 @@ fn add_types(
     groups: &mut Vec<TypeEntries>,
     entry: &Entry,
     payloads: &[Payload],
+    left: usize,
 ) -> Result<(), Refusal>
     requires { HaveOwnTypes groups.old.items }
     ensures entries { OnOk result ((k : AnyType) → entries_under groups.new.items k ≡ entries_under groups.old.items k ++ once_for_each entry.now (types_of payloads.now) k) }
@@ -188,7 +194,7 @@ fn add_types(
     ensures memory { OnlyNoMemory result }
 {
     for (place, payload) in payloads.iter().enumerate() {
-        add_type(groups, entry, &payloads[..place], &payload.kind)?;
+        add_type(groups, entry, &payloads[..place], &payload.kind, left)?;
     }
     Ok(())
 }
@@ -213,7 +219,7 @@ fn add_intervals(
             return Ok(());
         };
         let entry = entry(tie, event, written, place);
-        add_types(groups, &entry, interval.payloads.as_slice())?;
+        add_types(groups, &entry, interval.payloads.as_slice(), places.len())?;
         intervals = more;
         places = others;
     }
