@@ -1,4 +1,4 @@
-use Rattle.std.proofs.Common.{◌<◌, length, set, ap, sym, subst, ◌∙◌}
+use Rattle.std.proofs.Common.{◌<◌, length, set, is_some, ap, sym, subst, ◌∙◌}
 use Rattle.adr_object.specs.declared.object.Object.TheVariants.{Resource as resource_object}
 use Rattle.adr_model.specs.Book.{resource_by}
 use Rattle.adr_audience.specs.Rows.{offers_of}
@@ -9,7 +9,7 @@ pub unreachable-requires : goal.unreachable-requires
 unreachable-requires c =
     let book = c.args.store.now in
     let r = c.args.resource.now in
-    not_missing (resource_by book r.id) c.in_default.ensures.found (changed_is_there book (resource_object r) c.requires.accepted)
+    not_missing (resource_by book r.id) (c.in_default.ensures.found ∙ ap (λ i. is_some (resource_by book i)) c.lent.ensures) (changed_is_there book (resource_object r) c.requires.accepted)
 
 pub replace-requires : goal.replace-requires
 replace-requires c =
@@ -17,7 +17,7 @@ replace-requires c =
     let r = c.args.resource.now in
     let place = c.in-Some.place in
     subst (λ rows. place < length rows) (sym c.requires.rows)
-    (row_of_resource book place (resource_by book r.id) c.in-Some.ensures.value (changed_is_there book (resource_object r) c.requires.accepted))
+    (row_of_resource book place (resource_by book r.id) (c.in-Some.ensures.value ∙ ap (resource_by book) c.lent.ensures) (changed_is_there book (resource_object r) c.requires.accepted))
 
 pub returns-clause-ok : goal.returns-clause-ok
 returns-clause-ok c =
@@ -26,5 +26,5 @@ returns-clause-ok c =
     let place = c.in-Some.place in
     on_ok c.replace.result
     (λ e. e ∙ ap (λ rows. set rows place c.in_ok-row.row) c.requires.rows ∙ ap (set (offers_of book) place) c.in_ok-row.ensures
-    ∙ sym (rows_changed book place c.requires.whole r c.in-Some.ensures.value (changed_is_there book (resource_object r) c.requires.accepted)))
+    ∙ sym (rows_changed book place c.requires.whole r (c.in-Some.ensures.value ∙ ap (resource_by book) c.lent.ensures) (changed_is_there book (resource_object r) c.requires.accepted)))
     c.replace.ensures.ok

@@ -14,9 +14,9 @@ returns g c =
     let id = c.args.id.now in
     let kind = c.args.payload_type.now in
     let place = c.in-Some.place in
-    let there : is_some (resource_by book id) ≡ true = sym (c.in-Some.ensures.found ∙ ap (λ (b : Book). is_some (resource_by b id)) c.book.ensures) in
+    let there : is_some (resource_by book id) ≡ true = sym (c.in-Some.ensures.found ∙ ap (λ i. is_some (resource_by c.book.result.now.objects i)) c.lent.ensures ∙ ap (λ (b : Book). is_some (resource_by b id)) c.book.ensures) in
     let at : slice_get book.resources place ≡ resource_by book id =
-    subst (λ (b : Book). slice_get b.resources place ≡ resource_by b id) c.book.ensures c.in-Some.ensures.value in
+    subst (λ (b : Book). slice_get b.resources place ≡ resource_by b id) c.book.ensures (c.in-Some.ensures.value ∙ ap (resource_by c.book.result.now.objects) c.lent.ensures) in
     let less : int_lt c.args.from c.args.to ≡ true = grind (arith, ints, c.nanoseconds.ensures.value, c.nanoseconds-2.ensures.value, c.if-nanoseconds.false) in
     bytes_answered (λ v. v.items) c.text_of_list.result _
     (IfOk-weaker c.text_of_list.result _ _

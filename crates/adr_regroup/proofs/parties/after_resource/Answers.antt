@@ -47,7 +47,7 @@ unreachable-requires g c =
     let old = edited.old.now.objects in
     let there = resource_to_change old edited.new.now.objects c.in-Change.object (subst (λ (e : Edit). is_of_resource e ≡ true) c.in-Change.is c.requires.resource)
     (subst (λ (e : Edit). step old e ≡ Ok edited.new.now.objects) c.in-Change.is c.requires.edited.accepted) in
-    both_ways (is_some (resource_by old (id_of c.in-Change.object))) (sym (c.in_default.ensures.found ∙ ap (λ i. is_some (resource_by old i)) c.id.ensures)) there
+    both_ways (is_some (resource_by old (id_of c.in-Change.object))) (sym (c.in_default.ensures.found ∙ ap (λ i. is_some (resource_by old i)) (c.lent.ensures ∙ c.id.ensures))) there
 
 pub reseated_at-requires-in-Change-clause-place : goal.reseated_at-requires-in-Change-clause-place
 reseated_at-requires-in-Change-clause-place g c =
@@ -56,7 +56,7 @@ reseated_at-requires-in-Change-clause-place g c =
     let new = edited.new.now.objects in
     let own = subst (λ (e : Edit). is_of_resource e ≡ true) c.in-Change.is c.requires.resource in
     let made = subst (λ (e : Edit). step old e ≡ Ok new) c.in-Change.is c.requires.edited.accepted in
-    let at : slice_get old.resources c.in-Some.place ≡ resource_by old (id_of c.in-Change.object) = c.in-Some.ensures.value ∙ ap (resource_by old) c.id.ensures in
+    let at : slice_get old.resources c.in-Some.place ≡ resource_by old (id_of c.in-Change.object) = c.in-Some.ensures.value ∙ ap (resource_by old) (c.lent.ensures ∙ c.id.ensures) in
     let starts = resource_changes edited.tie old new c.in-Change.object c.in-Some.place edited.schedule.now c.book_laws.ensures.whole own made at c.requires.edited.seated in
     subst (λ n. c.in-Some.place < n) (sym c.requires.edited.seated.count ∙ starts.count)
     (found_within old.resources c.in-Some.place (resource_by old (id_of c.in-Change.object)) at (resource_to_change old new c.in-Change.object own made))
@@ -69,7 +69,7 @@ reseated_at-requires-in-Change-clause-seated g c =
     subst (λ (s : Seating). AreSeatedBut edited.tie new (c.in-Some.place ∷ []) s) (sym c.in_ok-same-in-Change.ensures)
     (resource_changes edited.tie old new c.in-Change.object c.in-Some.place edited.schedule.now c.book_laws.ensures.whole
     (subst (λ (e : Edit). is_of_resource e ≡ true) c.in-Change.is c.requires.resource) (subst (λ (e : Edit). step old e ≡ Ok new) c.in-Change.is c.requires.edited.accepted)
-    (c.in-Some.ensures.value ∙ ap (resource_by old) c.id.ensures) c.requires.edited.seated)
+    (c.in-Some.ensures.value ∙ ap (resource_by old) (c.lent.ensures ∙ c.id.ensures)) c.requires.edited.seated)
 
 pub without-requires-clause-there : goal.without-requires-clause-there
 without-requires-clause-there g c =
@@ -104,6 +104,6 @@ returns-in_ok-after-in-Change-clause-least g c =
     let new = edited.new.now.objects in
     let own = changed_cost edited.tie old new c.in-Change.object c.in-Some.place edited.schedule.now c.book_laws.ensures.whole c.book_laws-2.ensures.whole
     (subst (λ (e : Edit). is_of_resource e ≡ true) c.in-Change.is c.requires.resource) (subst (λ (e : Edit). step old e ≡ Ok new) c.in-Change.is c.requires.edited.accepted)
-    (c.in-Some.ensures.value ∙ ap (resource_by old) c.id.ensures) c.requires.edited.seated in
+    (c.in-Some.ensures.value ∙ ap (resource_by old) (c.lent.ensures ∙ c.id.ensures)) c.requires.edited.seated in
     let here = ap (λ (s : Seating). most_reseated_at new s c.in-Some.place) c.in_ok-same-in-Change.ensures in
     omega (arith, own, here, c.requires.begun, c.in_ok-after-in-Change.ensures.least)
