@@ -25,7 +25,7 @@ use adr_timeline::timeline_laws;
 use adr_value::{PayloadType, Refusal};
 use std::alloc::Global;
 
-/// How long the line of a segment mostly is at most.
+/// How long the line of a segment or of a state mostly is at most.
 const LINE: usize = 96;
 
 /// What governs the resource for the type at the moment, and until when. Cost: a look-up of the resource, and that of
@@ -61,7 +61,7 @@ fn text_of_state(
     ensures memory { OnlyNoMemory result }
 {
     let shown = shown_by_winner(book, payload_type, state.governor);
-    let mut out = Vec::new(alloc);
+    let mut out = Vec::with_capacity(alloc, LINE)?;
     put_version(&mut out, book.version())?;
     put(&mut out, b" ")?;
     put_state(&mut out, shown, state.until)?;
@@ -253,8 +253,10 @@ fn put_roll_lines<C: Calendar>(
     ensures ok { OnOk result (out.new.items ≡ out.old.items ++ flat_map (λ r. roll_line (C.tie calendar.now) (C.objects calendar.now) payload_type.now moment r.id) (C.objects calendar.now).resources) }
     ensures memory { OnlyNoMemory result }
 {
+    let count = calendar.book().count(Kind::Resource);
+    out.reserve(count.saturating_mul(LINE))?;
     let mut last = LastState::none(*out.allocator(), calendar.book(), payload_type);
-    for place in 0..calendar.book().count(Kind::Resource) {
+    for place in 0..count {
         put_roll_line_at(out, &mut last, calendar, place, payload_type, moment)?;
     }
     Ok(())
@@ -321,7 +323,7 @@ fn text_of_types(alloc: Global, book: &Book, types: &[PayloadType]) -> Result<Ve
     ensures ok { IfOk result (λ v. v.items ≡ in_lines book.now.objects (flat_map (λ kind. type_text (name_of kind) ++ codes "\n") types.now)) }
     ensures memory { OnlyNoMemory result }
 {
-    let mut out = Vec::new(alloc);
+    let mut out = Vec::with_capacity(alloc, LINE)?;
     put_version(&mut out, book.version())?;
     put(&mut out, b"\n")?;
     put_type_lines(&mut out, types)?;

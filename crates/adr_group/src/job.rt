@@ -175,11 +175,13 @@ fn gather(alloc: Global, types: &mut Vec<TypeEntries>, group: &TypeEntries) -> R
     ensures alike { OnOk result (AreAlike types.new.items (types.old.items ++ group.now ∷ [])) }
     ensures refusal { OnlyNoMemory result }
 {
-    let mut entries = Vec::from_slice(alloc, group.entries.as_slice())?;
     if let Some(place) = place_of(types.as_slice(), &group.payload_type) {
-        types[place].entries.append(&mut entries)?;
+        types[place]
+            .entries
+            .extend_from_slice(group.entries.as_slice())?;
         return Ok(());
     }
+    let entries = Vec::from_slice(alloc, group.entries.as_slice())?;
     let payload_type = group.payload_type.copy()?;
     types.push(TypeEntries {
         payload_type,

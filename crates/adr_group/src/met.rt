@@ -46,10 +46,11 @@ pub(crate) fn compares_enough(
     Ok(wanted <= most)
 }
 
-/// From the start of the first entry to the end of that behind the first eighth of them and a few more; the window where
-/// there is none.
+/// From the start of the first entry to the end of one behind it; the window where there is none. That many entries and
+/// more mostly lie there that building compares as often as there are entries in all: for n of them that takes the root
+/// of n / 2, and n / 64 + 16 are more.
 fn first_part(window: &Span, shown: &[Entry]) -> Span {
-    match (shown.first(), shown.get(shown.len() / 8 + 8)) {
+    match (shown.first(), shown.get(shown.len() / 64 + 16)) {
         (Some(first), Some(behind)) => Span {
             start: first.span.start,
             end: behind.span.end,

@@ -7,16 +7,16 @@ use Rattle.std.proofs.lemmas.List.{append_assoc, append-nil, drop_more, drop_all
 use Rattle.std.proofs.lemmas.Option.{get_or_from_slice_get, none-some, same_Some, slice_get_within}
 use Rattle.adr_model.specs.declared.entry.Rank.{Rank}
 use Rattle.adr_timeline.specs.declared.step.Step.{Step}
-use Rattle.adr_timeline.specs.Steps.{lesser, rank_from, rise, rises, IsFrom, IsInOrder, IsMergeOf, goes_left}
+use Rattle.adr_timeline.specs.Steps.{lesser, rank_from, rise, rises, IsFrom, IsInOrder, IsMergeOf, IsStepTo, goes_left}
 
 -- the steps are those of both lists, from the ranks before them on
 pub record IsMerge (a b : Option Rank) (left right steps : List Step) : Type 0 where
-  pub ranks : (t : ℤ) → rank_from (lesser a b) steps t ≡ lesser (rank_from a left t) (rank_from b right t)
+  pub ranks : (v : ℤ) → IsFrom v left → IsFrom v right → (t : ℤ) → rank_from (lesser a b) steps t ≡ lesser (rank_from a left t) (rank_from b right t)
   pub order : (v : ℤ) → IsFrom v left → IsFrom v right → IsFrom v steps
-  pub count : length steps ≡ length left + length right
+  pub count : length steps ≤ length left + length right
 
 pub merge_none : (a b : Option Rank) → IsMerge a b [] [] []
-merge_none a b = record { ranks = λ t. refl; order = λ v l r. tt; count = refl }
+merge_none a b = record { ranks = λ v l r t. refl; order = λ v l r. tt; count = omega arith }
 
 le_self : (u : ℤ) → u ≤ℤ u
 le_self u = omega (arith, ints)
@@ -26,6 +26,12 @@ earlier_too t u v h k = grind (arith, ints)
 
 earlier_than : (t u v : ℤ) → int_le u v ≡ false → int_lt t v ≡ true → int_lt t u ≡ true
 earlier_than t u v h k = grind (arith, ints)
+
+before_too : (t u v : ℤ) → u ≤ℤ v → int_lt t u ≡ true → int_lt t v ≡ true
+before_too t u v h k = grind (arith, ints)
+
+no_later : (t u v : ℤ) → t ≤ℤ u → u ≤ℤ v → t ≤ℤ v
+no_later t u v h k = omega (arith, ints, h, k)
 
 le_of : (u v : ℤ) → int_le u v ≡ true → u ≤ℤ v
 le_of u v h = grind (arith, ints)
@@ -49,12 +55,21 @@ left_from : (y : Step) (left ys : List Step) (v : ℤ) → goes_left left (y ∷
 left_from y [] ys v g l = tt
 left_from y (x ∷ xs) ys v g l = (ge_of x.from y.from g, l.1)
 
+-- steps that begin later show nothing new yet
+waits : (a : Option Rank) (u : ℤ) (steps : List Step) (t : ℤ) → IsFrom u steps → int_lt t u ≡ true → rank_from a steps t ≡ a
+waits a u [] t h lt = refl
+waits a u (s ∷ ss) t h lt = rw (before_too t u s.from h.0 lt)
+
+from_earlier : (v u : ℤ) (steps : List Step) → v ≤ℤ u → IsFrom u steps → IsFrom v steps
+from_earlier v u [] le h = tt
+from_earlier v u (s ∷ ss) le h = (no_later v u s.from le h.0, h.1)
+
 -- the next step is the left list's
 pub merge_left : (a b r : Option Rank) (x : Step) (left right steps : List Step) → goes_left (x ∷ left) right ≡ true → r ≡ lesser x.rank b → IsMerge x.rank b left right steps → IsMerge a b (x ∷ left) right (record { from = x.from; rank = r } ∷ steps)
 merge_left a b r x left right steps g is m = rw is (record {
-  ranks = λ t. elim (cases_Bool (int_lt t x.from)) [
+  ranks = λ v l r t. elim (cases_Bool (int_lt t x.from)) [
     | inl early ↦ rw (early, right_waits b x left right t g early)
-    | inr late ↦ rw late (m.ranks t)
+    | inr late ↦ rw late (m.ranks x.from l.1 (right_from x left right v g r) t)
   ];
   order = λ v l r. (l.0, m.order x.from l.1 (right_from x left right v g r));
   count = omega (arith, m.count);
@@ -63,13 +78,44 @@ merge_left a b r x left right steps g is m = rw is (record {
 -- the next step is the right list's
 pub merge_right : (a b r : Option Rank) (y : Step) (left right steps : List Step) → goes_left left (y ∷ right) ≡ false → r ≡ lesser a y.rank → IsMerge a y.rank left right steps → IsMerge a b left (y ∷ right) (record { from = y.from; rank = r } ∷ steps)
 merge_right a b r y left right steps g is m = rw is (record {
-  ranks = λ t. elim (cases_Bool (int_lt t y.from)) [
+  ranks = λ v l r t. elim (cases_Bool (int_lt t y.from)) [
     | inl early ↦ rw (early, left_waits a y left right t g early)
-    | inr late ↦ rw late (m.ranks t)
+    | inr late ↦ rw late (m.ranks y.from (left_from y left right v g l) r.1 t)
   ];
   order = λ v l r. (r.0, m.order y.from (left_from y left right v g l) r.1);
   count = omega (arith, m.count);
 })
+
+-- the next step is the left list's, and changes nothing
+pub merge_left_same : (a b : Option Rank) (x : Step) (left right steps : List Step) → goes_left (x ∷ left) right ≡ true → lesser x.rank b ≡ lesser a b → IsMerge x.rank b left right steps → IsMerge a b (x ∷ left) right steps
+merge_left_same a b x left right steps g same m = record {
+  ranks = λ v l r t. elim (cases_Bool (int_lt t x.from)) [
+    | inl early ↦ rw (early, right_waits b x left right t g early, waits (lesser a b) x.from steps t (m.order x.from l.1 (right_from x left right v g r)) early)
+    | inr late ↦ rw (late, sym same) (m.ranks x.from l.1 (right_from x left right v g r) t)
+  ];
+  order = λ v l r. m.order v (from_earlier v x.from left l.0 l.1) r;
+  count = omega (arith, m.count);
+}
+
+-- the next step is the right list's, and changes nothing
+pub merge_right_same : (a b : Option Rank) (y : Step) (left right steps : List Step) → goes_left left (y ∷ right) ≡ false → lesser a y.rank ≡ lesser a b → IsMerge a y.rank left right steps → IsMerge a b left (y ∷ right) steps
+merge_right_same a b y left right steps g same m = record {
+  ranks = λ v l r t. elim (cases_Bool (int_lt t y.from)) [
+    | inl early ↦ rw (early, left_waits a y left right t g early, waits (lesser a b) y.from steps t (m.order y.from (left_from y left right v g l) r.1) early)
+    | inr late ↦ rw (late, sym same) (m.ranks y.from (left_from y left right v g l) r.1 t)
+  ];
+  order = λ v l r. m.order v l (from_earlier v y.from right r.0 r.1);
+  count = omega (arith, m.count);
+}
+
+-- the step to the next rank comes before what is left
+pub stepped_left : (a b r : Option Rank) (x : Step) (left right added steps : List Step) → goes_left (x ∷ left) right ≡ true → r ≡ lesser x.rank b → IsStepTo (lesser a b) x.from r added → IsMerge x.rank b left right steps → IsMerge a b (x ∷ left) right (added ++ steps)
+stepped_left a b r x left right added steps g is (inl step) m = rw step.0 (merge_left a b r x left right steps g is m)
+stepped_left a b r x left right added steps g is (inr step) m = rw step.0 (merge_left_same a b x left right steps g (sym is ∙ step.1) m)
+
+pub stepped_right : (a b r : Option Rank) (y : Step) (left right added steps : List Step) → goes_left left (y ∷ right) ≡ false → r ≡ lesser a y.rank → IsStepTo (lesser a b) y.from r added → IsMerge a y.rank left right steps → IsMerge a b left (y ∷ right) (added ++ steps)
+stepped_right a b r y left right added steps g is (inl step) m = rw step.0 (merge_right a b r y left right steps g is m)
+stepped_right a b r y left right added steps g is (inr step) m = rw step.0 (merge_right_same a b y left right steps g (sym is ∙ step.1) m)
 
 -- ---- one turn, as the code makes it
 
@@ -96,7 +142,6 @@ both_rise (Some a) (Some b) = (omega arith, omega arith)
 pub record IsBegun (whole_left whole_right done : List Step) (a b : Option Rank) (i j now start : ℕ) : Type 0 where
   pub left_in : i ≤ length whole_left
   pub right_in : j ≤ length whole_right
-  pub count : length done ≡ i + j
   pub completes : (rest : List Step) → IsMerge a b (drop i whole_left) (drop j whole_right) rest → IsMerge None None whole_left whole_right (done ++ rest)
   pub compared : now + (rises (drop i whole_left) + rises (drop j whole_right)) ≤ start + (rises whole_left + rises whole_right)
 
@@ -104,20 +149,16 @@ pub record IsBegun (whole_left whole_right done : List Step) (a b : Option Rank)
 taken : (xs : List Step) (i : ℕ) (x : Step) → i < length xs → x ≡ get_or xs i x → drop i xs ≡ x ∷ drop (i + 1) xs
 taken xs i x lt h = drop_more xs i x lt ∙ ap (λ (y : Step). y ∷ drop (i + 1) xs) (sym h)
 
-module _ (left right done new : List Step) (a b r : Option Rank) (i j now later start : ℕ) (x : Step) (so_far : IsBegun left right done a b i j now start) (grown : new ≡ done ++ record { from = x.from; rank = r } ∷ []) where
-  one_more : (rest : List Step) → new ++ rest ≡ done ++ (record { from = x.from; rank = r } ∷ rest)
-  one_more rest = rw grown (append_assoc done (record { from = x.from; rank = r } ∷ []) rest)
-
-  new_count : length new ≡ (i + j) + 1
-  new_count = rw (grown, length-append done (record { from = x.from; rank = r } ∷ [])) (omega (arith, so_far.count))
+module _ (left right done added new : List Step) (a b r : Option Rank) (i j now later start : ℕ) (x : Step) (so_far : IsBegun left right done a b i j now start) (grown : new ≡ done ++ added) (step : IsStepTo (lesser a b) x.from r added) where
+  one_more : (rest : List Step) → new ++ rest ≡ done ++ (added ++ rest)
+  one_more rest = rw grown (append_assoc done added rest)
 
   pub turn_left : i < length left → x ≡ get_or left i x → goes_left (drop i left) (drop j right) ≡ true → r ≡ lesser x.rank b → later ≤ now + rise x.rank * rise b → IsBegun left right new x.rank b (i + 1) j later start
   turn_left lt h g is cost = record {
     left_in = omega arith;
     right_in = so_far.right_in;
-    count = omega (arith, new_count);
-    completes = λ rest m. rw (one_more rest) (so_far.completes (record { from = x.from; rank = r } ∷ rest)
-        (rw (taken left i x lt h) (merge_left a b r x (drop (i + 1) left) (drop j right) rest (rw (taken left i x lt h) at g) is m)));
+    completes = λ rest m. rw (one_more rest) (so_far.completes (added ++ rest)
+        (rw (taken left i x lt h) (stepped_left a b r x (drop (i + 1) left) (drop j right) added rest (rw (taken left i x lt h) at g) is step m)));
     compared = omega (arith, so_far.compared, cost, (both_rise x.rank b).0, ap rises (taken left i x lt h));
   }
 
@@ -125,9 +166,8 @@ module _ (left right done new : List Step) (a b r : Option Rank) (i j now later 
   turn_right lt h g is cost = record {
     left_in = so_far.left_in;
     right_in = omega arith;
-    count = omega (arith, new_count);
-    completes = λ rest m. rw (one_more rest) (so_far.completes (record { from = x.from; rank = r } ∷ rest)
-        (rw (taken right j x lt h) (merge_right a b r x (drop i left) (drop (j + 1) right) rest (rw (taken right j x lt h) at g) is m)));
+    completes = λ rest m. rw (one_more rest) (so_far.completes (added ++ rest)
+        (rw (taken right j x lt h) (stepped_right a b r x (drop i left) (drop (j + 1) right) added rest (rw (taken right j x lt h) at g) is step m)));
     compared = omega (arith, so_far.compared, cost, (both_rise a x.rank).1, ap rises (taken right j x lt h));
   }
 
@@ -139,30 +179,36 @@ module _ (left right done : List Step) (a b : Option Rank) (i j now start : ℕ)
   pub over_right : (later : ℕ) → j < length right → x ≡ get_or right j x → later ≤ now + rise a * rise x.rank → later ≤ start + (rises left + rises right)
   over_right later lt h cost = omega (arith, so_far.compared, cost, (both_rise a x.rank).1, ap rises (taken right j x lt h))
 
-pub order_of : (left right steps : List Step) → ((v : ℤ) → IsFrom v left → IsFrom v right → IsFrom v steps) → IsInOrder left → IsInOrder right → IsInOrder steps
-order_of [] [] [] h l r = tt
-order_of [] [] (s ∷ ss) h l r = (h s.from tt tt).1
-order_of [] (y ∷ ys) [] h l r = tt
-order_of [] (y ∷ ys) (s ∷ ss) h l r = (h y.from tt (le_self y.from, r)).1
-order_of (x ∷ xs) [] [] h l r = tt
-order_of (x ∷ xs) [] (s ∷ ss) h l r = (h x.from (le_self x.from, l) tt).1
-order_of (x ∷ xs) (y ∷ ys) [] h l r = tt
-order_of (x ∷ xs) (y ∷ ys) (s ∷ ss) h l r = by_lt_z x.from y.from
-    (λ lt. (h x.from (le_self x.from, l) (below x.from y.from lt, r)).1)
-    (λ ge. (h y.from (ge, l) (le_self y.from, r)).1)
+-- an instant from which both lists are in order
+both_from : (left right : List Step) → IsInOrder left → IsInOrder right → (v : ℤ) × IsFrom v left × IsFrom v right
+both_from [] [] l r = (pos 0, tt, tt)
+both_from [] (y ∷ ys) l r = (y.from, tt, (le_self y.from, r))
+both_from (x ∷ xs) [] l r = (x.from, (le_self x.from, l), tt)
+both_from (x ∷ xs) (y ∷ ys) l r = by_lt_z x.from y.from
+    (λ lt. (x.from, (le_self x.from, l), (below x.from y.from lt, r)))
+    (λ ge. (y.from, (ge, l), (le_self y.from, r)))
   where
     below : (u v : ℤ) → u <ℤ v → u ≤ℤ v
     below u v h = omega (arith, ints)
+
+in_order : (v : ℤ) (steps : List Step) → IsFrom v steps → IsInOrder steps
+in_order v [] h = tt
+in_order v (s ∷ ss) h = h.1
+
+-- what is merged from the start
+pub merged_whole : (left right steps : List Step) → IsMerge None None left right steps → IsInOrder left → IsInOrder right → IsMergeOf left right steps
+merged_whole left right steps merge in_left in_right =
+    let from = both_from left right in_left in_right in
+    (in_order from.0 steps (merge.order from.0 from.1 from.2), merge.count, merge.ranks from.0 from.1 from.2)
 
 -- all is done
 pub merge_done : (left right done : List Step) (a b : Option Rank) (i j now start : ℕ) → IsBegun left right done a b i j now start → length left ≤ i → length right ≤ j → IsInOrder left → IsInOrder right → IsMergeOf left right done
 merge_done left right done a b i j now start so_far l r in_left in_right =
     let none : IsMerge a b (drop i left) (drop j right) [] = rw (drop_all i left l, drop_all j right r) (merge_none a b) in
-    let whole : IsMerge None None left right done = rw (append-nil done) at (so_far.completes [] none) in
-    (order_of left right done whole.order in_left in_right, whole.count, λ t. whole.ranks t)
+    merged_whole left right done (rw (append-nil done) at (so_far.completes [] none)) in_left in_right
 
-pub added_more : (old out new done : List Step) (s : Step) → out ≡ old ++ done → new ≡ out ++ s ∷ [] → new ≡ old ++ (done ++ s ∷ [])
-added_more old out new done s h n = rw (n, h) (append_assoc old done (s ∷ []))
+pub added_more : (old out new done added : List Step) → out ≡ old ++ done → new ≡ out ++ added → new ≡ old ++ (done ++ added)
+added_more old out new done added h n = rw (n, h) (append_assoc old done added)
 
 -- the first steps of both decide
 pub first_left : (left right : List Step) (j : ℕ) (x y : Step) → Some x ≡ slice_get left 0 → slice_get right j ≡ Some y → int_le x.from y.from ≡ goes_left left (drop j right)

@@ -13,7 +13,7 @@ use Rattle.adr_timeline.specs.declared.step.Step.{Step}
 use Rattle.adr_timeline.specs.Build.{Takes}
 use Rattle.adr_timeline.specs.Parts.{joined_all, part}
 use Rattle.adr_timeline.specs.Steps.{Adds, AreRanked, IsMergeOf, goes_left, down_at, own_segment, pieces, steps_of, starts_from, is_run, rises, steps_in_turn, winner_of_rank}
-use Rattle.adr_timeline.proofs.Merged.{IsMerge, merge_none, merge_left, merge_right, order_of}
+use Rattle.adr_timeline.proofs.Merged.{IsMerge, merge_none, merge_left, merge_right, merged_whole}
 use Rattle.adr_timeline.proofs.Least.{rank_append}
 use Rattle.adr_timeline.proofs.Stepped.{steps_rank, steps_order, steps_few}
 
@@ -82,11 +82,7 @@ run_ranked (e ∷ es) h =
     let parts = run_parts e es h in
     let rest = run_ranked es parts.2 in
     let merged : IsMerge None None (steps_of e) (steps_in_turn es) (steps_of e ++ steps_in_turn es) = rw (steps_if e parts.0) (merge_entry e.span.start e.span.end e.rank (steps_in_turn es) parts.0 (turn_starts e.span.end es parts.1 parts.2)) in
-    one_ranked e es (steps_of e ++ steps_in_turn es) rest (
-      order_of (steps_of e) (steps_in_turn es) (steps_of e ++ steps_in_turn es) merged.order (steps_order e) rest.0,
-      merged.count,
-      λ t. merged.ranks t,
-    )
+    one_ranked e es (steps_of e ++ steps_in_turn es) rest (merged_whole (steps_of e) (steps_in_turn es) (steps_of e ++ steps_in_turn es) merged (steps_order e) rest.0)
 
 -- one step of each leads up
 pub run_rises : (es : List Entry) → rises (steps_in_turn es) ≤ length es

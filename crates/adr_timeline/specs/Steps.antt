@@ -1,5 +1,5 @@
 -- The least rank from instant to instant.
-use Rattle.std.specs.Prelude.{ℕ, ◌+◌, ◌*◌, ◌≤◌, ◌≡◌, ◌++◌, length, ℤ, ◌≤ℤ◌, int_le, int_lt, ⊤, Bool, true, false, List, [], ◌∷◌, Option, Some, None, if◌then◌else◌, filter, not, ◌&&◌}
+use Rattle.std.specs.Prelude.{ℕ, ◌+◌, ◌*◌, ◌≤◌, ◌≡◌, ◌++◌, ◌⊎◌, length, ℤ, ◌≤ℤ◌, int_le, int_lt, ⊤, Bool, true, false, List, [], ◌∷◌, Option, Some, None, if◌then◌else◌, filter, not, ◌&&◌}
 use Rattle.std.specs.Option.{option_map}
 use Rattle.adr_time.specs.Spans.{covers, is_before, lasts}
 use Rattle.adr_time.specs.declared.span.End.{End}
@@ -51,10 +51,15 @@ IsInOrder (s ∷ ss) = IsFrom s.from ss
 abbrev pub Adds : (List Step → Type 0) → List Step → List Step → Type 0
 Adds Is old new = (added : List Step) × (new ≡ old ++ added) × Is added
 
--- the steps have the lesser rank of both lists at each instant
+-- the step from a rank to another, or none where they are the same
+abbrev pub IsStepTo : Option Rank → ℤ → Option Rank → List Step → Type 0
+IsStepTo before from rank steps =
+    ((steps ≡ record { from = from; rank = rank } ∷ []) × (rank ≡ before → ⊥)) ⊎ ((steps ≡ []) × (rank ≡ before))
+
+-- the steps have the lesser rank of both lists at each instant, and are no more than theirs
 abbrev pub IsMergeOf : List Step → List Step → List Step → Type 0
 IsMergeOf left right steps =
-    IsInOrder steps × (length steps ≡ length left + length right)
+    IsInOrder steps × (length steps ≤ length left + length right)
     × ((t : ℤ) → rank_from None steps t ≡ lesser (rank_from None left t) (rank_from None right t))
 
 -- the steps have the least rank of the entries at each instant

@@ -1,7 +1,7 @@
 //! Steps: the least rank from moment to moment, by halves that are merged.
-ghost use Rattle.std.specs.Prelude.{◌≡◌, ◌+◌, ◌*◌, ◌<◌, ◌≤◌, ℤ, [], ◌++◌, ◌∷◌, IfOk, IsTrue, OnOk, None, drop, take, length, map};
+ghost use Rattle.std.specs.Prelude.{◌≡◌, ◌+◌, ◌*◌, ◌<◌, ◌≤◌, ◌↔◌, ℤ, [], ◌++◌, ◌∷◌, IfOk, IsTrue, OnOk, None, drop, take, length, map};
 ghost use Rattle.adr_timeline.specs.Parts.{joined_all, part};
-ghost use Rattle.adr_timeline.specs.Steps.{Adds, AreRanked, IsInOrder, IsMergeOf, first_from, goes_left as is_left_next, is_run as are_in_turn, starts_from as starts_from_end, steps_in_turn, lesser, own_segment as segment_of, piece, pieces, rank_at, rank_from, rise, rises, steps_of};
+ghost use Rattle.adr_timeline.specs.Steps.{Adds, AreRanked, IsInOrder, IsMergeOf, IsStepTo, first_from, goes_left as is_left_next, is_run as are_in_turn, starts_from as starts_from_end, steps_in_turn, lesser, own_segment as segment_of, piece, pieces, rank_at, rank_from, rise, rises, steps_of};
 
 use crate::line::Line;
 use crate::list::{StepList, StepsInTurn};
@@ -36,6 +36,37 @@ fn lesser(first: Option<Rank>, second: Option<Rank>, meter: &mut Meter) -> Optio
     }
 }
 
+/// Whether both are the same rank, or neither is there.
+fn is_same(one: &Option<Rank>, other: &Option<Rank>) -> bool
+    ensures { IsTrue result ↔ (one.now ≡ other.now) }
+{
+    match (one, other) {
+        (Some(one), Some(other)) => {
+            one.place == other.place
+                && one.written == other.written
+                && one.priority == other.priority
+                && one.late == other.late
+        }
+        (None, None) => true,
+        _ => false,
+    }
+}
+
+/// Puts the step to a rank at the end, unless that is the rank of the step before it.
+fn push_change(
+    steps: &mut Vec<Step>,
+    before: Option<Rank>,
+    from: Moment,
+    rank: Option<Rank>,
+) -> Result<(), AllocError>
+    ensures { OnOk result (Adds (IsStepTo before from rank) steps.old.items steps.new.items) }
+{
+    if !is_same(&rank, &before) {
+        steps.push(Step { from, rank })?;
+    }
+    Ok(())
+}
+
 /// Whether the next step is the left list's: that of the right one is not earlier.
 fn goes_left<R: StepList>(left: &[Step], right: R, passed: usize) -> bool
     ensures { result ≡ is_left_next left.now (drop passed (R.listed right)) }
@@ -49,8 +80,9 @@ fn goes_left<R: StepList>(left: &[Step], right: R, passed: usize) -> bool
     }
 }
 
-/// Puts two lists of steps at the end of others, merged into one that has the lesser of both at each moment. At most
-/// one comparison for a step up.
+/// Puts two lists of steps at the end of others, merged into one that has the lesser of both at each moment. A step that
+/// changes nothing there is left out: where many entries lie over each other, few steps are left. At most one comparison
+/// for a step up.
 pub(crate) fn merge<R: StepList>(
     steps: &mut Vec<Step>,
     left: &[Step],
@@ -67,6 +99,7 @@ pub(crate) fn merge<R: StepList>(
     let mut passed_right = 0;
     let mut left_rank = None;
     let mut right_rank = None;
+    let mut shown = None;
     while passed_left < left.len() || passed_right < count {
         let from;
         if goes_left(&left[passed_left..], right, passed_right) {
@@ -81,7 +114,8 @@ pub(crate) fn merge<R: StepList>(
             passed_right += 1;
         }
         let rank = lesser(left_rank, right_rank, meter);
-        steps.push(Step { from, rank })?;
+        push_change(steps, shown, from, rank)?;
+        shown = rank;
     }
     Ok(())
 }
@@ -187,7 +221,8 @@ fn merge_from(
 }
 
 /// Puts the steps of the least rank among the entries at the end of others. They are parted in their middle, and the
-/// steps of the parts are merged from the end of the other list: for k entries about k log k steps.
+/// steps of the parts are merged from the end of the other list: for k entries at most about k log k steps, and about k
+/// where many lie over each other, as most levels have few steps then.
 fn rank(
     steps: &mut Vec<Step>,
     other: &mut Vec<Step>,
