@@ -13,20 +13,20 @@ pub returns-in-Some-clause-alike : goal.returns-in-Some-clause-alike
 returns-in-Some-clause-alike c =
     let group = c.args.group.now in
     let place = c.index_mut.result.now in
-    gathered c.args.types.now.items c.in-Some.place place (record { payload_type = place.payload_type; entries = c.append.new.self }) group
-    (ap (position (λ (x : TypeEntries). same_type x.payload_type group.payload_type)) (sym c.as_slice-2.ensures.value) ∙ sym c.place_of.ensures ∙ c.in-Some.is)
+    gathered c.args.types.now.items c.in-Some.place place (record { payload_type = place.payload_type; entries = c.extend_from_slice.new.self }) group
+    (ap (position (λ (x : TypeEntries). same_type x.payload_type group.payload_type)) (sym c.as_slice.ensures.value) ∙ sym c.place_of.ensures ∙ c.in-Some.is)
     (ap (λ (g : TypeEntries). g.payload_type) c.index_mut.ensures.value)
-    (c.in_ok-append.ensures.items
-    ∙ ap (λ (g : TypeEntries). g.entries.items ++ c.in_ok-entries.entries.items) c.index_mut.ensures.value
-    ∙ ap (λ es. (get_or c.args.types.now.items c.in-Some.place place).entries.items ++ es) (c.in_ok-entries.ensures.items ∙ c.as_slice.ensures.value))
+    (c.in_ok-extend_from_slice.ensures.items
+    ∙ ap (λ (g : TypeEntries). g.entries.items ++ c.as_slice-in-Some.result.now) c.index_mut.ensures.value
+    ∙ ap (λ es. (get_or c.args.types.now.items c.in-Some.place place).entries.items ++ es) c.as_slice-in-Some.ensures.value)
     c.requires.own
 
 pub returns-in-Some-clause-own : goal.returns-in-Some-clause-own
 returns-in-Some-clause-own c =
     let group = c.args.group.now in
     let place = c.index_mut.result.now in
-    gathered_own c.args.types.now.items c.in-Some.place place (record { payload_type = place.payload_type; entries = c.append.new.self }) group.payload_type
-    (ap (position (λ (x : TypeEntries). same_type x.payload_type group.payload_type)) (sym c.as_slice-2.ensures.value) ∙ sym c.place_of.ensures ∙ c.in-Some.is)
+    gathered_own c.args.types.now.items c.in-Some.place place (record { payload_type = place.payload_type; entries = c.extend_from_slice.new.self }) group.payload_type
+    (ap (position (λ (x : TypeEntries). same_type x.payload_type group.payload_type)) (sym c.as_slice.ensures.value) ∙ sym c.place_of.ensures ∙ c.in-Some.is)
     (ap (λ (g : TypeEntries). g.payload_type) c.index_mut.ensures.value)
     c.requires.own
 
@@ -35,7 +35,7 @@ returns-clause-own c =
     let group = c.args.group.now in
     subst HaveOwnTypes (sym c.in_ok-push.ensures.items)
     (types_put c.args.types.now.items (record { payload_type = c.in_ok-payload_type.payload_type; entries = c.in_ok-entries.entries }) group.payload_type
-    (ap (position (λ (x : TypeEntries). same_type x.payload_type group.payload_type)) (sym c.as_slice-2.ensures.value) ∙ sym c.in_default.ensures)
+    (ap (position (λ (x : TypeEntries). same_type x.payload_type group.payload_type)) (sym c.as_slice.ensures.value) ∙ sym c.in_default.ensures)
     c.in_ok-payload_type.ensures c.requires.own)
 
 pub returns-clause-alike : goal.returns-clause-alike
@@ -43,4 +43,4 @@ returns-clause-alike c =
     let group = c.args.group.now in
     subst (λ l. AreAlike l (c.args.types.now.items ++ group ∷ [])) (sym c.in_ok-push.ensures.items)
     (copied_alike c.args.types.now.items [] group (record { payload_type = c.in_ok-payload_type.payload_type; entries = c.in_ok-entries.entries })
-    c.in_ok-payload_type.ensures (c.in_ok-entries.ensures.items ∙ c.as_slice.ensures.value))
+    c.in_ok-payload_type.ensures (c.in_ok-entries.ensures.items ∙ c.as_slice-2.ensures.value))
