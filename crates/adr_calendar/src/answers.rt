@@ -253,10 +253,8 @@ fn put_roll_lines<C: Calendar>(
     ensures ok { OnOk result (out.new.items ≡ out.old.items ++ flat_map (λ r. roll_line (C.tie calendar.now) (C.objects calendar.now) payload_type.now moment r.id) (C.objects calendar.now).resources) }
     ensures memory { OnlyNoMemory result }
 {
-    let count = calendar.book().count(Kind::Resource);
-    out.reserve(count.saturating_mul(LINE))?;
     let mut last = LastState::none(*out.allocator(), calendar.book(), payload_type);
-    for place in 0..count {
+    for place in 0..calendar.book().count(Kind::Resource) {
         put_roll_line_at(out, &mut last, calendar, place, payload_type, moment)?;
     }
     Ok(())
@@ -272,7 +270,8 @@ fn text_of_roll<C: Calendar>(
     ensures ok { IfOk result (λ v. v.items ≡ in_lines (C.objects calendar.now) (flat_map (λ r. roll_line (C.tie calendar.now) (C.objects calendar.now) payload_type.now moment r.id) (C.objects calendar.now).resources)) }
     ensures memory { OnlyNoMemory result }
 {
-    let mut out = Vec::new(alloc);
+    let lines = calendar.book().count(Kind::Resource).saturating_add(1);
+    let mut out = Vec::with_capacity(alloc, lines.saturating_mul(LINE))?;
     put_version(&mut out, calendar.book().version())?;
     put(&mut out, b"\n")?;
     put_roll_lines(&mut out, calendar, payload_type, moment)?;
