@@ -21,7 +21,8 @@ use Rattle.adr_model.proofs.Keyed.{event_id, found, own_key, put, In-from_put}
 use Rattle.adr_model.proofs.Lists.{In-append_left, In-append_right, In-append_cases, In-filter, In-from_filter, same_bytes, bytes_eq_self}
 use Rattle.adr_model.proofs.Steps.{no_fault, no_faults_before, no_faults_after}
 use Rattle.adr_repair.proofs.Lookups.{drop_own, none_found, put_own}
-use Rattle.adr_desk.specs.Edited.{is_of_event, gone_of, come_of, HaveOneId, IsExchanged}
+use Rattle.adr_desk.specs.Edited.{gone_of, come_of, HaveOneId, IsExchanged}
+use Rattle.adr_regroup.specs.Kinds.{kind_of_edit}
 
 -- ---- what a changed list holds
 
@@ -162,10 +163,10 @@ event_there old e g =
     there_to_change first second third fourth g))
 
 -- an accepted edit of an event
-pub event_exchange : (old new : Book) (edit : Edit) → IsSound old → is_of_event edit ≡ true → step old edit ≡ Ok new → IsExchanged old new (gone_of old edit) (come_of old edit)
+pub event_exchange : (old new : Book) (edit : Edit) → IsSound old → kind_of_edit edit ≡ event_kind → step old edit ≡ Ok new → IsExchanged old new (gone_of old edit) (come_of old edit)
 event_exchange old new edit s of_event h = let a = accepted old new edit h in subst (λ (b : Book). IsExchanged old b (gone_of old edit) (come_of old edit)) a.1 (by edit of_event a.0)
   where
-    by : (x : Edit) → is_of_event x ≡ true → faults old x ≡ [] → IsExchanged old (made old x) (gone_of old x) (come_of old x)
+    by : (x : Edit) → kind_of_edit x ≡ event_kind → faults old x ≡ [] → IsExchanged old (made old x) (gone_of old x) (come_of old x)
     by (Create (event e)) o f = created_exchange old s e
     by (Create (program p)) o f = absurd (cc)
     by (Create (ven v)) o f = absurd (cc)
@@ -192,14 +193,14 @@ event_new old e g =
     there_to_change first second third fourth g))
 
 -- the id of the edit's event leads to the one that goes, and then to the one that comes
-pub one_id : (old new : Book) (edit : Edit) → IsSound old → IsSound new → is_of_event edit ≡ true → step old edit ≡ Ok new → HaveOneId old new (gone_of old edit) (come_of old edit)
+pub one_id : (old new : Book) (edit : Edit) → IsSound old → IsSound new → kind_of_edit edit ≡ event_kind → step old edit ≡ Ok new → HaveOneId old new (gone_of old edit) (come_of old edit)
 one_id old new edit s t of_event h = by edit of_event h
   where
-    come_found : (x : Edit) (e : Event) → is_of_event x ≡ true → step old x ≡ Ok new → come_of old x ≡ Some (record { event = e; written = old.version + 1 }) → event_by new e.id ≡ come_of old x
+    come_found : (x : Edit) (e : Event) → kind_of_edit x ≡ event_kind → step old x ≡ Ok new → come_of old x ≡ Some (record { event = e; written = old.version + 1 }) → event_by new e.id ≡ come_of old x
     come_found x e o k is =
         own_key event_id new.events t.ids (record { event = e; written = old.version + 1 }) ((event_exchange old new x s o k).are (record { event = e; written = old.version + 1 }) is) ∙ sym is
 
-    by : (x : Edit) → is_of_event x ≡ true → step old x ≡ Ok new → HaveOneId old new (gone_of old x) (come_of old x)
+    by : (x : Edit) → kind_of_edit x ≡ event_kind → step old x ≡ Ok new → HaveOneId old new (gone_of old x) (come_of old x)
     by (Create (event e)) o k = (e.id, event_new old e (accepted old new (Create (event e)) k).0, come_found (Create (event e)) e o k refl)
     by (Create (program p)) o k = absurd (cc)
     by (Create (ven v)) o k = absurd (cc)

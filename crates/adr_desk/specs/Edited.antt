@@ -54,17 +54,6 @@ pub record IsExchanged (old new : Book) (gone come : Option Written) : Type 0 wh
   pub resources : new.resources ≡ old.resources
   pub applies : (r : OneResource) (w : Written) → applies_to new r w ≡ applies_to old r w
 
--- the edit is of an event
-abbrev pub is_event : Object → Bool
-is_event (event e) = true
-is_event _ = false
-
-abbrev pub is_of_event : Edit → Bool
-is_of_event (Create o) = is_event o
-is_of_event (Change o) = is_event o
-is_of_event (Remove event_kind id) = true
-is_of_event (Remove _ id) = false
-
 -- by one id the old book has the event that goes, and the new one the event that comes
 abbrev pub HaveOneId : Book → Book → Option Written → Option Written → Type 0
 HaveOneId old new gone come = (id : List ℕ) × (event_by old id ≡ gone) × (event_by new id ≡ come)

@@ -1,5 +1,5 @@
 //! An accepted edit, made beside the old book.
-ghost use Rattle.std.specs.Prelude.{◌≡◌, ◌≤◌, ◌++◌, ◌∷◌, [], false, Ok, IsOk, IfOk, OnOk, OnErr};
+ghost use Rattle.std.specs.Prelude.{◌≡◌, ◌≢◌, ◌≤◌, ◌++◌, ◌∷◌, [], Ok, IsOk, IfOk, OnOk, OnErr};
 ghost use Rattle.adr_refusal.specs.Answer.{OnlyNoMemory};
 ghost use Rattle.adr_model.specs.Edits.{full_at, made, step_to};
 ghost use Rattle.adr_model.specs.Touches.{touches};
@@ -11,10 +11,11 @@ ghost use Rattle.adr_regroup.specs.Compared.{most_compared_in};
 ghost use Rattle.adr_regroup.specs.Edited.{IsEdited};
 ghost use Rattle.adr_desk.specs.Accepted.{IsAccepted};
 ghost use Rattle.adr_desk.specs.Desk.{AreOf, IsDesk};
-ghost use Rattle.adr_desk.specs.Edited.{is_of_event as the_is_of_event};
+ghost use Rattle.adr_regroup.specs.Kinds.{kind_of_edit};
+ghost use Rattle.adr_object.specs.declared.object.Kind.TheVariants.{Event as event_kind};
 
 use crate::accepted::Accepted;
-use crate::kinds::{is_of_event, is_of_program, is_of_ven};
+use crate::kinds::kind_of;
 use crate::making::after_event;
 use crate::receipt::Touched;
 use adr_audience::Audiences;
@@ -22,6 +23,7 @@ use adr_book::{Book, Judged};
 use adr_group::{Done, Job};
 use adr_lines::Indexes;
 use adr_model::edit_laws;
+use adr_object::Kind;
 use adr_regroup::{Edited, after_program, after_resource, after_ven};
 use adr_rule::Meter;
 use adr_schedule::{Resolution, Schedule};
@@ -60,19 +62,18 @@ fn regrouped<C: Fn(&Indexes, &[Job]) -> Result<Vec<Done>, Refusal>>(
     meter: &mut Meter,
 ) -> Result<Schedule, Refusal>
     requires crew { IsCrew (λ v. v.items) (C.pre crew.now) (C.post crew.now) }
-    requires other { the_is_of_event edited.now.edit.now ≡ false }
+    requires other { kind_of_edit edited.now.edit.now ≢ event_kind }
     requires edited { IsEdited edited.now }
     requires begun { meter.old ≡ 0 }
     ensures seated { IfOk result (AreSeatedFor edited.now.tie edited.now.new.now.objects) }
     ensures least { OnOk result (meter.new ≤ most_compared_in edited.now.new.now.objects (touches edited.now.old.now.objects edited.now.new.now.objects)) }
     ensures refusal { OnlyNoMemory result }
 {
-    if is_of_program(edited.edit) {
-        after_program(alloc, crew, edited, meter)
-    } else if is_of_ven(edited.edit) {
-        after_ven(alloc, crew, edited, meter)
-    } else {
-        after_resource(alloc, crew, edited, meter)
+    match kind_of(edited.edit) {
+        Kind::Program => after_program(alloc, crew, edited, meter),
+        Kind::Ven => after_ven(alloc, crew, edited, meter),
+        Kind::Resource => after_resource(alloc, crew, edited, meter),
+        Kind::Event => unreachable!(),
     }
 }
 
@@ -87,7 +88,7 @@ fn followed<C: Fn(&Indexes, &[Job]) -> Result<Vec<Done>, Refusal>>(
     meter: &mut Meter,
 ) -> Result<Shared<Schedule>, Refusal>
     requires crew { IsCrew (λ v. v.items) (C.pre crew.now) (C.post crew.now) }
-    requires other { the_is_of_event accepted.now.edit.now ≡ false }
+    requires other { kind_of_edit accepted.now.edit.now ≢ event_kind }
     requires whole { IsWhole accepted.now.old.now.objects }
     requires accepted { IsAccepted accepted.now keys.old indexes.now }
     requires begun { meter.old ≡ 0 }
@@ -123,7 +124,7 @@ fn after_other<C: Fn(&Indexes, &[Job]) -> Result<Vec<Done>, Refusal>>(
     meter: &mut Meter,
 ) -> Result<Shared<Schedule>, Refusal>
     requires crew { IsCrew (λ v. v.items) (C.pre crew.now) (C.post crew.now) }
-    requires other { the_is_of_event accepted.now.edit.now ≡ false }
+    requires other { kind_of_edit accepted.now.edit.now ≢ event_kind }
     requires accepted { IsAccepted accepted.now keys.old indexes.now }
     requires begun { meter.old ≡ 0 }
     ensures ok { IfOk result (λ after. IsDesk accepted.now.tie accepted.now.new.now.objects keys.new indexes.now after) }
@@ -154,10 +155,11 @@ fn grouped<C: Fn(&Indexes, &[Job]) -> Result<Vec<Done>, Refusal>>(
     ensures err { OnErr result (IsDesk accepted.now.tie accepted.now.old.now.objects keys.new indexes.new accepted.now.schedule.now) }
     ensures refusal { OnlyNoMemory result }
 {
-    if is_of_event(accepted.edit) {
-        after_event(alloc, crew, accepted, keys, indexes, meter)
-    } else {
-        after_other(alloc, crew, accepted, keys, indexes, meter)
+    match kind_of(accepted.edit) {
+        Kind::Event => after_event(alloc, crew, accepted, keys, indexes, meter),
+        Kind::Program | Kind::Ven | Kind::Resource => {
+            after_other(alloc, crew, accepted, keys, indexes, meter)
+        }
     }
 }
 

@@ -15,7 +15,9 @@ ghost use Rattle.adr_schedule.specs.Shift.{entries_in, AreTwo};
 ghost use Rattle.adr_regroup.specs.Compared.{most_compared_in};
 ghost use Rattle.adr_desk.specs.Accepted.{IsAccepted, IsChangeBy};
 ghost use Rattle.adr_desk.specs.Desk.{IsDesk};
-ghost use Rattle.adr_desk.specs.Edited.{come_of, is_of_event, with_come};
+ghost use Rattle.adr_desk.specs.Edited.{come_of, with_come};
+ghost use Rattle.adr_regroup.specs.Kinds.{kind_of_edit};
+ghost use Rattle.adr_object.specs.declared.object.Kind.TheVariants.{Event as event_kind};
 
 use crate::accepted::Accepted;
 use crate::events::{joining, leaving};
@@ -183,7 +185,7 @@ pub(crate) fn after_event<C: Fn(&Indexes, &[Job]) -> Result<Vec<Done>, Refusal>>
     meter: &mut Meter,
 ) -> Result<Shared<Schedule>, Refusal>
     requires crew { IsCrew (λ v. v.items) (C.pre crew.now) (C.post crew.now) }
-    requires event { is_of_event accepted.now.edit.now ≡ true }
+    requires event { kind_of_edit accepted.now.edit.now ≡ event_kind }
     requires accepted { IsAccepted accepted.now keys.old indexes.old }
     requires begun { meter.old ≡ 0 }
     ensures ok { IfOk result (λ after. IsDesk accepted.now.tie accepted.now.new.now.objects keys.new indexes.new after) }

@@ -26,9 +26,10 @@ use Rattle.adr_repair.proofs.Lookups.{none_found}
 use Rattle.adr_schedule.specs.Place.{HasPlace}
 use Rattle.adr_schedule.specs.Seating.{AreSeatedFor, Seating}
 use Rattle.adr_regroup.specs.Compared.{most_compared_in, most_reseated_at}
-use Rattle.adr_regroup.specs.Party.{is_of_resource}
 use Rattle.adr_regroup.proofs.PartyEdits.{found_has, resource_keeps, resource_to_change, second_of}
 use Rattle.adr_regroup.proofs.TouchCosts.{applying_some, one_cost}
+use Rattle.adr_regroup.specs.Kinds.{kind_of_edit}
+use Rattle.adr_object.specs.declared.object.Kind.TheVariants.{Resource as resource_kind}
 
 -- ---- one that comes
 
@@ -50,7 +51,7 @@ at_last {X = X} xs x p e = ap (slice_get (xs ++ x ∷ [])) e ∙ by xs
     by [] = refl
     by (y ∷ ys) = by ys
 
-pub created_cost : (old new : Book) (o : Object) (s more : Seating) → IsWhole new → is_of_resource (Create o) ≡ true → step old (Create o) ≡ Ok new → length s.seats ≡ length old.resources → HasPlace s more
+pub created_cost : (old new : Book) (o : Object) (s more : Seating) → IsWhole new → kind_of_edit (Create o) ≡ resource_kind → step old (Create o) ≡ Ok new → length s.seats ≡ length old.resources → HasPlace s more
     → most_reseated_at new more (length s.seats) ≤ most_compared_in new (touches old new)
 created_cost old new (resource_object r) s more whole h a count has =
     let x = accepted old new (Create (resource_object r)) a in
@@ -63,7 +64,7 @@ created_cost old new (ven_object v) s more whole h a count has = absurd (cc)
 
 -- ---- one that changes
 
-pub changed_cost : (tie : Tie) (old new : Book) (o : Object) (place : ℕ) (s : Seating) → IsWhole old → IsWhole new → is_of_resource (Change o) ≡ true → step old (Change o) ≡ Ok new
+pub changed_cost : (tie : Tie) (old new : Book) (o : Object) (place : ℕ) (s : Seating) → IsWhole old → IsWhole new → kind_of_edit (Change o) ≡ resource_kind → step old (Change o) ≡ Ok new
     → slice_get old.resources place ≡ resource_by old (id_of o) → AreSeatedFor tie old s → most_reseated_at new s place ≤ most_compared_in new (touches old new)
 changed_cost tie old new (program_object p) place s was whole h a at seated = absurd (cc)
 changed_cost tie old new (event_object e) place s was whole h a at seated = absurd (cc)

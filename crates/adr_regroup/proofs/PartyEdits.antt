@@ -37,14 +37,15 @@ use Rattle.adr_schedule.specs.Place.{HasPlace, LacksPlace, StaysRight}
 use Rattle.adr_schedule.specs.Seating.{group_at, has_at, AreRight, AreSeatedFor, Seating}
 use Rattle.adr_lines.specs.Right.{has_number}
 use Rattle.adr_schedule.proofs.Places.{after_gone, count_gone, was_at}
-use Rattle.adr_regroup.specs.Party.{id_of_edit, is_of_resource, is_of_ven, AreOfVen, AreSeatedBut, KeepsEvents}
+use Rattle.adr_regroup.specs.Party.{id_of_edit, AreOfVen, AreSeatedBut, KeepsEvents}
 use Rattle.adr_regroup.proofs.Placing.{has_group, has_place, number_at}
 use Rattle.adr_regroup.proofs.Reseated.{applies_same}
 use Rattle.adr_regroup.proofs.Sums.{none_stand}
+use Rattle.adr_regroup.specs.Kinds.{kind_of_edit}
 
 -- ---- what the edits leave
 
-made_keeps_ven : (old : Book) (edit : Edit) → is_of_ven edit ≡ true → KeepsEvents old (made old edit)
+made_keeps_ven : (old : Book) (edit : Edit) → kind_of_edit edit ≡ ven_kind → KeepsEvents old (made old edit)
 made_keeps_ven old (Create (ven_object v)) h = record { events = refl; programs = refl }
 made_keeps_ven old (Create (program_object p)) h = absurd (cc)
 made_keeps_ven old (Create (event_object e)) h = absurd (cc)
@@ -58,7 +59,7 @@ made_keeps_ven old (Remove program_kind id) h = absurd (cc)
 made_keeps_ven old (Remove event_kind id) h = absurd (cc)
 made_keeps_ven old (Remove resource_kind id) h = absurd (cc)
 
-made_keeps_resource : (old : Book) (edit : Edit) → is_of_resource edit ≡ true → KeepsEvents old (made old edit)
+made_keeps_resource : (old : Book) (edit : Edit) → kind_of_edit edit ≡ resource_kind → KeepsEvents old (made old edit)
 made_keeps_resource old (Create (resource_object r)) h = record { events = refl; programs = refl }
 made_keeps_resource old (Create (program_object p)) h = absurd (cc)
 made_keeps_resource old (Create (event_object e)) h = absurd (cc)
@@ -72,10 +73,10 @@ made_keeps_resource old (Remove program_kind id) h = absurd (cc)
 made_keeps_resource old (Remove event_kind id) h = absurd (cc)
 made_keeps_resource old (Remove ven_kind id) h = absurd (cc)
 
-pub ven_keeps : (old new : Book) (edit : Edit) → is_of_ven edit ≡ true → step old edit ≡ Ok new → KeepsEvents old new
+pub ven_keeps : (old new : Book) (edit : Edit) → kind_of_edit edit ≡ ven_kind → step old edit ≡ Ok new → KeepsEvents old new
 ven_keeps old new edit h a = subst (λ b. KeepsEvents old b) (accepted old new edit a).1 (made_keeps_ven old edit h)
 
-pub resource_keeps : (old new : Book) (edit : Edit) → is_of_resource edit ≡ true → step old edit ≡ Ok new → KeepsEvents old new
+pub resource_keeps : (old new : Book) (edit : Edit) → kind_of_edit edit ≡ resource_kind → step old edit ≡ Ok new → KeepsEvents old new
 resource_keeps old new edit h a = subst (λ b. KeepsEvents old b) (accepted old new edit a).1 (made_keeps_resource old edit h)
 
 -- ---- the places of a ven's resources
@@ -114,7 +115,7 @@ none_of_ven old id apart = record {
   once = none_stand (length old.resources);
 }
 
-pub none_comes : (old : Book) (o : Object) → IsWhole old → is_of_ven (Create o) ≡ true → IsOk (step old (Create o)) → AreOfVen old (id_of o) (length old.resources) []
+pub none_comes : (old : Book) (o : Object) → IsWhole old → kind_of_edit (Create o) ≡ ven_kind → IsOk (step old (Create o)) → AreOfVen old (id_of o) (length old.resources) []
 none_comes old (program_object p) whole h k = absurd (cc)
 none_comes old (event_object e) whole h k = absurd (cc)
 none_comes old (resource_object r) whole h k = absurd (cc)
@@ -130,7 +131,7 @@ none_comes old (ven_object v) whole h k = none_of_ven old v.id (λ r m. by (step
             let same : v.id ≡ r.ven_id = same_bytes v.id r.ven_id q in
             absurd (both_ways (is_some (ven_by old v.id)) (ven_new old v (accepted old b (Create (ven_object v)) e).0) (subst (λ i. is_some (ven_by old i) ≡ true) (sym same) (whole.vens r m)))
 
-pub none_goes : (old : Book) (k : Kind) (id : List ℕ) → is_of_ven (Remove k id) ≡ true → IsOk (step old (Remove k id)) → AreOfVen old id (length old.resources) []
+pub none_goes : (old : Book) (k : Kind) (id : List ℕ) → kind_of_edit (Remove k id) ≡ ven_kind → IsOk (step old (Remove k id)) → AreOfVen old id (length old.resources) []
 none_goes old program_kind id h i = absurd (cc)
 none_goes old event_kind id h i = absurd (cc)
 none_goes old resource_kind id h i = absurd (cc)
@@ -149,7 +150,7 @@ found_apart : {X : Type 0} (key : X → List ℕ) (new : X) (id : List ℕ) (xs 
 found_apart key new id [] h = ap (λ b. cond b (Some new) None) h
 found_apart key new id (x ∷ xs) h = ap (λ o. cond (bytes_eq id (key x)) (Some x) o) (found_apart key new id xs h)
 
-other_vens : (old : Book) (edit : Edit) (id : List ℕ) → is_of_ven edit ≡ true → bytes_eq (id_of_edit edit) id ≡ false → ven_by (made old edit) id ≡ ven_by old id
+other_vens : (old : Book) (edit : Edit) (id : List ℕ) → kind_of_edit edit ≡ ven_kind → bytes_eq (id_of_edit edit) id ≡ false → ven_by (made old edit) id ≡ ven_by old id
 other_vens old (Create (ven_object v)) id h apart = found_apart (λ (x : Ven). x.id) v id old.vens (bytes_eq-flip id v.id ∙ apart)
 other_vens old (Create (program_object p)) id h apart = absurd (cc)
 other_vens old (Create (event_object e)) id h apart = absurd (cc)
@@ -163,7 +164,7 @@ other_vens old (Remove program_kind gone) id h apart = absurd (cc)
 other_vens old (Remove event_kind gone) id h apart = absurd (cc)
 other_vens old (Remove resource_kind gone) id h apart = absurd (cc)
 
-made_same_resources : (old : Book) (edit : Edit) → is_of_ven edit ≡ true → (made old edit).resources ≡ old.resources
+made_same_resources : (old : Book) (edit : Edit) → kind_of_edit edit ≡ ven_kind → (made old edit).resources ≡ old.resources
 made_same_resources old (Create (ven_object v)) h = refl
 made_same_resources old (Create (program_object p)) h = absurd (cc)
 made_same_resources old (Create (event_object e)) h = absurd (cc)
@@ -177,7 +178,7 @@ made_same_resources old (Remove program_kind id) h = absurd (cc)
 made_same_resources old (Remove event_kind id) h = absurd (cc)
 made_same_resources old (Remove resource_kind id) h = absurd (cc)
 
-made_ven_starts : (tie : Tie) (old : Book) (edit : Edit) (places : List ℕ) (s : Seating) → is_of_ven edit ≡ true → AreOfVen old (id_of_edit edit) (length old.resources) places
+made_ven_starts : (tie : Tie) (old : Book) (edit : Edit) (places : List ℕ) (s : Seating) → kind_of_edit edit ≡ ven_kind → AreOfVen old (id_of_edit edit) (length old.resources) places
     → AreSeatedFor tie old s → AreSeatedBut tie (made old edit) places s
 made_ven_starts tie old edit places s h own seated =
     let keeps = made_keeps_ven old edit h in
@@ -193,14 +194,14 @@ made_ven_starts tie old edit places s h own seated =
       known = λ p n e. let k = seated.known p n e in (k.0, subst (λ es. In k.0 es) (sym keeps.events) k.1, k.2);
     }
 
-pub ven_starts : (tie : Tie) (old new : Book) (edit : Edit) (places : List ℕ) (s : Seating) → is_of_ven edit ≡ true → step old edit ≡ Ok new
+pub ven_starts : (tie : Tie) (old new : Book) (edit : Edit) (places : List ℕ) (s : Seating) → kind_of_edit edit ≡ ven_kind → step old edit ≡ Ok new
     → AreOfVen old (id_of_edit edit) (length old.resources) places → AreSeatedFor tie old s → AreSeatedBut tie new places s
 ven_starts tie old new edit places s h a own seated = subst (λ b. AreSeatedBut tie b places s) (accepted old new edit a).1 (made_ven_starts tie old edit places s h own seated)
 
-pub ven_resources : (old new : Book) (edit : Edit) → is_of_ven edit ≡ true → step old edit ≡ Ok new → new.resources ≡ old.resources
+pub ven_resources : (old new : Book) (edit : Edit) → kind_of_edit edit ≡ ven_kind → step old edit ≡ Ok new → new.resources ≡ old.resources
 ven_resources old new edit h a = ap (λ (b : Book). b.resources) (sym (accepted old new edit a).1) ∙ made_same_resources old edit h
 
-pub ven_places : (old new : Book) (edit : Edit) (places : List ℕ) → is_of_ven edit ≡ true → step old edit ≡ Ok new → AreOfVen old (id_of_edit edit) (length old.resources) places
+pub ven_places : (old new : Book) (edit : Edit) (places : List ℕ) → kind_of_edit edit ≡ ven_kind → step old edit ≡ Ok new → AreOfVen old (id_of_edit edit) (length old.resources) places
     → (p : ℕ) → is_among places p ≡ true → p < length new.resources
 ven_places old new edit places h a own p m =
     subst (λ (b : Book). p < length b.resources) (accepted old new edit a).1 (subst (λ (rs : List Resource). p < length rs) (sym (made_same_resources old edit h)) (own.before p m))
@@ -400,7 +401,7 @@ removed_seated tie old id place s after whole known at lacks stays seated = by (
 
 -- ---- of accepted edits
 
-pub resource_comes : (tie : Tie) (old new : Book) (o : Object) (s more : Seating) → is_of_resource (Create o) ≡ true → step old (Create o) ≡ Ok new
+pub resource_comes : (tie : Tie) (old new : Book) (o : Object) (s more : Seating) → kind_of_edit (Create o) ≡ resource_kind → step old (Create o) ≡ Ok new
     → ((p : ℕ) → p < length s.seats → (g : Lines) × (group_at s p ≡ Some g)) → HasPlace s more → StaysRight s more → AreSeatedFor tie old s → AreSeatedBut tie new (length s.seats ∷ []) more
 resource_comes tie old new (resource_object r) s more h a held has stays seated =
     subst (λ b. AreSeatedBut tie b (length s.seats ∷ []) more) (accepted old new (Create (resource_object r)) a).1 (created_starts tie old r s more held has stays seated)
@@ -418,13 +419,13 @@ resource_there old r g =
     let fourth : List Refusal = fault_if (nat_le MOST_VERSION old.version || is_full_for old (Change (resource_object r))) Full in
     second_of first second third fourth g))
 
-pub resource_to_change : (old new : Book) (o : Object) → is_of_resource (Change o) ≡ true → step old (Change o) ≡ Ok new → is_some (resource_by old (id_of o)) ≡ true
+pub resource_to_change : (old new : Book) (o : Object) → kind_of_edit (Change o) ≡ resource_kind → step old (Change o) ≡ Ok new → is_some (resource_by old (id_of o)) ≡ true
 resource_to_change old new (resource_object r) h a = resource_there old r (accepted old new (Change (resource_object r)) a).0
 resource_to_change old new (program_object p) h a = absurd (cc)
 resource_to_change old new (event_object e) h a = absurd (cc)
 resource_to_change old new (ven_object v) h a = absurd (cc)
 
-pub resource_changes : (tie : Tie) (old new : Book) (o : Object) (place : ℕ) (s : Seating) → IsWhole old → is_of_resource (Change o) ≡ true → step old (Change o) ≡ Ok new
+pub resource_changes : (tie : Tie) (old new : Book) (o : Object) (place : ℕ) (s : Seating) → IsWhole old → kind_of_edit (Change o) ≡ resource_kind → step old (Change o) ≡ Ok new
     → slice_get old.resources place ≡ resource_by old (id_of o) → AreSeatedFor tie old s → AreSeatedBut tie new (place ∷ []) s
 resource_changes tie old new (resource_object r) place s whole h a at seated =
     let x = accepted old new (Change (resource_object r)) a in
@@ -442,13 +443,13 @@ resource_found old id g =
     let third : List Refusal = fault_if (nat_le MOST_VERSION old.version) Full in
     no_faults_before first second (no_faults_before (first ++ second) third g)))
 
-pub resource_to_go : (old new : Book) (k : Kind) (id : List ℕ) → is_of_resource (Remove k id) ≡ true → step old (Remove k id) ≡ Ok new → is_some (resource_by old id) ≡ true
+pub resource_to_go : (old new : Book) (k : Kind) (id : List ℕ) → kind_of_edit (Remove k id) ≡ resource_kind → step old (Remove k id) ≡ Ok new → is_some (resource_by old id) ≡ true
 resource_to_go old new resource_kind id h a = resource_found old id (accepted old new (Remove resource_kind id) a).0
 resource_to_go old new program_kind id h a = absurd (cc)
 resource_to_go old new event_kind id h a = absurd (cc)
 resource_to_go old new ven_kind id h a = absurd (cc)
 
-pub resource_goes : (tie : Tie) (old new : Book) (k : Kind) (id : List ℕ) (place : ℕ) (s after : Seating) → IsWhole old → is_of_resource (Remove k id) ≡ true → step old (Remove k id) ≡ Ok new
+pub resource_goes : (tie : Tie) (old new : Book) (k : Kind) (id : List ℕ) (place : ℕ) (s after : Seating) → IsWhole old → kind_of_edit (Remove k id) ≡ resource_kind → step old (Remove k id) ≡ Ok new
     → slice_get old.resources place ≡ resource_by old id → LacksPlace place s after → StaysRight s after → AreSeatedFor tie old s → AreSeatedFor tie new after
 resource_goes tie old new resource_kind id place s after whole h a at lacks stays seated =
     let x = accepted old new (Remove resource_kind id) a in

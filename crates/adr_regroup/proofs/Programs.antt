@@ -24,8 +24,8 @@ use Rattle.adr_model.proofs.Steps.{no_fault, no_faults_before, no_faults_after}
 use Rattle.adr_audience.proofs.Placed.{found_before, found_beside, none_has}
 use Rattle.adr_schedule.specs.Seating.{Seating, AreSeatedFor}
 use Rattle.adr_lines.specs.Grouped.{written_event}
-use Rattle.adr_regroup.specs.Program.{is_of_program}
 use Rattle.adr_regroup.proofs.Applying.{scenes}
+use Rattle.adr_regroup.specs.Kinds.{kind_of_edit}
 
 -- ---- an event by its parts
 
@@ -98,13 +98,13 @@ program_unnamed old id g =
     let third : List Refusal = fault_if (nat_le MOST_VERSION old.version) Full in
     unnamed_to_go first second third g)
 
-pub after_create : (tie : Tie) (old new : Book) (o : Object) (s : Seating) → IsWhole old → is_of_program (Create o) ≡ true → step old (Create o) ≡ Ok new → AreSeatedFor tie old s → AreSeatedFor tie new s
+pub after_create : (tie : Tie) (old new : Book) (o : Object) (s : Seating) → IsWhole old → kind_of_edit (Create o) ≡ program_kind → step old (Create o) ≡ Ok new → AreSeatedFor tie old s → AreSeatedFor tie new s
 after_create tie old new (program_object p) s whole t a h = subst (λ (b : Book). AreSeatedFor tie b s) (accepted old new (Create (program_object p)) a).1 (created_seated tie old whole s h p)
 after_create tie old new (event_object e) s whole t a h = absurd (cc)
 after_create tie old new (ven_object v) s whole t a h = absurd (cc)
 after_create tie old new (resource_object r) s whole t a h = absurd (cc)
 
-pub after_remove : (tie : Tie) (old new : Book) (k : Kind) (id : List ℕ) (s : Seating) → IsWhole old → is_of_program (Remove k id) ≡ true → step old (Remove k id) ≡ Ok new → AreSeatedFor tie old s → AreSeatedFor tie new s
+pub after_remove : (tie : Tie) (old new : Book) (k : Kind) (id : List ℕ) (s : Seating) → IsWhole old → kind_of_edit (Remove k id) ≡ program_kind → step old (Remove k id) ≡ Ok new → AreSeatedFor tie old s → AreSeatedFor tie new s
 after_remove tie old new program_kind id s whole t a h =
     let x = accepted old new (Remove program_kind id) a in
     subst (λ (b : Book). AreSeatedFor tie b s) x.1 (removed_seated tie old whole s h id (program_unnamed old id x.0))

@@ -6,8 +6,6 @@ use Rattle.adr_value.specs.declared.payload.PayloadType.{PayloadType}
 use Rattle.adr_object.specs.declared.object.Edit.{Edit}
 use Rattle.adr_object.specs.declared.object.Edit.TheVariants.{Create, Change, Remove}
 use Rattle.adr_object.specs.declared.object.Object.{Object}
-use Rattle.adr_object.specs.declared.object.Object.TheVariants.{Ven as ven, Resource as resource}
-use Rattle.adr_object.specs.declared.object.Kind.TheVariants.{Ven as ven_kind, Resource as resource_kind}
 use Rattle.adr_object.specs.Object.{id_of}
 use Rattle.adr_object.specs.declared.party.Resource.{Resource}
 use Rattle.adr_object.specs.declared.party.Ven.{Ven}
@@ -77,28 +75,6 @@ pub record AreSeatedBut (tie : Tie) (book : Book) (places : List ℕ) (s : Seati
   pub writes : (place : ℕ) (r : Resource) (w : Written) → slice_get book.resources place ≡ Some r → In w book.events
       → is_among places place ≡ false → has_at s place w.written ≡ applies_to book r w
   pub known : (place n : ℕ) → has_at s place n ≡ true → (w : Written) × In w book.events × (w.written ≡ n)
-
--- the edit is of a ven
-abbrev pub is_ven : Object → Bool
-is_ven (ven v) = true
-is_ven _ = false
-
-abbrev pub is_of_ven : Edit → Bool
-is_of_ven (Create o) = is_ven o
-is_of_ven (Change o) = is_ven o
-is_of_ven (Remove ven_kind id) = true
-is_of_ven (Remove _ id) = false
-
--- the edit is of a resource
-abbrev pub is_resource : Object → Bool
-is_resource (resource r) = true
-is_resource _ = false
-
-abbrev pub is_of_resource : Edit → Bool
-is_of_resource (Create o) = is_resource o
-is_of_resource (Change o) = is_resource o
-is_of_resource (Remove resource_kind id) = true
-is_of_resource (Remove _ id) = false
 
 -- of the places before that one these are those of the ven's resources
 pub record AreOfVen (book : Book) (id : List ℕ) (reached : ℕ) (places : List ℕ) : Type 0 where

@@ -2,7 +2,6 @@
 use Rattle.std.specs.Prelude.{◌≡◌, ◌<◌, ◌≤◌, ℕ, Bool, true, false, List, get_or, length, Some, slice_get}
 use Rattle.adr_object.specs.declared.object.Object.{Object}
 use Rattle.adr_object.specs.declared.object.Object.TheVariants.{Program as program}
-use Rattle.adr_object.specs.declared.object.Kind.TheVariants.{Program as program_kind}
 use Rattle.adr_object.specs.declared.object.Edit.{Edit}
 use Rattle.adr_object.specs.declared.object.Edit.TheVariants.{Create, Change, Remove}
 use Rattle.adr_object.specs.declared.party.Program.{Program as OneProgram}
@@ -13,17 +12,6 @@ use Rattle.adr_model.specs.Edits.{made}
 use Rattle.adr_model.specs.Governor.{applies_to}
 use Rattle.adr_schedule.specs.Moves.{is_among}
 use Rattle.adr_regroup.specs.Compared.{StandOnce}
-
--- the edit is of a program
-abbrev pub is_program : Object → Bool
-is_program (program p) = true
-is_program _ = false
-
-abbrev pub is_of_program : Edit → Bool
-is_of_program (Create o) = is_program o
-is_of_program (Change o) = is_program o
-is_of_program (Remove program_kind id) = true
-is_of_program (Remove _ id) = false
 
 -- the book after the change of the program
 abbrev pub with_program : Book → OneProgram → Book

@@ -9,7 +9,9 @@ ghost use Rattle.adr_schedule.specs.Place.{LacksPlace, StaysRight};
 ghost use Rattle.adr_schedule.specs.Seating.{AreSeatedFor};
 ghost use Rattle.adr_regroup.specs.Compared.{most_compared_in, most_reseated_at};
 ghost use Rattle.adr_regroup.specs.Edited.{IsEdited};
-ghost use Rattle.adr_regroup.specs.Party.{is_of_resource, is_of_ven, AreSeatedBut, KeepsEvents};
+ghost use Rattle.adr_regroup.specs.Party.{AreSeatedBut, KeepsEvents};
+ghost use Rattle.adr_regroup.specs.Kinds.{kind_of_edit};
+ghost use Rattle.adr_object.specs.declared.object.Kind.TheVariants.{Ven as ven_kind, Resource as resource_kind};
 
 use crate::basis::Basis;
 use crate::edited::Edited;
@@ -69,7 +71,7 @@ pub fn after_ven<C: Fn(&Indexes, &[Job]) -> Result<Vec<Done>, Refusal>>(
     meter: &mut Meter,
 ) -> Result<Schedule, Refusal>
     requires crew { IsCrew (λ v. v.items) (C.pre crew.now) (C.post crew.now) }
-    requires ven { is_of_ven edited.now.edit.now ≡ true }
+    requires ven { kind_of_edit edited.now.edit.now ≡ ven_kind }
     requires edited { IsEdited edited.now }
     requires begun { meter.old ≡ 0 }
     ensures seated { IfOk result (AreSeatedFor edited.now.tie edited.now.new.now.objects) }
@@ -94,7 +96,7 @@ fn reseated_at<C: Fn(&Indexes, &[Job]) -> Result<Vec<Done>, Refusal>>(
     meter: &mut Meter,
 ) -> Result<Schedule, Refusal>
     requires crew { IsCrew (λ v. v.items) (C.pre crew.now) (C.post crew.now) }
-    requires resource { is_of_resource edited.now.edit.now ≡ true }
+    requires resource { kind_of_edit edited.now.edit.now ≡ resource_kind }
     requires edited { IsEdited edited.now }
     requires place { place < length edited.now.new.now.objects.resources }
     requires seated { AreSeatedBut edited.now.tie edited.now.new.now.objects (place ∷ []) schedule }
@@ -137,7 +139,7 @@ pub fn after_resource<C: Fn(&Indexes, &[Job]) -> Result<Vec<Done>, Refusal>>(
     meter: &mut Meter,
 ) -> Result<Schedule, Refusal>
     requires crew { IsCrew (λ v. v.items) (C.pre crew.now) (C.post crew.now) }
-    requires resource { is_of_resource edited.now.edit.now ≡ true }
+    requires resource { kind_of_edit edited.now.edit.now ≡ resource_kind }
     requires edited { IsEdited edited.now }
     requires begun { meter.old ≡ 0 }
     ensures seated { IfOk result (AreSeatedFor edited.now.tie edited.now.new.now.objects) }

@@ -4,7 +4,9 @@ ghost use Rattle.std.specs.Str.{bytes_eq};
 ghost use Rattle.adr_refusal.specs.Answer.{OnlyNoMemory};
 ghost use Rattle.adr_object.specs.declared.party.Resource.{Resource as OneResource};
 ghost use Rattle.adr_model.specs.Edits.{step};
-ghost use Rattle.adr_regroup.specs.Party.{id_of_edit, is_of_ven, AreOfVen};
+ghost use Rattle.adr_regroup.specs.Party.{id_of_edit, AreOfVen};
+ghost use Rattle.adr_regroup.specs.Kinds.{kind_of_edit};
+ghost use Rattle.adr_object.specs.declared.object.Kind.TheVariants.{Ven as ven_kind};
 
 use adr_book::Book;
 use adr_object::{Edit, Id, Kind};
@@ -38,7 +40,7 @@ fn places_of(alloc: Global, book: &Book, ven: &Id) -> Result<Vec<usize>, Refusal
 
 /// The places of the resources of the ven that the accepted edit is of. One that comes or goes has none.
 pub(crate) fn places_for(alloc: Global, book: &Book, edit: &Edit) -> Result<Vec<usize>, Refusal>
-    requires ven { is_of_ven edit.now ≡ true }
+    requires ven { kind_of_edit edit.now ≡ ven_kind }
     requires accepted { IsOk (step book.now.objects edit.now) }
     ensures places { IfOk result (λ places. AreOfVen book.now.objects (id_of_edit edit.now) (length book.now.objects.resources) places.items) }
     ensures refusal { OnlyNoMemory result }

@@ -14,7 +14,10 @@ ghost use Rattle.adr_schedule.specs.Seating.{AreSeatedFor};
 ghost use Rattle.adr_regroup.specs.Compared.{most_compared_in, most_reseated_at};
 ghost use Rattle.adr_regroup.specs.Edited.{IsEdited};
 ghost use Rattle.adr_regroup.specs.Party.{AreSeatedBut};
-ghost use Rattle.adr_regroup.specs.Program.{is_of_program, is_program, with_program, AreMarked, AreThoseMarked, IsMarking};
+ghost use Rattle.adr_object.specs.Object.{kind_of};
+ghost use Rattle.adr_regroup.specs.Kinds.{kind_of_edit};
+ghost use Rattle.adr_object.specs.declared.object.Kind.TheVariants.{Program as program_kind};
+ghost use Rattle.adr_regroup.specs.Program.{with_program, AreMarked, AreThoseMarked, IsMarking};
 
 use crate::basis::Basis;
 use crate::edited::Edited;
@@ -256,7 +259,7 @@ fn after_object<C: Fn(&Indexes, &[Job]) -> Result<Vec<Done>, Refusal>>(
     meter: &mut Meter,
 ) -> Result<Schedule, Refusal>
     requires crew { IsCrew (λ v. v.items) (C.pre crew.now) (C.post crew.now) }
-    requires program { is_program object.now ≡ true }
+    requires program { kind_of object.now ≡ program_kind }
     requires change { edited.now.edit.now ≡ change_to object.now }
     requires edited { IsEdited edited.now }
     requires begun { meter.old ≡ 0 }
@@ -290,7 +293,7 @@ pub fn after_program<C: Fn(&Indexes, &[Job]) -> Result<Vec<Done>, Refusal>>(
     meter: &mut Meter,
 ) -> Result<Schedule, Refusal>
     requires crew { IsCrew (λ v. v.items) (C.pre crew.now) (C.post crew.now) }
-    requires program { is_of_program edited.now.edit.now ≡ true }
+    requires program { kind_of_edit edited.now.edit.now ≡ program_kind }
     requires edited { IsEdited edited.now }
     requires begun { meter.old ≡ 0 }
     ensures seated { IfOk result (AreSeatedFor edited.now.tie edited.now.new.now.objects) }
