@@ -11,15 +11,15 @@ use Rattle.adr_regroup.specs.Kinds.{kind_of_edit}
 
 made_events : (old : Book) (edit : Edit) → kind_of_edit edit ≢ event_kind → old.events ≡ (made old edit).events
 made_events old (Create (program x)) h = refl
-made_events old (Create (event_object x)) h = absurd (cc)
+made_events old (Create (event_object x)) h = absurd (h refl)
 made_events old (Create (ven x)) h = refl
 made_events old (Create (resource x)) h = refl
 made_events old (Change (program x)) h = refl
-made_events old (Change (event_object x)) h = absurd (cc)
+made_events old (Change (event_object x)) h = absurd (h refl)
 made_events old (Change (ven x)) h = refl
 made_events old (Change (resource x)) h = refl
 made_events old (Remove program_kind id) h = refl
-made_events old (Remove event_kind id) h = absurd (cc)
+made_events old (Remove event_kind id) h = absurd (h refl)
 made_events old (Remove ven_kind id) h = refl
 made_events old (Remove resource_kind id) h = refl
 
