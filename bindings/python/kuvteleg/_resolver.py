@@ -46,6 +46,13 @@ class Segment:
     values: Tuple[Value, ...]
 
 
+def _number(kind: str) -> int:
+    """The number of a kind of objects."""
+    if kind not in KINDS:
+        raise ValueError(f"kind is one of {', '.join(KINDS)}")
+    return KINDS[kind]
+
+
 def _word(text: str) -> str:
     """A word that goes on a line: a space or a line's end in it would make it another line."""
     if not text or any(it in text for it in " \r\n"):
@@ -204,17 +211,17 @@ class Resolver(_Held):
         return self._write(LIBRARY.kuvteleg_change, kind, id, body, moment)
 
     def _write(self, call: Callable[..., int], kind: str, id: str, body: Body, moment: Optional[Moment]) -> int:
-        name, sent, version = id.encode(), _objects.body_bytes(body), ctypes.c_uint64()
+        number, name, sent, version = _number(kind), id.encode(), _objects.body_bytes(body), ctypes.c_uint64()
         seconds, nanoseconds = _moments.parts(datetime.now(timezone.utc) if moment is None else moment)
         with self._lock:
-            done(call(self._handle, seconds, nanoseconds, KINDS.get(kind, 9), name, len(name), sent, len(sent), version))
+            done(call(self._handle, seconds, nanoseconds, number, name, len(name), sent, len(sent), version))
         return version.value
 
     def delete(self, kind: str, id: str) -> int:
         """Deletes an object, and answers the version."""
-        name, version = id.encode(), ctypes.c_uint64()
+        number, name, version = _number(kind), id.encode(), ctypes.c_uint64()
         with self._lock:
-            done(LIBRARY.kuvteleg_delete(self._handle, KINDS.get(kind, 9), name, len(name), version))
+            done(LIBRARY.kuvteleg_delete(self._handle, number, name, len(name), version))
         return version.value
 
     def load(self, objects: Any, moment: Optional[Moment] = None, on_refusal: Optional[Callable[[Refusal], None]] = None) -> int:
