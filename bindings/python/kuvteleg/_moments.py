@@ -1,14 +1,23 @@
 """Moments as seconds since 1970-01-01T00:00:00Z and nanoseconds after them, as `datetime` and as text."""
 import re
 from datetime import datetime, timedelta, timezone
-from typing import Tuple, Union
+from typing import Optional, Tuple, Union
 
 from ._refusals import Refusal
 
 Moment = Union[datetime, str]
 EPOCH = datetime(1970, 1, 1, tzinfo=timezone.utc)
+FIRST, LAST = -377_705_023_201, 253_402_207_200  # the seconds of the first moment and of the last
+# What a line takes as a moment: of a date, a time and an offset each has its separators throughout or nowhere.
 _FORM = re.compile(
-    r"(\d{4}|[+-]\d{6})-(\d\d)-(\d\d)[Tt ](\d\d)(?::(\d\d)(?::(\d\d)(?:[.,](\d{1,9}))?)?)?(?:[Zz]|([+-])(\d\d):(\d\d))", re.ASCII
+    r"""
+    (?P<year>\d{4}|[+-]00\d{4})(?P<dash>-?)(?P<month>\d\d)(?P=dash)(?P<day>\d\d)[Tt ]
+    (?P<hour>\d\d)(?:(?P<colon>:?)(?P<minute>\d\d)(?:(?P=colon)(?P<second>\d\d)(?:[.,](?P<fraction>\d{1,9}))?)?)?
+    (?:[Zz]|(?P<sign>[+-])(?P<hours>\d\d)(?:(?P<parted>:?)(?P<minutes>\d\d)(?:(?P=parted)(?P<seconds>\d\d)(?:[.,](?P<part>\d{1,9}))?)?)?)
+    (?:\[!?(?:[+-](?:[01]\d|2[0-5])(?::?[0-5]\d)?|[A-Za-z_.][\w.+-]*(?:/[A-Za-z_.][\w.+-]*)*)\])?
+    (?:\[[a-z_][a-z0-9_-]*=[A-Za-z0-9]+(?:-[A-Za-z0-9]+)*\])*
+    """,
+    re.ASCII | re.VERBOSE,
 )
 
 
@@ -27,21 +36,36 @@ def _date(days: int) -> Tuple[int, int, int]:
     return date.year + 400 * eras, date.month, date.day
 
 
-def read(text: str) -> Tuple[int, int]:
-    """The seconds and nanoseconds of a text as RFC 3339 has it, with up to nine digits of a second's fraction."""
-    found = _FORM.fullmatch(text)
-    if not found or found[1] == "-000000":
+def _nanoseconds(digits: Optional[str]) -> int:
+    """The nanoseconds of a second's fraction, which may be left out."""
+    return int((digits or "0").ljust(9, "0"))
+
+
+def _ahead(found: "re.Match[str]") -> int:
+    """The seconds that an offset is ahead of UTC, to the nearest one."""
+    hours, minutes, seconds = (int(found[it] or 0) for it in ("hours", "minutes", "seconds"))
+    total = hours * 3600 + minutes * 60 + seconds + (_nanoseconds(found["part"]) >= 500_000_000)
+    if minutes > 59 or seconds > 59 or total > 93_599:
         raise Refusal(3)
-    year, month, day, hour, minute, second = (int(it or 0) for it in found.groups()[:6])
-    sign, hours, minutes = -1 if found[8] == "-" else 1, int(found[9] or 0), int(found[10] or 0)
-    if hour > 23 or minute > 59 or second > 60 or minutes > 59:
+    return -total if found["sign"] == "-" else total
+
+
+def read(text: str) -> Tuple[int, int]:
+    """The seconds and nanoseconds of a text in any form that a line takes."""
+    found = _FORM.fullmatch(text)
+    if not found or found["year"] == "-000000":
+        raise Refusal(3)
+    year, month, day, hour, minute, second = (int(found[it] or 0) for it in ("year", "month", "day", "hour", "minute", "second"))
+    if hour > 23 or minute > 59 or second > 60:
         raise Refusal(3)
     try:
         days = _days(year, month, day)
     except ValueError:
         raise Refusal(3) from None
-    seconds = days * 86400 + hour * 3600 + minute * 60 + min(second, 59) - sign * (hours * 3600 + minutes * 60)
-    return seconds, int((found[7] or "0").ljust(9, "0"))
+    seconds = days * 86400 + hour * 3600 + minute * 60 + min(second, 59) - _ahead(found)
+    if not FIRST <= seconds <= LAST:
+        raise Refusal(3)
+    return seconds, _nanoseconds(found["fraction"])
 
 
 def parts(moment: Moment) -> Tuple[int, int]:

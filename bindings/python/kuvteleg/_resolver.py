@@ -46,6 +46,13 @@ class Segment:
     values: Tuple[Value, ...]
 
 
+def _number(kind: str) -> int:
+    """The number of a kind of objects."""
+    if kind not in KINDS:
+        raise ValueError(f"kind is one of {', '.join(KINDS)}")
+    return KINDS[kind]
+
+
 def _word(text: str) -> str:
     """A word that goes on a line: a space or a line's end in it would make it another line."""
     if not text or any(it in text for it in " \r\n"):
@@ -204,32 +211,42 @@ class Resolver(_Held):
         return self._write(LIBRARY.kuvteleg_change, kind, id, body, moment)
 
     def _write(self, call: Callable[..., int], kind: str, id: str, body: Body, moment: Optional[Moment]) -> int:
-        name, sent, version = id.encode(), _objects.body_bytes(body), ctypes.c_uint64()
+        number, name, sent, version = _number(kind), id.encode(), _objects.body_bytes(body), ctypes.c_uint64()
         seconds, nanoseconds = _moments.parts(datetime.now(timezone.utc) if moment is None else moment)
         with self._lock:
-            done(call(self._handle, seconds, nanoseconds, KINDS.get(kind, 9), name, len(name), sent, len(sent), version))
+            done(call(self._handle, seconds, nanoseconds, number, name, len(name), sent, len(sent), version))
         return version.value
 
     def delete(self, kind: str, id: str) -> int:
         """Deletes an object, and answers the version."""
-        name, version = id.encode(), ctypes.c_uint64()
+        number, name, version = _number(kind), id.encode(), ctypes.c_uint64()
         with self._lock:
-            done(LIBRARY.kuvteleg_delete(self._handle, KINDS.get(kind, 9), name, len(name), version))
+            done(LIBRARY.kuvteleg_delete(self._handle, number, name, len(name), version))
         return version.value
 
-    def load(self, objects: Any, moment: Optional[Moment] = None, on_refusal: Optional[Callable[[Refusal], None]] = None) -> int:
+    def load(
+        self,
+        objects: Any,
+        moment: Optional[Moment] = None,
+        on_refusal: Optional[Callable[[Refusal], None]] = None,
+        kind: Optional[str] = None,
+    ) -> int:
         """Creates the objects that a VTN serves, and answers how many: a list of them, several lists, or the JSON text of either, as
-        from `GET /programs`, `/vens`, `/resources` and `/events`. Each has `objectType` and `id`.
+        from `GET /programs`, `/vens`, `/resources` and `/events`. Each has `id` and `objectType`; `kind` ("program", "event", "ven",
+        "resource") stands in where an object has no `objectType`.
 
         They are created in the order programs, vens, resources, events. Events go by when they were written, which is their
         `modificationDateTime`, else their `createdDateTime`; where one of them tells neither, all events go as they stand. When an
         event was written, else `moment`, now by default, is what its zero starts stand for. A refused object raises Refusal with its
-        kind and id, and those before it stay; with `on_refusal` that is called instead, and the others are created. Nobody sees any of
-        them before `publish`.
+        kind and id, and those before it stay; with `on_refusal` that is called instead, and the others are created. What is no object,
+        an object without `objectType` or `id`, and an event whose `modificationDateTime`, or else `createdDateTime`, is no moment raise
+        ValueError, and then nothing is created. Nobody sees any of them before `publish`.
         """
+        if kind is not None:
+            _number(kind)
         now = _moments.parts(datetime.now(timezone.utc) if moment is None else moment)
         count = 0
-        for it in _objects.in_order(objects):
+        for it in _objects.in_order(objects, kind):
             name, version = it.id.encode(), ctypes.c_uint64()
             with self._lock:
                 code = LIBRARY.kuvteleg_create(

@@ -47,9 +47,20 @@ class Edits(unittest.TestCase):
             self.refused(26, "InUse", resolver.delete, "program", "p1")
             self.refused(4, "BadId", resolver.create, "ven", "v 1", VEN)
             self.refused(7, "NotObject", resolver.create, "ven", "v2", "[]")
-            self.refused(103, "BadKind", resolver.create, "van", "v2", VEN)
             self.refused(2, "BadLine", resolver.line, "publish now")
             self.assertEqual(resolver.create("ven", "v2", VEN), 5)
+
+    def test_an_unknown_kind(self):
+        with Resolver() as resolver:
+            fill(resolver)
+            for kind in ("van", "VEN", "", None):
+                for call in (
+                    lambda: resolver.create(kind, "v2", VEN),
+                    lambda: resolver.change(kind, "v1", VEN),
+                    lambda: resolver.delete(kind, "v1"),
+                ):
+                    self.assertRaisesRegex(ValueError, "^kind is one of program, event, ven, resource$", call)
+            self.assertEqual(resolver.publish(), (1, 4))
 
     def test_a_zero_start_is_the_moment_of_the_edit(self):
         with Resolver() as resolver:

@@ -15,15 +15,37 @@ DAYS = (
     ("prices.adr", "heat-pump", "2024-07-15T16:00:00Z", "2024-07-15T21:00:00Z", "--publication", "2"),
     ("capacity.adr", "chargers-a", "2024-12-12", "2024-12-13", "--publication", "1"),
     ("capacity.adr", "chargers-a", "2024-12-10", "2024-12-20", "--publication", "1"),
-    ("demand_response.adr", "battery-2", "2024-07-16", "2024-07-17"),
+    ("demand_response.adr", "battery-2", "2024-07-16", "2024-07-17", "--publication", "2"),
 )
 
 
-def day(script, *words):
-    run = subprocess.run(
-        [sys.executable, "-m", "kuvteleg.day", str(TOP / "examples" / script), *words], cwd=TOP / "bindings" / "python", capture_output=True, timeout=60
-    )
+HEATER = (
+    b'edit 2024-07-15T00:00:00Z create program p1 {"programName":"P"}',
+    b'edit 2024-07-15T00:00:00Z create ven v1 {"venName":"V"}',
+    b'edit 2024-07-15T00:00:00Z create resource heater {"resourceName":"Heater","venID":"v1"}',
+)
+
+
+def named(change, name, hour=12):
+    """A line that writes an event of an hour."""
+    period = f'{{"start":"2024-07-15T{hour}:00:00Z","duration":"PT1H"}}'
+    intervals = f'[{{"intervalPeriod":{period},"payloads":[{{"type":"PRICE","values":[17]}}]}}]'
+    return f'edit 2024-07-15T00:00:00Z {change} event e1 {{"programID":"p1","eventName":"{name}","intervals":{intervals}}}'.encode()
+
+
+def ran(script, *words, given=None):
+    call = [sys.executable, "-m", "kuvteleg.day", script, *words]
+    run = subprocess.run(call, cwd=TOP / "bindings" / "python", capture_output=True, timeout=60, input=given)
     return run.returncode, run.stdout.decode(), run.stderr.decode()
+
+
+def day(script, *words):
+    return ran(str(TOP / "examples" / script), *words)
+
+
+def heater(*lines, words=()):
+    """The day of a heater by a script of these lines, in characters."""
+    return ran("-", "heater", "2024-07-15", "2024-07-16", "--text", *words, given=b"\n".join((*HEATER, *lines, b"")))
 
 
 class Days(unittest.TestCase):
@@ -60,7 +82,7 @@ class Days(unittest.TestCase):
         self.assertIn("Feeder 12 is open; Stay off until told", texts)
 
     def test_levels_and_amounts_below_zero(self):
-        texts = self.texts("demand_response.adr", "battery-2", "2024-07-16T12:00:00Z", "2024-07-16T20:00:00Z")
+        texts = self.texts("demand_response.adr", "battery-2", "2024-07-16T12:00:00Z", "2024-07-16T20:00:00Z", "--publication", "2")
         self.assertIn("\u22124.5", texts)
         self.assertEqual([it for it in texts if it in ("0", "1", "2")].count("1"), 2)
 
@@ -91,7 +113,47 @@ class Days(unittest.TestCase):
         self.assertIn("Nothing governs in this time.", self.texts("prices.adr", "heat-pump", "2024-07-20", "2024-07-21"))
 
     def test_what_cannot_be_drawn(self):
-        self.assertEqual(day("prices.adr", "no-such", "2024-07-20", "2024-07-21")[::2], (1, "kuvteleg.day: 29 UnknownResource\n"))
+        self.assertEqual(
+            day("prices.adr", "no-such", "2024-07-20", "2024-07-21"), (1, "", "kuvteleg.day: publication 3 has no resource no-such\n")
+        )
         self.assertEqual(day("no_such.adr", "heat-pump", "2024-07-20", "2024-07-21")[0], 1)
         self.assertEqual(day("prices.adr", "heat-pump", "2024-07-20", "2024-07-20")[0], 2)
         self.assertEqual(day("prices.adr", "heat-pump", "yesterday", "2024-07-20")[0], 2)
+        self.assertEqual(day("prices.adr", "heat-pump", "2024-07-20", "2024-07-21", "--publication", "-1")[0], 2)
+
+
+class Scripts(unittest.TestCase):
+    def test_refused_lines_are_told_and_the_day_is_drawn(self):
+        status, told, faults = heater(named("create", "First").replace(b"p1", b"p2"), named("create", "Second"), b"", b"publish", b"at heater PRICE now")
+        wanted = ("line 4: refused 24 NoProgram", "line 6: refused 2 BadLine", "line 8: refused 3 BadMoment")
+        self.assertEqual((status, faults), (1, "".join(f"kuvteleg.day: {it}\n" for it in wanted)))
+        self.assertRegex(told, "12:00–13:00  17  Second")
+
+    def test_no_line_behind_the_drawn_publication_is_run(self):
+        status, told, faults = heater(named("create", "First"), b"publish", b"publish now", words=("--publication", "1"))
+        self.assertEqual((status, faults), (0, ""))
+        self.assertRegex(told, "12:00–13:00  17  First")
+
+    def test_a_last_line_without_a_line_feed_counts(self):
+        script = b"\r\n".join((*HEATER, named("create", "First"), b"publish"))
+        status, told, faults = ran("-", "heater", "2024-07-15", "2024-07-16", "--text", given=script)
+        self.assertEqual((status, faults), (0, ""))
+        self.assertRegex(told, "12:00–13:00  17  First")
+
+    def test_names_are_those_of_the_publication(self):
+        lines = (named("create", "First"), b"publish", named("change", "Second", 13), b"publish", named("change", "Third", 14))
+        self.assertRegex(heater(*lines)[1], "13:00–14:00  17  Second\n")
+        self.assertRegex(heater(*lines, words=("--publication", "1"))[1], "12:00–13:00  17  First\n")
+        renamed = HEATER[2].replace(b"create", b"change").replace(b'"Heater"', b'"Stove"')
+        self.assertRegex(heater(*lines, renamed)[1], "^Heater \\(heater\\)\n")
+        self.assertRegex(heater(*lines, renamed, b"publish")[1], "^Stove \\(heater\\)\n")
+
+    def test_a_resource_that_no_publication_has(self):
+        fault = "kuvteleg.day: publication 0 has no resource heater"
+        self.assertEqual(heater(named("create", "First")), (1, "", fault + "; does the script publish?\n"))
+        self.assertEqual(heater(b"publish", words=("--publication", "0")), (1, "", fault + "\n"))
+
+    def test_a_publication_behind_the_last_one(self):
+        self.assertEqual(
+            heater(b"publish", b"publish", words=("--publication", "3")), (1, "", "kuvteleg.day: there is no publication 3; the last is 2\n")
+        )
