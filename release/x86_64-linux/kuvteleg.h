@@ -1,4 +1,4 @@
-/* Kuvteleg for C: which interval of which OpenADR 3.0 event governs a resource, and until when.
+/* Kuvteleg for C99 and C++: which interval of which OpenADR 3.0 event governs a resource, and until when.
  *
  * An editor takes programs, vens, resources and events as JSON bodies, and publishes them. Readers answer from one
  * publication each. What the calls answer is proved of the library; docs/SCRIPT.md has what bodies, lines, replies and
@@ -43,7 +43,7 @@
  *
  * What the caller must keep, since nothing checks it:
  *   - a handle goes to one call at a time, from any thread; calls on one handle are ordered by a lock, or by handing it over;
- *   - a handle is moved, never copied; two handles that go to one call are two structs;
+ *   - a handle may be moved: assign it, and don't use the old struct again; two handles that go to one call are two structs;
  *   - no pointer is null, also where its length is 0, and no length is above PTRDIFF_MAX; `out` and what numbers are written to
  *     overlap neither each other nor what else goes to the call;
  *   - malloc, realloc and free are those of one allocator, to which any thread may give blocks back (bindings/c/heap.c);
