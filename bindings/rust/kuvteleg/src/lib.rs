@@ -33,19 +33,21 @@
 //!
 //! A [`Resolver`] and a [`Reader`] may each go to another thread, and a call has each to itself. A reader's answers wait for no edit. It
 //! may outlive its resolver, and keeps its publication in memory until it looks again or is dropped. A call for which there is no memory
-//! answers [`Refusal::NoMemory`] and has changed nothing; only what this crate keeps of a reply, and the clone of a reader, end the
-//! program then.
+//! answers [`Refusal::NoMemory`] and has changed nothing; only what this crate keeps of a query or a reply, and the clone of a reader, end
+//! the program then.
 //!
 //! No call is made from a signal handler, nor in a forked child of a process with threads.
 mod moment;
 mod raw;
 mod reader;
 mod refusal;
+mod reply;
 mod resolver;
 mod value;
 
 pub use moment::Moment;
 pub use reader::{Reader, State};
 pub use refusal::Refusal;
+pub use reply::{OwnedState, Segment};
 pub use resolver::{Kind, Published, Resolver, Tie};
 pub use value::{Value, Values};

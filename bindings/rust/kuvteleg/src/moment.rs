@@ -1,4 +1,5 @@
 use std::fmt;
+use std::ops::RangeInclusive;
 use std::time::{Duration, SystemTime, UNIX_EPOCH};
 
 /// An instant: seconds since 1970-01-01T00:00:00Z, negative before it, and nanoseconds after them. Leap seconds are not counted.
@@ -18,6 +19,9 @@ pub struct Moment {
     seconds: i64,
     nanoseconds: u32,
 }
+
+/// The whole seconds of the moments that calls take.
+const TAKEN: RangeInclusive<i64> = -377_705_023_201..=253_402_207_200;
 
 impl Moment {
     /// The instant that is so many seconds and nanoseconds after 1970-01-01T00:00:00Z.
@@ -46,6 +50,22 @@ impl Moment {
         let start = if self.seconds < 0 { UNIX_EPOCH.checked_sub(whole) } else { UNIX_EPOCH.checked_add(whole) };
         start?.checked_add(Duration::from_nanos(self.nanoseconds.into()))
     }
+
+    /// Whether calls take it. Of more nanoseconds it is printed as another moment, so no line has it.
+    pub(crate) fn is_taken(&self) -> bool {
+        TAKEN.contains(&self.seconds) && self.nanoseconds < 1_000_000_000
+    }
+
+    /// The moment that a reply has as this word.
+    pub(crate) fn of_word(word: &str) -> Option<Moment> {
+        let (date, time) = word.strip_suffix('Z')?.split_once('T')?;
+        let (time, fraction) = time.split_once('.').unwrap_or((time, ""));
+        let (sign, date) = date.strip_prefix('-').map_or((1, date), |it| (-1, it));
+        let [year, month, day] = numbers(date, '-')?;
+        let [hour, minute, second] = numbers(time, ':')?;
+        let seconds = days(sign * year, month, day) * 86_400 + hour * 3_600 + minute * 60 + second;
+        Some(Moment::new(seconds, format!("{fraction:0<9}").parse().ok()?))
+    }
 }
 
 impl From<SystemTime> for Moment {
@@ -70,6 +90,21 @@ fn date(days: i64) -> (i64, i64, i64) {
     let month = (5 * day + 2) / 153;
     let civil = if month < 10 { month + 3 } else { month - 9 };
     (year + era * 400 + i64::from(civil <= 2), civil, day - (153 * month + 2) / 5 + 1)
+}
+
+/// The days from 1970-01-01 to a date, the other way round.
+fn days(year: i64, month: i64, day: i64) -> i64 {
+    let year = year - i64::from(month <= 2);
+    let (era, year) = (year.div_euclid(400), year.rem_euclid(400));
+    let day = (153 * ((month + 9) % 12) + 2) / 5 + day - 1;
+    era * 146_097 + 365 * year + year / 4 - year / 100 + day - 719_468
+}
+
+/// Three numbers with a mark between them.
+fn numbers(text: &str, mark: char) -> Option<[i64; 3]> {
+    let mut numbers = text.split(mark).map(|it| it.parse().ok());
+    let three = [numbers.next()??, numbers.next()??, numbers.next()??];
+    numbers.next().is_none().then_some(three)
 }
 
 impl fmt::Display for Moment {

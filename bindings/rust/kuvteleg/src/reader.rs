@@ -1,7 +1,10 @@
 use crate::raw::{self, Handle};
 use crate::refusal::done;
-use crate::{Moment, Published, Refusal, Resolver, Values};
+use crate::{reply, Moment, OwnedState, Published, Refusal, Resolver, Segment, Values};
 use std::cell::UnsafeCell;
+
+/// The bytes that a line may have.
+const LONGEST: usize = 4_194_304;
 
 /// What governs at a moment. It borrows the reader's last answer.
 #[derive(Clone, Debug, PartialEq, Eq)]
@@ -119,6 +122,111 @@ impl Reader {
             until: (state.is_endless == 0).then(|| Moment::new(state.until_seconds, state.until_nanoseconds)),
             values: Values(if is_governed { values } else { "[]" }),
         })
+    }
+
+    /// The segments of the window from `from` to before `to`, in order of time and cut to it. Stretches at which nothing governs have
+    /// none.
+    ///
+    /// ```
+    /// # use kuvteleg::{Kind, Moment, Refusal, Resolver, Tie, Value};
+    /// # let midnight = Moment::new(1_704_067_200, 0);
+    /// # let mut resolver = Resolver::new(Tie::Newest)?;
+    /// # resolver.create(midnight, Kind::Program, "p1", r#"{"programName":"P"}"#)?;
+    /// # resolver.create(midnight, Kind::Ven, "v1", r#"{"venName":"V"}"#)?;
+    /// # resolver.create(midnight, Kind::Resource, "r1", r#"{"resourceName":"R","venID":"v1"}"#)?;
+    /// # let event = r#"{"programID":"p1","intervalPeriod":{"start":"2024-01-01T00:00:00Z","duration":"PT1H"},"intervals":[
+    /// #     {"payloads":[{"type":"PRICE","values":[0.170]}]},{"payloads":[{"type":"PRICE","values":[0.25]}]}]}"#;
+    /// # resolver.create(midnight, Kind::Event, "e1", event)?;
+    /// # resolver.publish()?;
+    /// let mut reader = resolver.reader()?;
+    /// let segments = reader.list("r1", "PRICE", midnight, Moment::new(1_704_153_600, 0))?; // a day
+    /// assert_eq!(segments.len(), 2);
+    /// assert_eq!((segments[1].event.as_str(), segments[1].interval), ("e1", 1));
+    /// assert_eq!(segments[1].end.to_string(), "2024-01-01T02:00:00Z");
+    /// assert_eq!(segments[1].values, [Value::Number("0.25".into())]);
+    /// # Ok::<(), Refusal>(())
+    /// ```
+    ///
+    /// # Errors
+    ///
+    /// [`Refusal::LongLine`]; [`Refusal::BadLine`] of a resource or type that is empty or holds a space, a line feed or a carriage return,
+    /// so that no line has it as a word; [`Refusal::BadMoment`], [`Refusal::BadId`], [`Refusal::BadText`], [`Refusal::BadWindow`] where
+    /// `from` isn't before `to`, [`Refusal::UnknownResource`], [`Refusal::NoMemory`].
+    pub fn list(
+        &mut self,
+        resource: &str,
+        payload_type: &str,
+        from: impl Into<Moment>,
+        to: impl Into<Moment>,
+    ) -> Result<Vec<Segment>, Refusal> {
+        self.ask(&["list", resource, payload_type], &[from.into(), to.into()]).map(reply::segments)
+    }
+
+    /// The id of each resource and its state under a payload type at a moment, in order of creation.
+    ///
+    /// ```
+    /// # use kuvteleg::{Kind, Moment, Refusal, Resolver, Tie};
+    /// # let midnight = Moment::new(1_704_067_200, 0);
+    /// # let mut resolver = Resolver::new(Tie::Newest)?;
+    /// # resolver.create(midnight, Kind::Ven, "v1", r#"{"venName":"V"}"#)?;
+    /// resolver.create(midnight, Kind::Resource, "r2", r#"{"resourceName":"R","venID":"v1"}"#)?;
+    /// resolver.create(midnight, Kind::Resource, "r1", r#"{"resourceName":"R","venID":"v1"}"#)?;
+    /// resolver.publish()?;
+    /// let roll = resolver.reader()?.roll("PRICE", midnight)?;
+    /// let ids: Vec<&str> = roll.iter().map(|(resource, _)| resource.as_str()).collect();
+    /// assert_eq!(ids, ["r2", "r1"]);
+    /// assert_eq!((&roll[0].1.event, roll[0].1.until), (&None, None));
+    /// # Ok::<(), Refusal>(())
+    /// ```
+    ///
+    /// # Errors
+    ///
+    /// [`Refusal::LongLine`]; [`Refusal::BadLine`] of a type that is no word of a line, as of [`list`](Reader::list);
+    /// [`Refusal::BadMoment`], [`Refusal::BadText`], [`Refusal::NoMemory`].
+    pub fn roll(&mut self, payload_type: &str, moment: impl Into<Moment>) -> Result<Vec<(String, OwnedState)>, Refusal> {
+        self.ask(&["roll", payload_type], &[moment.into()]).map(reply::roll)
+    }
+
+    /// The payload types under which the resource is governed at some time: those of the standard in its order, then private ones.
+    ///
+    /// ```
+    /// # use kuvteleg::{Kind, Moment, Refusal, Resolver, Tie};
+    /// # let midnight = Moment::new(1_704_067_200, 0);
+    /// # let mut resolver = Resolver::new(Tie::Newest)?;
+    /// # resolver.create(midnight, Kind::Program, "p1", r#"{"programName":"P"}"#)?;
+    /// # resolver.create(midnight, Kind::Ven, "v1", r#"{"venName":"V"}"#)?;
+    /// # resolver.create(midnight, Kind::Resource, "r1", r#"{"resourceName":"R","venID":"v1"}"#)?;
+    /// let event = r#"{"programID":"p1","intervals":[{"intervalPeriod":{"start":"2024-01-01T00:00:00Z","duration":"PT1H"},
+    ///     "payloads":[{"type":"my \"own\"","values":[]},{"type":"PRICE","values":[17]}]}]}"#;
+    /// resolver.create(midnight, Kind::Event, "e1", event)?;
+    /// resolver.publish()?;
+    /// assert_eq!(resolver.reader()?.types("r1")?, ["PRICE", "my \"own\""]);
+    /// # Ok::<(), Refusal>(())
+    /// ```
+    ///
+    /// # Errors
+    ///
+    /// [`Refusal::LongLine`]; [`Refusal::BadLine`] of a resource that is no word of a line, as of [`list`](Reader::list);
+    /// [`Refusal::BadId`], [`Refusal::UnknownResource`], [`Refusal::NoMemory`].
+    pub fn types(&mut self, resource: &str) -> Result<Vec<String>, Refusal> {
+        self.ask(&["types", resource], &[]).map(reply::types)
+    }
+
+    /// The answer to the query of these words and then these moments.
+    fn ask(&mut self, words: &[&str], moments: &[Moment]) -> Result<&str, Refusal> {
+        let mut line = words.join(" ");
+        for moment in moments {
+            line.push_str(&format!(" {moment}"));
+        }
+        if line.len() > LONGEST {
+            Err(Refusal::LongLine)
+        } else if words.iter().any(|it| it.is_empty() || it.contains([' ', '\n', '\r'])) {
+            Err(Refusal::BadLine)
+        } else if moments.iter().all(Moment::is_taken) {
+            self.line(line)
+        } else {
+            Err(Refusal::BadMoment)
+        }
     }
 
     /// The answer to a query of the script: `at`, `list`, `roll` or `types`. It ends with a line feed.

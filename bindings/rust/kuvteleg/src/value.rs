@@ -34,6 +34,24 @@ impl Value {
         }
         text.rest.trim_start().is_empty().then_some(values)
     }
+
+    /// The values at the end of a line of a reply, each behind a space.
+    pub(crate) fn read_line(line: &str) -> Option<Vec<Value>> {
+        let mut text = Text { rest: line };
+        let mut values = Vec::new();
+        while let Some(rest) = text.rest.strip_prefix(' ') {
+            text.rest = rest;
+            values.push(if rest.starts_with('(') { text.pair()? } else { text.value()? });
+        }
+        text.rest.is_empty().then_some(values)
+    }
+}
+
+/// The text that a line of a reply has in quotes.
+pub(crate) fn unquoted(line: &str) -> Option<String> {
+    let mut text = Text { rest: line };
+    let read = text.text()?;
+    text.rest.is_empty().then_some(read)
 }
 
 /// The values of a state, as the text of a JSON array that the reader's last answer holds.
@@ -52,7 +70,7 @@ impl<'a> Values<'a> {
     }
 }
 
-/// What is left of a JSON text.
+/// What is left of a JSON text, or of a line's values.
 struct Text<'a> {
     rest: &'a str,
 }
@@ -103,6 +121,16 @@ impl<'a> Text<'a> {
         let y = self.member("y")?;
         self.take('}')?;
         Some(Value::Point(x, y))
+    }
+
+    /// A point as a line of a reply has it.
+    fn pair(&mut self) -> Option<Value> {
+        self.take('(')?;
+        let x = self.number()?;
+        self.take(',')?;
+        let y = self.number()?;
+        self.take(')')?;
+        Some(Value::Point(x.into(), y.into()))
     }
 
     fn text(&mut self) -> Option<String> {
