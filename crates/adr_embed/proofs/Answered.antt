@@ -1,5 +1,5 @@
 -- What an editor answers, and what its commands leave.
-use Rattle.std.proofs.Common.{◌≡◌, ℕ, ◌+◌, nat_lt, Bool, true, false, List, Result, Ok, Err, cond, refl, inl, inr}
+use Rattle.std.proofs.Common.{◌≡◌, ℕ, ◌+◌, nat_lt, Bool, true, false, List, Result, Ok, Err, cond, refl, ◌∙◌, inl, inr}
 use Rattle.adr_value.specs.declared.limits.TheConstants.{MOST_PUBLICATIONS}
 use Rattle.adr_refusal.specs.Answer.{result_map}
 use Rattle.adr_refusal.specs.declared.refusal.Refusal.{Refusal}
@@ -9,12 +9,12 @@ use Rattle.adr_model.specs.Edits.{full_at, step_to}
 use Rattle.adr_model.specs.Kept.{Kept}
 use Rattle.adr_resolver.specs.declared.command.Command.{Command}
 use Rattle.adr_resolver.specs.declared.command.Command.TheVariants.{Edit, Publish, Condense, At, List as Listed, Roll, Types}
-use Rattle.adr_resolver.specs.Kept.{edit_reply, edit_next, kept_command_reply}
+use Rattle.adr_resolver.specs.Kept.{LinesKeepStep, edit_reply, edit_next, kept_command_reply, kept_reply}
 use Rattle.adr_resolver.specs.Line.{line_named}
 use Rattle.adr_resolver.specs.Text.{answer_line, ok_line, published_line, refusal_line, reply_or}
-use Rattle.adr_embed.specs.Answered.{command_answer, AnswersAreReplies}
+use Rattle.adr_embed.specs.Answered.{command_answer, line_answer}
 use Rattle.adr_refusal.specs.Answer.{result_and_then}
-use Rattle.adr_embed.specs.Laws.{GoesOn, PublicationsGoOn}
+use Rattle.adr_embed.specs.Laws.{GoesOn, LinesAreReplied, PublicationsGoOn}
 
 edit_replies : (book : Result Book Refusal) → answer_line (result_map (λ (b : Book). ok_line b.version) book) ≡ edit_reply book
 edit_replies (Ok b) = refl
@@ -37,8 +37,13 @@ line_replies : (k : Kept) (command : Result Command Refusal) → answer_line (re
 line_replies k (Ok command) = command_replies k command
 line_replies k (Err f) = refl
 
-pub answers_are_replies : AnswersAreReplies
+answers_are_replies : (k : Kept) (line : List ℕ) → answer_line (line_answer k line) ≡ kept_reply k line
 answers_are_replies k line = line_replies k (line_named line)
+
+pub lines_are_replied : LinesKeepStep → LinesAreReplied
+lines_are_replied steps k s line h =
+    let (reply, next) = steps k s line h in
+    (answers_are_replies k line ∙ reply, next)
 
 edit_goes_on : (k : Kept) (book : Result Book Refusal) → GoesOn k (edit_next k book)
 edit_goes_on k (Ok b) = inl (refl, refl)

@@ -1,2 +1,3 @@
 pub mod Answered
 pub mod Crossing
+pub mod InStep

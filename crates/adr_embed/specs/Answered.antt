@@ -1,5 +1,5 @@
 -- What a line is answered, or why it is refused.
-use Rattle.std.specs.Prelude.{◌≡◌, ℕ, ◌+◌, nat_lt, List, Option, Some, None, Result, Ok, Err, if◌then◌else◌}
+use Rattle.std.specs.Prelude.{ℕ, ◌+◌, nat_lt, List, Option, Some, None, Result, Ok, Err, if◌then◌else◌}
 use Rattle.adr_value.specs.declared.limits.TheConstants.{MOST_PUBLICATIONS}
 use Rattle.adr_refusal.specs.Answer.{result_map, result_and_then}
 use Rattle.adr_refusal.specs.declared.refusal.Refusal.{Refusal}
@@ -11,9 +11,8 @@ use Rattle.adr_model.specs.Kept.{Kept}
 use Rattle.adr_model.specs.Queries.{Query, answer}
 use Rattle.adr_resolver.specs.declared.command.Command.{Command}
 use Rattle.adr_resolver.specs.declared.command.Command.TheVariants.{Edit, Publish, Condense}
-use Rattle.adr_resolver.specs.Kept.{kept_reply}
 use Rattle.adr_resolver.specs.Line.{line_named}
-use Rattle.adr_resolver.specs.Text.{answer_line, ok_line, published_line, condensed_line, query_of}
+use Rattle.adr_resolver.specs.Text.{ok_line, published_line, condensed_line, query_of}
 
 -- a query is answered from the book; what is none is no line for a reader
 abbrev pub query_answer : Tie → Book → Option Query → Result (List ℕ) Refusal
@@ -37,7 +36,3 @@ line_answer k line = result_and_then (command_answer k) (line_named line)
 -- the answer to a line of a reader
 abbrev pub asked_answer : Tie → Book → List ℕ → Result (List ℕ) Refusal
 asked_answer tie book line = result_and_then (λ command. query_answer tie book (query_of command)) (line_named line)
-
--- the answers are the replies of a script: that of a refused line is `refused NUMBER NAME`
-abbrev pub AnswersAreReplies : Type 0
-AnswersAreReplies = (k : Kept) (line : List ℕ) → answer_line (line_answer k line) ≡ kept_reply k line

@@ -2,4 +2,4 @@
 
 /// The version, the first digits of the checksum of the sources, and the toolchain that they are proved with.
 pub(crate) const RELEASE: &str =
-    "1.4.0 (sources 3fe2f2ceb462, rattle-kit-13f logic dac8208d650f15bf)";
+    "1.5.0 (sources 738d464b7820, rattle-kit-13f logic dac8208d650f15bf)";

@@ -16,12 +16,12 @@ use Rattle.adr_script.specs.Text.{AnswersBy, IsText, IsTextInPart}
 use Rattle.adr_script.proofs.TextLemmas.{told_is_text, alike_IsText}
 use Rattle.adr_resolver.specs.declared.command.Command.{Command}
 use Rattle.adr_resolver.specs.declared.command.Command.TheVariants.{Edit, Publish, Condense, At, List as Listed, Roll, Types}
-use Rattle.adr_resolver.specs.Kept.{IsKept, asked_reply, edit_reply, edit_next, publish_reply, publish_next, kept_command_reply, kept_command_next, kept_reply, kept_next}
+use Rattle.adr_resolver.specs.Kept.{CommandsKeepStep, IsKept, KeptBeginsInStep, LinesKeepStep, asked_reply, edit_reply, edit_next, publish_reply, publish_next, kept_command_reply, kept_command_next, kept_reply, kept_next}
 use Rattle.adr_resolver.specs.Line.{line_named}
 use Rattle.adr_resolver.specs.Text.{published_line, condensed_line, reply_line, answer_line, command_reply, command_next, query_of, query_reply, reply_or, next_or, script_reply, script_next, script_start}
 
-pub kept-start : (tie : Tie) → IsKept (kept_start tie) (script_start tie)
-kept-start tie = record { tie = refl; base = refl; current = refl; published = refl; number = refl }
+pub kept_begins : KeptBeginsInStep
+kept_begins tie = record { tie = refl; base = refl; current = refl; published = refl; number = refl }
 
 -- ---- edits
 
@@ -76,9 +76,11 @@ by_command k s (Ok (Listed id payload_type from to)) h = (asked k s (query_of (L
 by_command k s (Ok (Roll payload_type moment)) h = (asked k s (query_of (Roll payload_type moment)) h, h)
 by_command k s (Ok (Types id)) h = (asked k s (query_of (Types id)) h, h)
 
--- a line is replied the same, and leaves what is kept in step with the state
-pub kept_line : (k : Kept) (s : State) (line : List ℕ) → IsKept k s → (kept_reply k line ≡ script_reply s line) × IsKept (kept_next k line) (script_next s line)
-kept_line k s line h = by_command k s (line_named line) h
+pub commands_keep_step : CommandsKeepStep
+commands_keep_step k s command h = by_command k s (Ok command) h
+
+pub lines_keep_step : LinesKeepStep
+lines_keep_step k s line h = by_command k s (line_named line) h
 
 -- ---- runs
 
@@ -94,8 +96,8 @@ told_text_in_part k s t lines out is (more, told) = (more, told_text k s t lines
 pub script_text : (tie : Tie) (s : Kept) (lines : List (List ℕ)) (out : List ℕ) → s ≡ kept_start tie → IsText kept_reply kept_next s lines out
     → IsText script_reply script_next (script_start tie) lines out
 script_text tie s lines out is =
-    alike_IsText kept_reply kept_next script_reply script_next IsKept (λ k s line. kept_line k s line) s (script_start tie) lines out
-    (subst (λ k. IsKept k (script_start tie)) (sym is) (kept-start tie))
+    alike_IsText kept_reply kept_next script_reply script_next IsKept (λ k s line. lines_keep_step k s line) s (script_start tie) lines out
+    (subst (λ k. IsKept k (script_start tie)) (sym is) (kept_begins tie))
 
 pub script_text_in_part : (tie : Tie) (s : Kept) (lines : List (List ℕ)) (out : List ℕ) → s ≡ kept_start tie → IsTextInPart kept_reply kept_next s lines out
     → IsTextInPart script_reply script_next (script_start tie) lines out

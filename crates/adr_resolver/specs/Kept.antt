@@ -3,15 +3,16 @@ use Rattle.std.specs.Prelude.{◌≡◌, ℕ, ◌+◌, nat_lt, List, [], length,
 use Rattle.adr_value.specs.declared.limits.TheConstants.{MOST_PUBLICATIONS}
 use Rattle.adr_refusal.specs.declared.refusal.Refusal.{Refusal}
 use Rattle.adr_refusal.specs.declared.refusal.Refusal.TheVariants.{Full}
+use Rattle.adr_model.specs.declared.entry.Tie.{Tie}
 use Rattle.adr_model.specs.Book.{Book}
 use Rattle.adr_model.specs.Edits.{full_at, step_to}
 use Rattle.adr_model.specs.Machine.{State, last_book}
 use Rattle.adr_model.specs.Queries.{Query, answer}
-use Rattle.adr_model.specs.Kept.{Kept}
+use Rattle.adr_model.specs.Kept.{Kept, kept_start}
 use Rattle.adr_resolver.specs.declared.command.Command.{Command}
 use Rattle.adr_resolver.specs.declared.command.Command.TheVariants.{Edit, Publish, Condense}
 use Rattle.adr_resolver.specs.Line.{line_named}
-use Rattle.adr_resolver.specs.Text.{ok_line, published_line, condensed_line, refusal_line, answer_line, query_of, reply_or, next_or}
+use Rattle.adr_resolver.specs.Text.{ok_line, published_line, condensed_line, refusal_line, answer_line, command_reply, command_next, query_of, reply_or, next_or, script_reply, script_next, script_start}
 
 abbrev pub edit_reply : Result Book Refusal → List ℕ
 edit_reply (Ok book) = ok_line book.version
@@ -59,3 +60,19 @@ pub record IsKept (k : Kept) (s : State) : Type 0 where
   pub current : k.current ≡ s.current
   pub published : k.published ≡ last_book s
   pub number : k.number + 1 ≡ length s.published
+
+-- at the start it is
+abbrev pub KeptBeginsInStep : Type 0
+KeptBeginsInStep = (tie : Tie) → IsKept (kept_start tie) (script_start tie)
+
+-- it replies to a command as the script does, and is what the state after it has
+abbrev pub CommandsKeepStep : Type 0
+CommandsKeepStep =
+    (k : Kept) (s : State) (command : Command) → IsKept k s
+    → (kept_command_reply k command ≡ command_reply s command) × IsKept (kept_command_next k command) (command_next s command)
+
+-- and so to a line
+abbrev pub LinesKeepStep : Type 0
+LinesKeepStep =
+    (k : Kept) (s : State) (line : List ℕ) → IsKept k s
+    → (kept_reply k line ≡ script_reply s line) × IsKept (kept_next k line) (script_next s line)

@@ -1,5 +1,6 @@
 //! The laws of the script's text.
 ghost use Rattle.adr_resolver.specs.Fan.{FanLeavesTheState, FanRunsTheScript, ReadersMayAnswerAtTheEnd};
+ghost use Rattle.adr_resolver.specs.Kept.{CommandsKeepStep, KeptBeginsInStep, LinesKeepStep};
 ghost use Rattle.adr_resolver.specs.Larger.{LargerLimitsTellTheSame, LimitsGrew};
 ghost use Rattle.adr_resolver.specs.Laws.{LinesTellTheLeastMatching, GovernsTheLeastMatching, PublishedStatesTellTheLeastMatching, PublishedTimelinesGiveTheLeastMatching, LinesAreSteps, AcceptedEditsLeaveTheState, TextsGoOn, RefusalsChangeNothing, RefusedEditsChangeNothing, AcceptedEditsAreKept, QueriesChangeNothing};
 
@@ -45,4 +46,13 @@ pub fn fan_laws()
 pub fn limit_laws()
     ensures same { LargerLimitsTellTheSame }
     ensures grew { LimitsGrew }
+{}
+
+/// What an editor keeps, which has objects and no batches, is in step with the script: it replies to commands and lines
+/// as the script does, from the start on.
+#[tactic(auto, using(crate::proofs::Journals::kept_begins, crate::proofs::Journals::commands_keep_step, crate::proofs::Journals::lines_keep_step))]
+pub fn kept_laws()
+    ensures begin { KeptBeginsInStep }
+    ensures commands { CommandsKeepStep }
+    ensures lines { LinesKeepStep }
 {}
