@@ -1,11 +1,10 @@
 """The resolver of objects, and readers of what it published."""
 import ctypes
-import threading
 from dataclasses import dataclass
 from datetime import datetime, timezone
-from typing import Any, Callable, Dict, List, NamedTuple, Optional, Tuple, Union
+from typing import Any, Callable, Dict, List, NamedTuple, NoReturn, Optional, Tuple, Type, TypeVar, Union
 
-from . import _moments, _objects, _values
+from . import _locks, _moments, _objects, _values
 from ._library import LIBRARY, Handle
 from ._library import State as RawState
 from ._moments import Moment
@@ -15,6 +14,8 @@ from ._values import Value
 
 TIES = {"newest": 0, "latest-start": 1}
 KINDS = {"program": 0, "event": 1, "ven": 2, "resource": 3}
+Room = ctypes.c_char * 512  # more than the reply to any line but a query
+_Its = TypeVar("_Its", bound="_Held")
 
 
 class Published(NamedTuple):
@@ -73,21 +74,33 @@ def _state(words: str) -> State:
 
 
 class _Held:
-    """A handle of the library with the room for its replies. A lock lets one call at a time reach it, as the library asks."""
+    """A handle of the library. A lock lets one thread at a time reach it, as the library asks; a signal handler's call may come between
+    two calls of its thread, and so each call has a room of its own."""
 
     _answers: Any
     _repeats: Any
     _ends: Any
+    _lock_of: Any
+    _in_its_place: str
+    _lock: Any
+    _handle: Handle
+    _last_call: Optional[object]
 
-    def __init__(self) -> None:
-        self._handle = Handle()
-        self._lock = threading.Lock()
-        self._room = ctypes.create_string_buffer(512)
-        self._length = ctypes.c_size_t()
+    def __new__(cls: Type[_Its], *_: Any, **__: Any) -> _Its:
+        held = super().__new__(cls)
+        held._lock = cls._lock_of()
+        held._handle = Handle()
+        held._last_call = None
+        return held
 
     def __del__(self) -> None:
-        if hasattr(self, "_length"):
-            self.close()
+        # At the interpreter's end the lock may be that of a thread which never goes on.
+        if self._lock.acquire(blocking=False):
+            self._ends(self._handle)
+            self._lock.release()
+
+    def __reduce_ex__(self, _: Any) -> NoReturn:
+        raise TypeError(f"a {type(self).__name__} is neither copied nor pickled: {self._in_its_place}")
 
     def close(self) -> None:
         """Gives back what is held. Calls after it are refused 100 Closed; closing once more does nothing."""
@@ -97,26 +110,33 @@ class _Held:
     def line(self, line: Union[str, bytes]) -> str:
         """The reply to a line of the script, which has no line feed. The reply ends with one."""
         sent = line.encode() if isinstance(line, str) else line
-        with self._lock:
-            done(self._answers(self._handle, sent, len(sent), self._room, len(self._room), self._length))
-            return self._reply().decode()
+        return self._reply(self._answers, sent, len(sent)).decode()
 
-    def _reply(self) -> bytes:
-        """The reply to the call just made, asked for once more where there was no room for it."""
-        if self._length.value > len(self._room):
-            self._room = ctypes.create_string_buffer(self._length.value)
-            done(self._repeats(self._handle, self._room, len(self._room), self._length))
-        return ctypes.string_at(self._room, self._length.value)
+    def _reply(self, call: Callable[..., int], *given: Any) -> bytes:
+        """The reply to a call, asked for once more where there was no room for it; if another call came between, all is asked again."""
+        length = ctypes.c_size_t()
+        with self._lock:
+            while True:
+                mine = self._last_call = object()
+                room: Any = Room()
+                done(call(self._handle, *given, room, len(room), length))
+                if length.value > len(room):
+                    room = ctypes.create_string_buffer(length.value)
+                    done(self._repeats(self._handle, room, len(room), length))
+                    if self._last_call is not mine or length.value != len(room):
+                        continue
+                return ctypes.string_at(room, length.value)
 
 
 class Reader(_Held):
     """Answers queries from one publication, until it looks again. Any thread may use it."""
 
     _answers, _repeats, _ends = LIBRARY.kuvteleg_ask, LIBRARY.kuvteleg_answer, LIBRARY.kuvteleg_leave
+    _lock_of = _locks.of_reader
+    _in_its_place = "share() gives a second one, and another process loads its own"
 
     def __init__(self) -> None:
-        super().__init__()
-        self._state = RawState()
+        """A closed reader, until it looks."""
 
     def __enter__(self) -> "Reader":
         return self
@@ -126,6 +146,8 @@ class Reader(_Held):
 
     def look(self, resolver: "Resolver") -> None:
         """Sees the resolver's last publication from now on. It waits for a call of the resolver that is under way, as an edit."""
+        if not isinstance(resolver, Resolver):
+            raise TypeError(f"a look is of a Resolver, and not of {resolver!r}")
         with resolver._lock, self._lock:
             done(LIBRARY.kuvteleg_look(resolver._handle, self._handle))
 
@@ -145,21 +167,13 @@ class Reader(_Held):
 
     def at(self, resource: str, payload_type: str, moment: Moment) -> State:
         """What governs a resource under a payload type at a moment."""
-        name, kind = resource.encode(), payload_type.encode()
-        seconds, nanoseconds = _moments.parts(moment)
-        with self._lock:
-            state = self._state
-            done(
-                LIBRARY.kuvteleg_governor(
-                    self._handle, name, len(name), kind, len(kind), seconds, nanoseconds, state, self._room, len(self._room), self._length
-                )
-            )
-            told = self._reply()
-            until = None if state.is_endless else _moments.moment(state.until_seconds, state.until_nanoseconds)
-            if not state.is_governed:
-                return State(None, None, until, ())
-            event, values = told[: state.event_len], told[state.event_len :]
-            return State(event.decode(), state.interval, until, _values.of_json(values.decode()))
+        name, kind, state = resource.encode(), payload_type.encode(), RawState()
+        told = self._reply(LIBRARY.kuvteleg_governor, name, len(name), kind, len(kind), *_moments.parts(moment), state)
+        until = None if state.is_endless else _moments.moment(state.until_seconds, state.until_nanoseconds)
+        if not state.is_governed:
+            return State(None, None, until, ())
+        event, values = told[: state.event_len], told[state.event_len :]
+        return State(event.decode(), state.interval, until, _values.of_json(values.decode()))
 
     def list(self, resource: str, payload_type: str, start: Moment, end: Moment) -> List[Segment]:
         """The segments of the window from `start` to before `end`, in order of time."""
@@ -188,9 +202,10 @@ class Resolver(_Held):
     """
 
     _answers, _repeats, _ends = LIBRARY.kuvteleg_line, LIBRARY.kuvteleg_reply, LIBRARY.kuvteleg_close
+    _lock_of = _locks.of_resolver
+    _in_its_place = "another process loads its own"
 
     def __init__(self, tie: str = "newest") -> None:
-        super().__init__()
         if tie not in TIES:
             raise ValueError(f"tie is one of {', '.join(TIES)}")
         done(LIBRARY.kuvteleg_open(self._handle, TIES[tie]))
