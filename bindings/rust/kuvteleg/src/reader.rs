@@ -2,6 +2,7 @@ use crate::raw::{self, Handle};
 use crate::refusal::done;
 use crate::{reply, Moment, OwnedState, Published, Refusal, Resolver, Segment, Values};
 use std::cell::UnsafeCell;
+use std::fmt;
 
 /// The bytes that a line may have.
 const LONGEST: usize = 4_194_304;
@@ -249,6 +250,13 @@ impl Reader {
 impl Clone for Reader {
     fn clone(&self) -> Reader {
         self.share().expect("memory for a reader")
+    }
+}
+
+/// Tells none of what it holds.
+impl fmt::Debug for Reader {
+    fn fmt(&self, out: &mut fmt::Formatter<'_>) -> fmt::Result {
+        out.debug_struct("Reader").finish_non_exhaustive()
     }
 }
 

@@ -1,6 +1,7 @@
 use crate::raw::{self, Handle};
 use crate::refusal::done;
 use crate::{Moment, Reader, Refusal};
+use std::fmt;
 
 /// Which of two intervals of one priority governs.
 #[derive(Clone, Copy, Debug, PartialEq, Eq, Hash)]
@@ -134,6 +135,13 @@ impl Resolver {
         let mut reader = Reader::closed();
         reader.look(self)?;
         Ok(reader)
+    }
+}
+
+/// Tells none of what it holds.
+impl fmt::Debug for Resolver {
+    fn fmt(&self, out: &mut fmt::Formatter<'_>) -> fmt::Result {
+        out.debug_struct("Resolver").finish_non_exhaustive()
     }
 }
 
