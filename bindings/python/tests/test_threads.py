@@ -1,4 +1,5 @@
 """Readers in threads beside an editor."""
+import asyncio
 import threading
 import unittest
 
@@ -52,3 +53,31 @@ class Threads(unittest.TestCase):
             for it in threads:
                 it.join()
             self.assertEqual(told, [{"e1"}] * 4)
+
+    def test_a_loop_asks_while_another_thread_loads(self):
+        served = [
+            {"id": "p1", "objectType": "PROGRAM", "programName": "P"},
+            {"id": "v1", "objectType": "VEN", "venName": "V"},
+            *({"id": f"r{i}", "objectType": "RESOURCE", "resourceName": "R", "venID": "v1"} for i in range(2000)),
+        ]
+
+        def load():
+            with Resolver() as fresh:
+                fresh.load(served, NEW_YEAR)
+                fresh.publish()
+                return fresh.reader()
+
+        async def follow(reader):
+            task, answered = asyncio.create_task(asyncio.to_thread(load)), 0
+            while not task.done():
+                self.assertEqual(reader.at("r1", "PRICE", NEW_YEAR).event, "e1")
+                answered += 1
+                await asyncio.sleep(0)
+            return answered, len(task.result().roll("PRICE", NEW_YEAR))
+
+        with Resolver() as resolver:
+            fill(resolver)
+            resolver.publish()
+            answered, count = asyncio.run(follow(resolver.reader()))
+        self.assertGreater(answered, 0)
+        self.assertEqual(count, 2000)
