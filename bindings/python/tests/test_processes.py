@@ -160,6 +160,17 @@ class Signals(Held):
             signal.signal(signal.SIGALRM, before)
         self.assertEqual(set(told), {((17,), 99)})
 
+    def test_a_handler_closes(self):
+        before = signal.signal(signal.SIGALRM, lambda *_: self.reader.close())
+        try:
+            signal.setitimer(signal.ITIMER_REAL, 0.0107)
+            with self.assertRaises(Refusal) as caught:
+                while True:
+                    self.price()
+        finally:
+            signal.signal(signal.SIGALRM, before)
+        self.assertEqual(caught.exception.name, "Closed")
+
 
 class Ends(unittest.TestCase):
     def test_nothing_needs_to_be_closed(self):
