@@ -125,7 +125,7 @@ class _Held:
                     done(self._repeats(self._handle, room, len(room), length))
                     if self._last_call is not mine or length.value != len(room):
                         continue
-                return ctypes.string_at(room, length.value)
+                return bytes(room[: length.value])
 
 
 class Reader(_Held):
