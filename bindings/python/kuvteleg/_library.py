@@ -61,10 +61,14 @@ def _path() -> pathlib.Path:
 
 
 def _load() -> ctypes.CDLL:
-    library = ctypes.CDLL(str(_path()))
-    for name, given in _FUNCTIONS.items():
-        function = getattr(library, name)
-        function.argtypes, function.restype = given, _U32
+    path = _path()
+    try:
+        library = ctypes.CDLL(str(path))
+        for name, given in _FUNCTIONS.items():
+            function = getattr(library, name)
+            function.argtypes, function.restype = given, _U32
+    except (OSError, AttributeError) as fault:
+        raise ImportError(f"kuvteleg: {path} isn't this package's library, for x86-64 Linux with glibc 2.14 or later: {fault}") from fault
     return library
 
 

@@ -1,5 +1,10 @@
 """Calls in words: edits, publications, and what readers are told."""
 import ctypes
+import os
+import pathlib
+import subprocess
+import sys
+import tempfile
 import unittest
 from datetime import datetime, timedelta, timezone
 from decimal import Decimal
@@ -15,6 +20,17 @@ class Layouts(unittest.TestCase):
     def test_structs_are_those_of_the_header(self):
         # bindings/c/test.c compares the header's structs with these sizes.
         self.assertEqual((ctypes.sizeof(_library.Handle), ctypes.sizeof(_library.State)), (16, 40))
+
+    def test_a_library_that_does_not_load(self):
+        asks = "try:\n    import kuvteleg\nexcept ImportError as error:\n    print(error)"
+        with tempfile.TemporaryDirectory() as folder:
+            for content in (None, b"", b"no library"):
+                if content is not None:
+                    pathlib.Path(folder, "libkuvteleg.so").write_bytes(content)
+                environment = {**os.environ, "KUVTELEG_LIB": folder}
+                ran = subprocess.run([sys.executable, "-c", asks], env=environment, stdout=subprocess.PIPE, text=True)
+                self.assertEqual((ran.returncode, ran.stdout.startswith("kuvteleg: ")), (0, True), content)
+                self.assertIn(folder, ran.stdout)
 
 
 class Edits(unittest.TestCase):
