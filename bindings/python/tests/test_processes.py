@@ -148,7 +148,8 @@ class Signals(Held):
 
         def asks(*_):
             told.append((self.price(), len(self.reader.roll("PRICE", NEW_YEAR))))
-            signal.setitimer(signal.ITIMER_REAL, 0.0007)
+            if len(told) < SIGNALS:
+                signal.setitimer(signal.ITIMER_REAL, 0.0007)
 
         before = signal.signal(signal.SIGALRM, asks)
         try:
