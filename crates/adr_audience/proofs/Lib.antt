@@ -8,6 +8,7 @@ pub mod Numbered
 pub mod Listed
 pub mod Placed
 pub mod Named
+pub mod OfVen
 pub mod Edited
 pub mod AskedEdits
 pub mod Followed

@@ -1,6 +1,11 @@
 -- Lists that are gone through by place.
-use Rattle.std.proofs.Common.{◌≡◌, ℕ, ◌+◌, [], ◌∷◌, ◌++◌, List, Option, Some, None, option_map, refl, slice_get, map, take, zero, suc, ap, sym, ◌∙◌, arith}
+use Rattle.std.proofs.Common.{◌≡◌, ℕ, ◌+◌, ◌<◌, [], ◌∷◌, ◌++◌, List, Option, Some, None, length, option_map, refl, slice_get, map, take, zero, suc, ap, sym, ◌∙◌, arith}
 use Rattle.std.proofs.lemmas.List.{map-append}
+
+pub element : {X : Type 0} (xs : List X) (p : ℕ) → p < length xs → (x : X) × (slice_get xs p ≡ Some x)
+element [] p h = absurd (omega arith)
+element (y ∷ ys) zero h = (y, refl)
+element (y ∷ ys) (suc p) h = element ys p (omega arith)
 
 -- the elements so far, and one more
 pub take_next : {X : Type 0} (xs : List X) (p : ℕ) (x : X) → slice_get xs p ≡ Some x → take (p + 1) xs ≡ take p xs ++ x ∷ []

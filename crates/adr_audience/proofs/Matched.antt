@@ -54,7 +54,7 @@ module _ (r : OneResource) (v : OneVen) where
       by true = refl
       by false = none_of_both (Resource a) (no_resource-map a)
 
-  ven_named : (a : List ℕ) → offers_key (offers r v) (Ven a) ≡ bytes_eq a v.ven_name
+  pub ven_named : (a : List ℕ) → offers_key (offers r v) (Ven a) ≡ bytes_eq a v.ven_name
   ven_named a =
       list_any-append (same_key (Ven a)) (Resource r.resource_name ∷ Ven v.ven_name ∷ keys_of r.targets) (keys_of v.targets)
       ∙ by (bytes_eq a v.ven_name)

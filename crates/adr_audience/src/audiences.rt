@@ -1,15 +1,16 @@
 //! Whom events are for, as one value that follows the edits.
-ghost use Rattle.std.specs.Prelude.{◌≡◌, map, IfOk, IsOk, OnOk, OnErr};
+ghost use Rattle.std.specs.Prelude.{◌≡◌, map, Some, IfOk, IsOk, OnOk, OnErr};
 ghost use Rattle.adr_refusal.specs.Answer.{OnlyNoMemory};
 ghost use Rattle.adr_refusal.specs.Copy.{IsCopyOf};
 ghost use Rattle.adr_object.specs.declared.object.Edit.TheVariants.{Create, Change, Remove};
-ghost use Rattle.adr_model.specs.Book.{Book, empty};
+ghost use Rattle.adr_model.specs.Book.{Book, empty, ven_by};
 ghost use Rattle.adr_model.specs.Edits.{made, step};
 ghost use Rattle.adr_model.specs.Whole.{IsWhole};
 ghost use Rattle.adr_audience.specs.Asks.{applying_writes, asked_keys};
 ghost use Rattle.adr_audience.specs.Keys.{AreKeysOf};
 ghost use Rattle.adr_audience.specs.Laws.{applying_places};
 ghost use Rattle.adr_audience.specs.Offers.{offers};
+ghost use Rattle.adr_audience.specs.Rows.{places_of_ven as the_places_of_ven};
 
 use crate::asked::Asked;
 use crate::asking::{add_event, asks_of, follow_event, follow_program, remove_event};
@@ -17,6 +18,7 @@ use crate::candidates::{candidates, numbers_at};
 use crate::offering::{add_resource, follow_resource, follow_ven, offers_of, remove_resource};
 use crate::offers::offered_keys;
 use crate::query::places_for;
+use crate::vens::places_of_ven;
 use adr_keys::Index;
 use adr_object::{Edit, Event, Id, Kind, Object, Program, Resource, Ven};
 use adr_store::Store;
@@ -95,6 +97,21 @@ impl Audiences {
         places_for(&self.resources, self.alloc, event, program)
     }
 
+    /// The places of the resources of the ven, which is the store's, in order of creation.
+    ///
+    /// Cost: a look-up for its name, a pass over the words of a set, a word for 64 places, and a look-up for each
+    /// resource of a ven of that name.
+    ///
+    /// # Errors
+    ///
+    /// `NoMemory` where there is no room for them.
+    pub fn places_of_ven(&self, store: &Store, ven: &Ven) -> Result<Vec<usize>, Refusal>
+        ensures places { AreKeysOf store.now self.now → ven_by store.now ven.now.id ≡ Some ven.now → IfOk result (λ places. places.items ≡ the_places_of_ven store.now ven.now.id) }
+        ensures refusal { OnlyNoMemory result }
+    {
+        places_of_ven(&self.resources, self.alloc, store, ven)
+    }
+
     /// What the resource of the ven offers of the keys that events ask for.
     ///
     /// Cost: a look-up for each key of the resource.
@@ -138,7 +155,8 @@ impl Audiences {
     ///
     /// Cost: a look-up for each key of the resource or event that the edit names, before and after, and the words of
     /// all sets where one goes; of each of its resources for a ven that changes, and of each of its events for a
-    /// program. Programs and vens that come or go change no row.
+    /// program. Then each row is gone over too, and looked up are all events, or the resources of each ven that has
+    /// the name that the ven had. Programs and vens that come or go change no row.
     ///
     /// # Errors
     ///

@@ -11,6 +11,7 @@ mod laws;
 mod offering;
 mod offers;
 mod query;
+mod vens;
 
 pub use adr_keys::{Key, Places};
 pub use asked::Asked;

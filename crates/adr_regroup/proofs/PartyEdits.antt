@@ -1,10 +1,11 @@
 -- Edits of vens and resources: what they leave as it was, and which places they leave to be seen to.
 use Rattle.std.proofs.Common.{◌≡◌, ℕ, zero, suc, ◌+◌, ◌<◌, ◌==◌, ◌||◌, inl, inr, Bool, true, false, not, cond, if◌then◌else◌, List, [], ◌∷◌, ◌++◌, length, map, filter, remove, slice_get, Option, Some, None, is_some, Result, Ok, Err, IsOk, refl, ap, sym, subst, ◌∙◌, arith, eqb-true, eq-eqb, nat_le}
-use Rattle.std.proofs.lemmas.Bool.{both_ways, not-false}
+use Rattle.std.proofs.lemmas.Bool.{and_parts, both_ways, not-false}
 use Rattle.std.proofs.lemmas.List.{length-map}
+use Rattle.std.proofs.lemmas.List.FromFn.{length-range_with_len}
 use Rattle.std.proofs.lemmas.Option.{slice_get_within, slice_get-map}
 use Rattle.std.proofs.lemmas.Slice.Eq.{bytes_eq-Decides}
-use Rattle.std.specs.List.{AllByRecursion, IsDistinct}
+use Rattle.std.specs.List.{AllByRecursion, IsDistinct, range_with_len}
 use Rattle.std.specs.Option.{option_map, option_map_or}
 use Rattle.std.specs.Str.{bytes_eq}
 use Rattle.adr_value.specs.declared.limits.TheConstants.{MOST_VERSION}
@@ -29,7 +30,10 @@ use Rattle.adr_model.specs.Whole.{IsWhole}
 use Rattle.adr_model.proofs.EditLemmas.{accepted}
 use Rattle.adr_model.proofs.Lists.{same_bytes}
 use Rattle.adr_model.proofs.Steps.{no_fault, no_faults_before, no_faults_after}
+use Rattle.adr_audience.specs.Rows.{is_of_ven, places_of_ven}
+use Rattle.adr_audience.proofs.Followed.{changed_is_there}
 use Rattle.adr_audience.proofs.Matched.{bytes_eq-flip}
+use Rattle.adr_audience.proofs.OfVen.{own_within}
 use Rattle.adr_audience.proofs.Placed.{by_id, found_beside, found_other, none_has}
 use Rattle.adr_group.specs.Group.{Lines}
 use Rattle.adr_schedule.specs.Moves.{is_among}
@@ -38,9 +42,10 @@ use Rattle.adr_schedule.specs.Seating.{group_at, has_at, AreRight, AreSeatedFor,
 use Rattle.adr_lines.specs.Right.{has_number}
 use Rattle.adr_schedule.proofs.Places.{after_gone, count_gone, was_at}
 use Rattle.adr_regroup.specs.Party.{id_of_edit, AreOfVen, AreSeatedBut, KeepsEvents}
+use Rattle.adr_regroup.proofs.Applying.{among_filter, fewer, passes}
 use Rattle.adr_regroup.proofs.Placing.{has_group, has_place, number_at}
 use Rattle.adr_regroup.proofs.Reseated.{applies_same}
-use Rattle.adr_regroup.proofs.Sums.{none_stand}
+use Rattle.adr_regroup.proofs.Sums.{none_stand, range_stands}
 use Rattle.adr_regroup.specs.Kinds.{kind_of_edit}
 
 -- ---- what the edits leave
@@ -141,8 +146,21 @@ none_goes old ven_kind id h i = none_of_ven old id (λ r m. by (step old (Remove
     by (Err f) e j r m = absurd (cc)
     by (Ok b) e j r m = none_has (λ (q : Resource). bytes_eq id q.ven_id) old.resources (ven_unnamed old id (accepted old b (Remove ven_kind id) e).0) r m
 
-below_or_last : (p n : ℕ) → p < n + 1 → (p ≡ n → ⊥) → p < n
-below_or_last p n h apart = omega (arith, h, apart)
+-- a ven that changes is there
+pub ven_changes : (old : Book) (o : Object) → kind_of_edit (Change o) ≡ ven_kind → IsOk (step old (Change o)) → is_some (ven_by old (id_of o)) ≡ true
+ven_changes old o h k = subst (λ (x : Kind). has_id old x (id_of o) ≡ true) h (changed_is_there old o k)
+
+-- those of its resources are listed
+pub own_places : (book : Book) (id : List ℕ) → AreOfVen book id (length book.resources) (places_of_ven book id)
+own_places book id =
+    let n = length book.resources in
+    let own = is_of_ven book id in
+    record {
+      of_ven = λ p r at l. passes own 0 n p (omega arith) (omega arith) ∙ ap (λ (o : Option Resource). option_map_or (λ r. bytes_eq id r.ven_id) o false) at;
+      before = λ p h. own_within book id p (and_parts (is_among (range_with_len 0 n) p) (own p) (sym (among_filter own (range_with_len 0 n) p) ∙ h)).1;
+      few = omega (arith, fewer own (range_with_len 0 n), length-range_with_len 0 n);
+      once = range_stands own n;
+    }
 
 -- ---- an edit of a ven leaves the places of its resources to be seen to
 

@@ -58,7 +58,7 @@ fn reseated_in<C: Fn(&Indexes, &[Job]) -> Result<Vec<Done>, Refusal>>(
 /// The schedule after an edit of a ven. One that comes or goes has no resources. One that changes may have other events
 /// apply to each of its resources: see `Schedule::rewritten`.
 ///
-/// Cost: where a ven changes a look at each resource, and for those of the ven a query of the keys and
+/// Cost: where a ven changes `Audiences::places_of_ven`, and for each of its resources a query of the keys and
 /// `Schedule::rewritten`.
 ///
 /// # Errors
@@ -80,7 +80,7 @@ pub fn after_ven<C: Fn(&Indexes, &[Job]) -> Result<Vec<Done>, Refusal>>(
 {
     edited.old.book_laws();
     edited.new.book_laws();
-    let places = places_for(alloc, edited.old, edited.edit)?;
+    let places = places_for(alloc, edited.old, edited.keys, edited.edit)?;
     let same = edited.schedule.copy()?;
     let after = reseated_in(alloc, crew, edited, same, &places, meter)?;
     Ok(after)
