@@ -298,10 +298,10 @@ impl Desk {
     /// event's; of a program that changes, a look at each event, and for those of the program that of the resources
     /// to which it comes to apply or does no more, and then all keys anew; of a resource, or of each of a ven that
     /// changes, the events that apply to it and their entries, and a look at up to 127 groups near it for one to
-    /// share; of a ven, also a look at each resource; of an event or a resource that goes, a pass over the keys. Of the
-    /// table of seats, four bytes a resource, a piece of two kilobytes is copied for each resource that comes or gets
-    /// other writes, all of it for one that goes, and what is written of it at an edit of an event, where some members
-    /// of a group change and others don't.
+    /// share; of a ven, also a look at each resource of a ven of its name, and a step for each other resource; of an
+    /// event or a resource that goes, a pass over the keys. Of the table of seats, four bytes a resource, a piece of
+    /// two kilobytes is copied for each resource that comes or gets other writes, all of it for one that goes, and what
+    /// is written of it at an edit of an event, where some members of a group change and others don't.
     ///
     /// Memory beside what is kept: the index of a payload type keeps empty chunks of some 7 KiB ready, one for each
     /// entry of an event, or one for each 32 of them and for each chunk that it has, where those are fewer.
