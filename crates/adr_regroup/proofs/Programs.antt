@@ -1,5 +1,5 @@
 -- Edits of programs: what they leave as it was.
-use Rattle.std.proofs.Common.{◌≡◌, ℕ, ◌+◌, ◌||◌, Bool, true, false, not, if◌then◌else◌, List, [], ◌++◌, Option, Some, None, is_some, refl, ap, ap₂, sym, subst, ◌∙◌, Ok, nat_le}
+use Rattle.std.proofs.Common.{◌≡◌, ℕ, ◌||◌, Bool, true, false, not, List, [], ◌++◌, Option, Some, None, is_some, refl, ap, ap₂, sym, subst, ◌∙◌, Ok, nat_le}
 use Rattle.std.proofs.lemmas.Bool.{not-false}
 use Rattle.std.specs.Option.{option_map_or, option_map, option_and_then}
 use Rattle.std.specs.Str.{bytes_eq}

@@ -1,11 +1,10 @@
 -- What an edit of a ven or of a resource asks of the schedule.
-use Rattle.std.specs.Prelude.{◌≡◌, ◌<◌, ◌≤◌, ℕ, Bool, true, false, List, [], length, flat_map, slice_get, Some, if◌then◌else◌}
+use Rattle.std.specs.Prelude.{◌≡◌, ◌<◌, ◌≤◌, ℕ, true, false, List, [], length, flat_map, slice_get, Some, if◌then◌else◌}
 use Rattle.std.specs.Option.{option_map_or}
 use Rattle.std.specs.Str.{bytes_eq}
 use Rattle.adr_value.specs.declared.payload.PayloadType.{PayloadType}
 use Rattle.adr_object.specs.declared.object.Edit.{Edit}
 use Rattle.adr_object.specs.declared.object.Edit.TheVariants.{Create, Change, Remove}
-use Rattle.adr_object.specs.declared.object.Object.{Object}
 use Rattle.adr_object.specs.Object.{id_of}
 use Rattle.adr_object.specs.declared.party.Resource.{Resource}
 use Rattle.adr_object.specs.declared.party.Ven.{Ven}

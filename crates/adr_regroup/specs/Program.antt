@@ -1,9 +1,7 @@
 -- What an edit of a program does to the seating.
 use Rattle.std.specs.Prelude.{◌≡◌, ◌<◌, ◌≤◌, ℕ, Bool, true, false, List, get_or, length, Some, slice_get}
-use Rattle.adr_object.specs.declared.object.Object.{Object}
 use Rattle.adr_object.specs.declared.object.Object.TheVariants.{Program as program}
-use Rattle.adr_object.specs.declared.object.Edit.{Edit}
-use Rattle.adr_object.specs.declared.object.Edit.TheVariants.{Create, Change, Remove}
+use Rattle.adr_object.specs.declared.object.Edit.TheVariants.{Change}
 use Rattle.adr_object.specs.declared.party.Program.{Program as OneProgram}
 use Rattle.adr_object.specs.declared.party.Resource.{Resource}
 use Rattle.adr_model.specs.declared.written.Written.{Written}

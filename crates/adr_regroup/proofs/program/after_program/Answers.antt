@@ -1,4 +1,4 @@
-use Rattle.std.proofs.Common.{◌≡◌, Ok, subst, sym, true}
+use Rattle.std.proofs.Common.{◌≡◌, Ok, subst, sym}
 use Rattle.adr_object.specs.declared.object.Edit.{Edit}
 use Rattle.adr_model.specs.Edits.{step}
 use Rattle.adr_schedule.specs.Seating.{Seating, AreSeatedFor}

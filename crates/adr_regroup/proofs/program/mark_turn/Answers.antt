@@ -1,4 +1,4 @@
-use Rattle.std.proofs.Common.{◌≡◌, [], ℕ, List, ap, subst, sym, ◌∙◌}
+use Rattle.std.proofs.Common.{[], ℕ, List, ap, subst, sym, ◌∙◌}
 use Rattle.std.specs.Option.{option_copied}
 use Rattle.adr_lines.specs.Grouped.{written_event}
 use Rattle.adr_model.proofs.Lists.{same_bytes}
