@@ -117,6 +117,7 @@ fn is_whole(windows: &[Entry], spans: &[Span]) -> bool {
 fn covered_windows(
     alloc: Global,
     given: &Given,
+    met: &Timeline,
     windows: &[Entry],
     spans: &[Span],
 ) -> Result<Vec<Entry>, Refusal>
@@ -128,7 +129,7 @@ fn covered_windows(
 {
     if windows.len() <= FEW && !is_whole(windows, spans) {
         let parts = parts_of(alloc, windows, spans)?;
-        if may_build(alloc, given, windows, &parts)? {
+        if may_build(alloc, given, met, windows, &parts)? {
             return Ok(parts);
         }
     }
@@ -154,5 +155,5 @@ pub(crate) fn governed_windows(
     }
     let met = line.met(windows)?;
     let spans = governed_spans(alloc, &met, number)?;
-    covered_windows(alloc, given, windows, &spans)
+    covered_windows(alloc, given, &met, windows, &spans)
 }

@@ -13,8 +13,8 @@ use crate::governed::open_spans;
 use crate::line::Given;
 use crate::met::{common, compares_enough};
 use adr_model::Entry;
-use adr_time::Span;
-use adr_timeline::Source;
+use adr_time::{End, Span};
+use adr_timeline::{Source, Timeline};
 use adr_value::Refusal;
 use std::alloc::Global;
 
@@ -89,32 +89,54 @@ fn most_built(alloc: Global, given: &Given, windows: &[Entry]) -> Result<Option<
     Ok(Some(most))
 }
 
-/// From the start of the first part to the end of that behind the first eighth of them.
-fn first_parts(parts: &[Entry]) -> Option<Span> {
-    let first = parts.first()?;
-    let behind = parts.get(parts.len() / 8 + 1).or(parts.last())?;
-    Some(Span {
-        start: first.span.start,
-        end: behind.span.end,
-    })
+/// Where the line's segment of that place ends, or where its last one does that has no such place.
+fn end_of(line: &Timeline, place: usize) -> Option<End> {
+    let mut end = None;
+    let mut left = place;
+    for chunk in line.segments() {
+        let segments = chunk.segments();
+        if let Some(segment) = segments.get(left) {
+            return Some(segment.end());
+        }
+        left -= segments.len();
+        end = segments.last().map(|segment| segment.end()).or(end);
+    }
+    end
 }
 
-/// Whether building inside the parts surely compares no more than building inside the windows. `NoMemory` where there is
-/// no room for what is looked at. Cost: a search of the index for each part, and one more.
+/// Under how many of the segments that windows meet is looked, one number after the other, until enough is given there.
+const LOOKS: [usize; 6] = [4, 16, 64, 256, 1024, 4096];
+
+/// Whether building inside the parts surely compares no more than building inside the windows, of which `met` is what
+/// they meet. `NoMemory` where there is no room for what is looked at. Cost: a search of the index for each part, and
+/// some under the first segments that the windows meet, under four times as many each time, until enough is given there.
 pub(crate) fn may_build(
     alloc: Global,
     given: &Given,
+    met: &Timeline,
     windows: &[Entry],
     parts: &[Entry],
 ) -> Result<bool, Refusal>
     ensures may { IfOk result (λ may. may ≡ true → most_inside given.now.writes.now (indexed (option_copied given.now.index)) parts.now ≤ most_inside given.now.writes.now (indexed (option_copied given.now.index)) windows.now) }
     ensures memory { OnlyNoMemory result }
 {
-    let Some(near) = first_parts(parts) else {
+    let (Some(first), Some(most)) = (windows.first(), most_built(alloc, given, parts)?) else {
         return Ok(false);
     };
-    match most_built(alloc, given, parts)? {
-        Some(most) => compares_enough(alloc, given, windows, &near, most),
-        None => Ok(false),
+    for count in LOOKS {
+        let Some(end) = end_of(met, count) else {
+            return Ok(false);
+        };
+        let near = Span {
+            start: first.span.start,
+            end,
+        };
+        if compares_enough(alloc, given, windows, &near, most)? {
+            return Ok(true);
+        }
+        if met.has_at_most(count) {
+            return Ok(false);
+        }
     }
+    Ok(false)
 }

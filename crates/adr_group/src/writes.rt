@@ -97,11 +97,32 @@ impl Writes {
         Writes { numbers }
     }
 
+    /// Whether the number stands where it would if the numbers had no gaps, as those of events that were written one
+    /// after the other.
+    fn has_in_turn(&self, number: u64) -> bool
+        ensures { result ≡ true → has_number self.now number ≡ true }
+    {
+        let Some(first) = self.numbers.first() else {
+            return false;
+        };
+        match number.checked_sub(*first) {
+            Some(place) => self.numbers.get(place as usize) == Some(&number),
+            None => false,
+        }
+    }
+
     /// Whether the number is among them, by a binary search.
-    pub fn has(&self, number: u64) -> bool
+    fn is_found(&self, number: u64) -> bool
         ensures { result ≡ has_number self.now number }
     {
         self.numbers.binary_search(&number).is_ok()
+    }
+
+    /// Whether the number is among them: by one look where they have no gaps before it, else by a binary search.
+    pub fn has(&self, number: u64) -> bool
+        ensures { result ≡ has_number self.now number }
+    {
+        self.has_in_turn(number) || self.is_found(number)
     }
 
     /// The numbers, ascending.

@@ -174,7 +174,7 @@ fn put_all(table: &mut Table, tops: &mut [Reach], new: &[Entry], changed: Stretc
     stretch
 }
 
-/// Makes room for the ends of that many chunks.
+/// Makes room for the ends of that many chunks, and at least twice as much as before, so that it is seldom done.
 fn widen(chunks: &[Chunk], tops: &mut Vec<Reach>, wanted: usize) -> Result<(), AllocError>
     requires chunks { AreChunks chunks.now }
     requires lengths { length chunks.now ≤ length tops.old.items }
@@ -186,7 +186,8 @@ fn widen(chunks: &[Chunk], tops: &mut Vec<Reach>, wanted: usize) -> Result<(), A
     if wanted <= tops.len() {
         return Ok(());
     }
-    tops.resize(wanted, Reach::nothing())?;
+    let room = wanted.max(tops.len().saturating_mul(2));
+    tops.resize(room, Reach::nothing())?;
     refresh(chunks, tops);
     Ok(())
 }

@@ -1,7 +1,7 @@
 use Rattle.std.proofs.Common.{ap, ◌∙◌}
 use Rattle.adr_lines.specs.Right.{has_number}
 use Rattle.adr_group.proofs.Numbers.{found_has}
-use Rattle.adr_group.proofs.writes.Writes.has.Goals as goal
+use Rattle.adr_group.proofs.writes.Writes.is_found.Goals as goal
 
 pub returns : goal.returns
 returns c =
