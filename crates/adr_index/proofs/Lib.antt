@@ -1,4 +1,5 @@
 pub mod Asked
+pub mod ByEnd
 pub mod Depth
 pub mod Found
 pub mod Fresh

@@ -6,7 +6,7 @@ use Rattle.adr_model.specs.declared.entry.Entry.{Entry}
 use Rattle.adr_model.specs.Entries.{is_listed_before}
 use Rattle.adr_index.specs.declared.chunk.Chunk.{Chunk}
 use Rattle.adr_index.specs.Index.{IsOrdered}
-use Rattle.adr_index.specs.Tree.{only, IsGreatest, IsTree}
+use Rattle.adr_index.specs.Tree.{HasEnds, IsGreatest}
 
 -- the entries of a chunk
 abbrev pub listed : Chunk → List Entry
@@ -30,24 +30,26 @@ pub record IsRoomy (c : Chunk) : Type 0 where
   pub room : 64 < vec_capacity c.entries
   pub nodes : 64 ≤ length c.greatest.items
 
--- the greatest end of entries, over the tree of their ends
-pub record HasEnds (es : List Entry) (gs : List (Option End)) (end : Option End) : Type 0 where
-  pub levels : ℕ
-  pub enough : length es ≤ 2 ^ levels
-  pub tree : IsTree only 8 levels es gs
-  pub greatest : IsGreatest end es
-
 -- the last of the entries starts then
 abbrev pub StartsLast : ℤ → List Entry → Type 0
 StartsLast t es = (d : Entry) → (slice_index_or es (length es - 1) d).span.start ≡ t
 
--- some entries, at most 64, with the tree of their ends
+-- some entries, at most 64, in order of their ends or with the tree of these
 pub record IsChunk (c : Chunk) : Type 0 where
   pub roomy : IsRoomy c
   pub some : 0 < length (listed c)
   pub few : length (listed c) ≤ 64
-  pub ends : HasEnds (listed c) c.greatest.items c.end
+  pub ends : HasEnds c.is_by_end (listed c) c.greatest.items
+  pub end : IsGreatest c.end (listed c)
   pub last : StartsLast c.last (listed c)
+
+-- the entries stay, and the chunk's ends and last start are theirs
+pub record IsSettled (old new : Chunk) : Type 0 where
+  pub entries : new.entries ≡ old.entries
+  pub nodes : length new.greatest.items ≡ length old.greatest.items
+  pub ends : HasEnds new.is_by_end (listed new) new.greatest.items
+  pub end : IsGreatest new.end (listed new)
+  pub last : 0 < length (listed new) → StartsLast new.last (listed new)
 
 -- room for a chunk
 abbrev pub IsPooled : Chunk → Type 0

@@ -1,5 +1,5 @@
 -- A tree of greatest ends over parts of a list of entries in order of their starts.
-use Rattle.std.specs.Prelude.{◌≡◌, ℕ, zero, suc, ◌-◌, ◌<◌, ◌≤◌, ◌/◌, ◌^◌, min, ⊤, Bool, false, ◌||◌, List, [], ◌∷◌, length, take, drop, Option, Some, None, if◌then◌else◌, ℤ, ◌≤ℤ◌, slice_index_or}
+use Rattle.std.specs.Prelude.{◌≡◌, ℕ, zero, suc, ◌-◌, ◌<◌, ◌≤◌, ◌/◌, ◌^◌, min, ⊤, Bool, true, false, ◌||◌, List, [], ◌∷◌, length, take, drop, Option, Some, None, if◌then◌else◌, ℤ, ◌≤ℤ◌, slice_index_or}
 use Rattle.std.specs.List.{AllByRecursion, flat_map}
 use Rattle.adr_time.specs.Spans.{is_before, lasts, later_end}
 use Rattle.adr_time.specs.declared.span.End.{End}
@@ -38,12 +38,6 @@ IsTree f few (suc h) xs gs =
     IsGreatest (slice_index_or gs (length xs / 2 - 1) None) (flat_map f xs)
     × (few < length xs → IsTree f few h (take (length xs / 2) xs) (take (length xs / 2 - 1) gs) × IsTree f few h (drop (length xs / 2) xs) (drop (length xs / 2) gs))
 
--- a tree of enough levels
-pub record HasTree {A : Type 0} (f : A → List Entry) (few : ℕ) (xs : List A) (gs : List (Option End)) : Type 0 where
-  pub levels : ℕ
-  pub enough : length xs ≤ 2 ^ levels
-  pub tree : IsTree f few levels xs gs
-
 -- a tree but for what it has of the parts from a place up to another
 abbrev pub IsTreeBut : {A : Type 0} → (A → List Entry) → ℕ → ℕ → ℕ → ℕ → List A → List (Option End) → Type 0
 IsTreeBut f few zero from to xs gs = ⊤
@@ -60,3 +54,23 @@ greater_end (Some e) (Some f) = Some (later_end e f)
 -- the entry's end, where the entry covers some instant
 abbrev pub own_end : Entry → Option End
 own_end e = if lasts e.span then Some e.span.end else None
+
+-- past each instant that the second entry lasts past, the first does too
+abbrev pub Outlasts : Entry → Entry → Type 0
+Outlasts f e = (t : ℤ) → lasts_past e t ≡ true → lasts_past f t ≡ true
+
+-- in order of their ends
+abbrev pub IsByEnd : List Entry → Type 0
+IsByEnd [] = ⊤
+IsByEnd (e ∷ es) = AllByRecursion (λ f. Outlasts f e) es × IsByEnd es
+
+-- the entries are in order of their ends, where it is said so, else under a tree of these
+abbrev pub AreSearched : Bool → ℕ → List Entry → List (Option End) → Type 0
+AreSearched true h es gs = IsByEnd es
+AreSearched false h es gs = IsTree only 8 h es gs
+
+-- that with enough levels
+pub record HasEnds (by_end : Bool) (es : List Entry) (gs : List (Option End)) : Type 0 where
+  pub levels : ℕ
+  pub enough : length es ≤ 2 ^ levels
+  pub searched : AreSearched by_end levels es gs

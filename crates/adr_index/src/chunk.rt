@@ -1,11 +1,12 @@
 //! A chunk of an index: some entries in order, under a tree of their ends.
-ghost use Rattle.std.specs.Prelude.{◌≡◌, ◌+◌, ◌-◌, ◌*◌, ◌<◌, ◌≤◌, ◌++◌, ◌∷◌, [], ◌^◌, IfNone, IfOk, IfSome, OnOk, length, vec_capacity};
+ghost use Rattle.std.specs.Prelude.{◌≡◌, ◌+◌, ◌-◌, ◌*◌, ◌<◌, ◌≤◌, ◌++◌, ◌∷◌, [], ◌^◌, true, IfNone, IfOk, IfSome, OnOk, length, take, drop, vec_capacity};
 ghost use Rattle.std.specs.List.{remove_range};
-ghost use Rattle.adr_index.specs.Chunks.{listed_too, ArePooled, HasEnds, IsChunk, IsPooled, IsRoomy, StartsLast};
+ghost use Rattle.adr_index.specs.Chunks.{listed_too, ArePooled, IsChunk, IsPooled, IsRoomy, IsSettled, StartsLast};
 ghost use Rattle.adr_index.specs.Query.{any_late, hits, looks};
-ghost use Rattle.adr_index.specs.Tree.{IsByStart};
+ghost use Rattle.adr_index.specs.Tree.{IsByEnd, IsByStart};
 ghost use Rattle.adr_index.specs.Index.{inserted, inserted_all, others_all, IsOrdered};
 
+use crate::by_end::{are_by_end, fits, last_of};
 use crate::order::{comes_before, place_of};
 use crate::query::Query;
 use crate::reach::Reach;
@@ -18,11 +19,12 @@ use std::alloc::{AllocError, Global};
 /// How many entries a chunk has at most.
 const MOST: usize = 64;
 
-/// Some entries in order, with the tree of their ends, the greatest of these, and when the last entry starts. Its room
-/// is taken at once.
+/// Some entries in order, whether that is the order of their ends too, else the tree of these, the greatest end, and when
+/// the last entry starts. Its room is taken at once.
 #[derive(Drop)]
 pub(crate) struct Chunk {
     pub(crate) entries: Vec<Entry>,
+    pub(crate) is_by_end: bool,
     pub(crate) greatest: Vec<Reach>,
     pub(crate) end: Reach,
     pub(crate) last: Moment,
@@ -86,16 +88,20 @@ fn take_each(entries: &mut Vec<Entry>, run: &[Entry])
     take_between(entries, kept, read);
 }
 
-/// Adds an entry in its place. Those behind it are moved at once, which for one is faster than to merge.
-fn insert_one(entries: &mut Vec<Entry>, entry: &Entry)
+/// Adds an entry in its place, and answers which that is. Those behind it are moved at once, which for one is faster than
+/// to merge.
+fn insert_one(entries: &mut Vec<Entry>, entry: &Entry) -> usize
     requires order { IsOrdered entries.old.items }
     requires room { length entries.old.items < vec_capacity entries.old }
     ensures entries { entries.new.items ≡ inserted entry.now entries.old.items }
+    ensures within { result < length entries.new.items }
+    ensures others { take result entries.new.items ++ drop (result + 1) entries.new.items ≡ entries.old.items }
     ensures more { length entries.new.items ≡ length entries.old.items + 1 }
     ensures room { vec_capacity entries.old ≤ vec_capacity entries.new }
 {
     let place = place_of(entries, entries.len() / 2, entry);
     let _ = entries.insert(place, *entry);
+    place
 }
 
 /// Adds the entries of the run, which are in order and for which there is room, each in its place. It is merged from
@@ -108,10 +114,6 @@ fn insert_each(entries: &mut Vec<Entry>, run: &[Entry])
     ensures more { length entries.new.items ≡ length entries.old.items + length run.now }
     ensures room { vec_capacity entries.old ≤ vec_capacity entries.new }
 {
-    if run.len() == 1 {
-        insert_one(entries, &run[0]);
-        return;
-    }
     let mut left = entries.len();
     let mut coming = run.len();
     let _ = entries.extend_from_slice(run);
@@ -136,23 +138,64 @@ impl Chunk {
         let greatest = Vec::from_elem(alloc, Reach::nothing(), MOST)?;
         Ok(Chunk {
             entries,
+            is_by_end: true,
             greatest,
             end: Reach::nothing(),
             last: Moment::MIN,
         })
     }
 
-    /// Writes the tree anew, and when the last entry starts.
+    /// Writes of entries that are in order of their ends when the last one starts and ends.
+    fn settle(&mut self)
+        requires order { IsByEnd self.old.entries.items }
+        requires by_end { self.old.is_by_end ≡ true }
+        ensures { IsSettled self.old self.new }
+    {
+        self.end = last_of(&self.entries);
+        self.last = last_start(&self.entries);
+    }
+
+    /// Looks whether the entries are in order of their ends, writes the tree of these where they aren't, and when the
+    /// last entry starts.
     fn refresh(&mut self)
         requires { length self.old.entries.items ≤ length self.old.greatest.items + 1 }
-        ensures entries { self.new.entries ≡ self.old.entries }
-        ensures nodes { length self.new.greatest.items ≡ length self.old.greatest.items }
-        ensures ends { HasEnds self.new.entries.items self.new.greatest.items self.new.end }
-        ensures last { 0 < length self.new.entries.items → StartsLast self.new.last self.new.entries.items }
+        ensures { IsSettled self.old self.new }
     {
+        self.is_by_end = are_by_end(&self.entries);
+        if self.is_by_end {
+            self.settle();
+            return;
+        }
         let levels = digits(self.entries.len());
         self.end = rebuild(levels, &self.entries, &mut self.greatest);
         self.last = last_start(&self.entries);
+    }
+
+    /// Does so where the entry at the place alone has come.
+    fn refresh_at(&mut self, place: usize)
+        requires lengths { length self.old.entries.items ≤ length self.old.greatest.items + 1 }
+        requires within { place < length self.old.entries.items }
+        requires others { self.old.is_by_end ≡ true → IsByEnd (take place self.old.entries.items ++ drop (place + 1) self.old.entries.items) }
+        ensures { IsSettled self.old self.new }
+    {
+        if self.is_by_end && fits(&self.entries, place) {
+            self.settle();
+        } else {
+            self.refresh();
+        }
+    }
+
+    /// Does so where entries have gone.
+    fn refresh_left(&mut self)
+        requires lengths { length self.old.entries.items ≤ length self.old.greatest.items + 1 }
+        requires order { self.old.is_by_end ≡ true → IsByEnd self.old.entries.items }
+        ensures { IsSettled self.old self.new }
+    {
+        if self.is_by_end {
+            self.settle();
+        } else {
+            self.refresh();
+        }
     }
 
     /// Adds the first entry.
@@ -197,10 +240,9 @@ impl Chunk {
         ensures same { IfNone result ((length self.new.entries.items ≤ length self.old.entries.items + 1) × (length pool.new.items ≡ length pool.old.items)) }
         ensures parted { IfSome result (λ other. (length self.old.entries.items ≡ 64) × (length self.new.entries.items ≡ 32) × (length other.entries.items ≡ 33) × (length pool.new.items + 1 ≡ length pool.old.items)) }
     {
-        let place = place_of(&self.entries, self.entries.len() / 2, &entry);
-        let _ = self.entries.insert(place, entry);
+        let place = insert_one(&mut self.entries, &entry);
         if self.entries.len() <= MOST {
-            self.refresh();
+            self.refresh_at(place);
             return None;
         }
         let Some(mut other) = pool.pop() else {
@@ -222,7 +264,7 @@ impl Chunk {
         ensures chunk { 0 < length self.new.entries.items → IsChunk self.new }
     {
         take_each(&mut self.entries, run);
-        self.refresh();
+        self.refresh_left();
     }
 
     /// Adds the entries of the run, which are in order and for which there is room.
@@ -235,6 +277,11 @@ impl Chunk {
         ensures chunk { IsChunk self.new }
         ensures more { length self.new.entries.items ≡ length self.old.entries.items + length run.now }
     {
+        if run.len() == 1 {
+            let place = insert_one(&mut self.entries, &run[0]);
+            self.refresh_at(place);
+            return;
+        }
         insert_each(&mut self.entries, run);
         self.refresh();
     }
@@ -282,6 +329,14 @@ impl Chunk {
         ensures late { IfOk result (λ is_late. is_late ≡ any_late self.now.entries.items query.now) }
         ensures looks { meter.new ≤ meter.old + looks depth self.now.entries.items query.now }
     {
-        search(depth, &self.entries, &self.greatest, query, found, meter)
+        search(
+            depth,
+            self.is_by_end,
+            &self.entries,
+            &self.greatest,
+            query,
+            found,
+            meter,
+        )
     }
 }

@@ -1,6 +1,7 @@
 #![tactic(auto)]
 //! The entries of a payload type in order, found by the moments and windows that they cover.
 
+mod by_end;
 mod chunk;
 mod index;
 mod order;

@@ -1,5 +1,5 @@
 //! The greatest end of some entries.
-ghost use Rattle.std.specs.Prelude.{◌≡◌, None};
+ghost use Rattle.std.specs.Prelude.{◌≡◌, ℤ, IsTrue, None, true};
 ghost use Rattle.adr_index.specs.Tree.{comes_after, greater_end, own_end};
 
 use adr_model::Entry;
@@ -71,6 +71,14 @@ impl Reach {
         } else {
             self
         }
+    }
+
+    /// Whether the end is the other one, or a later one.
+    #[inline(always)]
+    pub(crate) fn is_from(self, other: Reach) -> bool
+        ensures { IsTrue result → (t : ℤ) → comes_after other t ≡ true → comes_after self t ≡ true }
+    {
+        other.number <= self.number
     }
 
     /// Whether the end lies after the moment.

@@ -3,8 +3,9 @@
 ghost use Rattle.std.specs.Prelude.{◌≡◌, ◌+◌, ◌*◌, ◌<◌, ◌≤◌, ◌^◌, ◌++◌, IfOk, OnOk, length};
 ghost use Rattle.adr_index.specs.Index.{digits as digits_of};
 ghost use Rattle.adr_index.specs.Query.{any_late, hits, if_hit, looks};
-ghost use Rattle.adr_index.specs.Tree.{any_lasts, only, IsByStart, HasTree, IsGreatest, IsTree};
+ghost use Rattle.adr_index.specs.Tree.{any_lasts, only, AreSearched, HasEnds, IsByStart, IsGreatest, IsTree};
 
+use crate::by_end::last_of;
 use crate::query::{Query, is_hit, is_late};
 use crate::reach::Reach;
 use adr_model::Entry;
@@ -66,21 +67,25 @@ fn scan(
     Ok(false)
 }
 
-/// Whether an entry ends after what is asked for begins, as their tree has it.
-fn any_reaches(entries: &[Entry], greatest: &[Reach], query: &Query) -> bool
+/// Whether an entry ends after what is asked for begins, as the last one does or as their tree has it.
+fn any_reaches(is_by_end: bool, entries: &[Entry], greatest: &[Reach], query: &Query) -> bool
     requires some { 1 < length entries.now }
     requires lengths { length entries.now ≤ length greatest.now + 1 }
-    requires tree { HasTree only 8 entries.now greatest.now }
+    requires ends { HasEnds is_by_end entries.now greatest.now }
     ensures { result ≡ any_lasts entries.now query.now.from }
 {
+    if is_by_end {
+        return last_of(entries).is_past(query.from);
+    }
     greatest[entries.len() / 2 - 1].is_past(query.from)
 }
 
 /// Adds the entries that are asked for, in order, and answers whether it came to one that lasts and starts too late.
-/// Each look at an entry or at an end is a tick. A level more than the entries need pays for the few that are gone
-/// through one by one.
+/// They are in order of their ends too, or have a tree of these. Each look at an entry or at an end is a tick. A level
+/// more than the entries need pays for the few that are gone through one by one.
 pub(crate) fn search(
     levels: u32,
+    is_by_end: bool,
     entries: &[Entry],
     greatest: &[Reach],
     query: &Query,
@@ -89,7 +94,7 @@ pub(crate) fn search(
 ) -> Result<bool, AllocError>
     requires levels { 2 * length entries.now ≤ 2 ^ levels }
     requires lengths { length entries.now ≤ length greatest.now + 1 }
-    requires tree { IsTree only 8 levels entries.now greatest.now }
+    requires ends { AreSearched is_by_end levels entries.now greatest.now }
     requires order { IsByStart entries.now }
     ensures found { OnOk result (found.new.items ≡ found.old.items ++ hits entries.now query.now) }
     ensures late { IfOk result (λ is_late. is_late ≡ any_late entries.now query.now) }
@@ -101,7 +106,7 @@ pub(crate) fn search(
     }
     let middle = count / 2;
     meter.tick();
-    if !any_reaches(entries, greatest, query) {
+    if !any_reaches(is_by_end, entries, greatest, query) {
         return Ok(false);
     }
     if count <= FEW {
@@ -110,10 +115,10 @@ pub(crate) fn search(
     let (left, right) = entries.split_at(middle);
     let (front, _) = greatest.split_at(middle - 1);
     let (_, back) = greatest.split_at(middle);
-    if search(levels - 1, left, front, query, found, meter)? {
+    if search(levels - 1, is_by_end, left, front, query, found, meter)? {
         return Ok(true);
     }
-    search(levels - 1, right, back, query, found, meter)
+    search(levels - 1, is_by_end, right, back, query, found, meter)
 }
 
 /// The greatest end of the few entries.

@@ -6,6 +6,6 @@ pub loop-chunk-preserved : goal.loop-chunk-preserved
 loop-chunk-preserved c =
     let chunk = each_here c.args.chunks.now c.loop-chunk.chunk-index c.chunk-item.result c.loop-chunk-test.true c.chunk-item.is IsChunk c.loop-chunk.invariant.chunks in
     record {
-      after = λ t. rw c.later-greatest.ensures (lasts_rest c.args.chunks.now c.loop-chunk.chunk-index c.chunk-item.result c.loop-chunk-test.true c.chunk-item.is t c.loop-chunk.greatest _ (c.loop-chunk.invariant.after t) (chunk.ends.greatest t));
+      after = λ t. rw c.later-greatest.ensures (lasts_rest c.args.chunks.now c.loop-chunk.chunk-index c.chunk-item.result c.loop-chunk-test.true c.chunk-item.is t c.loop-chunk.greatest _ (c.loop-chunk.invariant.after t) (chunk.end t));
       chunks = each_rest c.args.chunks.now c.loop-chunk.chunk-index c.chunk-item.result c.loop-chunk-test.true c.chunk-item.is IsChunk c.loop-chunk.invariant.chunks;
     }

@@ -2,8 +2,8 @@ use Rattle.std.proofs.Common.{rules, ◌≡◌, ◌<◌, length, true, false, sy
 use Rattle.std.proofs.lemmas.List.{append-nil}
 use Rattle.adr_index.specs.Query.{any_late}
 use Rattle.adr_index.specs.Tree.{any_lasts}
-use Rattle.adr_index.specs.Tree.{only}
-use Rattle.adr_index.proofs.Grown.{few_spared, level_some, spare_left, spare_right, tree_at}
+use Rattle.adr_index.proofs.ByEnd.{searched_halves}
+use Rattle.adr_index.proofs.Grown.{few_spared, level_some, spare_left, spare_right}
 use Rattle.adr_index.proofs.Searched.{none_last, none_late_last, found_left, looks_left, looks_both, looks_few, starts_left, starts_right}
 use Rattle.adr_index.proofs.tree.+search.Goals as goal
 
@@ -38,7 +38,7 @@ search-requires t c =
         (
           omega (arith, c.split_at.ensures.front_len, c.split_at-2.ensures.front_len),
           (
-            rw (c.split_at.ensures.front, c.split_at-2.ensures.front) ((tree_at only 8 c.args.levels c.args.entries.now c.args.greatest.now level two c.requires.tree).1 more).0,
+            rw (c.split_at.ensures.front, c.split_at-2.ensures.front) (searched_halves c.args.is_by_end c.args.levels c.args.entries.now c.args.greatest.now level more c.requires.ends).0,
             starts_left c.split_at.result.0.now c.split_at.result.1.now (rw whole at c.requires.order),
           ),
         ),
@@ -78,7 +78,7 @@ search-requires-2 t c =
         (
           omega (arith, c.split_at.ensures.back_len, c.split_at-3.ensures.back_len, c.requires.lengths),
           (
-            rw (c.split_at.ensures.back, c.split_at-3.ensures.back) ((tree_at only 8 c.args.levels c.args.entries.now c.args.greatest.now level two c.requires.tree).1 more).1,
+            rw (c.split_at.ensures.back, c.split_at-3.ensures.back) (searched_halves c.args.is_by_end c.args.levels c.args.entries.now c.args.greatest.now level more c.requires.ends).1,
             starts_right c.split_at.result.0.now c.split_at.result.1.now (rw whole at c.requires.order),
           ),
         ),

@@ -1,7 +1,8 @@
-use Rattle.adr_index.specs.Tree.{only}
-use Rattle.adr_index.proofs.Grown.{tree_levels}
+use Rattle.std.proofs.Common.{◌*◌, ◌≤◌, ◌^◌}
+use Rattle.adr_index.proofs.ByEnd.{searched_levels}
 use Rattle.adr_index.proofs.chunk.Chunk.search.Goals as goal
 
-pub search-requires-clause-tree : goal.search-requires-clause-tree
-search-requires-clause-tree c =
-    rw (c.deref.ensures.value, c.deref-2.ensures.value) (tree_levels only 8 c.requires.chunk.ends.levels c.args.depth c.args.self.now.entries.items c.args.self.now.greatest.items c.requires.chunk.ends.enough c.requires.chunk.ends.tree)
+pub search-requires-clause-ends : goal.search-requires-clause-ends
+search-requires-clause-ends c =
+    let ends = c.requires.chunk.ends in
+    rw (c.deref.ensures.value, c.deref-2.ensures.value) (searched_levels c.args.self.now.is_by_end ends.levels c.args.depth c.args.self.now.entries.items c.args.self.now.greatest.items ends.enough ends.searched)
