@@ -1,4 +1,4 @@
-//! A chunk of an index: some entries in order, under a tree of their ends.
+//! A chunk of an index: some entries in order, which is that of their ends too, or else under a tree of these.
 ghost use Rattle.std.specs.Prelude.{◌≡◌, ◌+◌, ◌-◌, ◌*◌, ◌<◌, ◌≤◌, ◌++◌, ◌∷◌, [], ◌^◌, true, IfNone, IfOk, IfSome, OnOk, length, take, drop, vec_capacity};
 ghost use Rattle.std.specs.List.{remove_range};
 ghost use Rattle.adr_index.specs.Chunks.{listed_too, ArePooled, IsChunk, IsPooled, IsRoomy, IsSettled, StartsLast};

@@ -322,12 +322,12 @@ impl Index {
     /// Takes out what stands in the place of an old entry, with its start, written number and place, and adds the new
     /// ones, as when an event is written again. It takes no memory: a chunk that is emptied is kept for later.
     ///
-    /// Cost: for entries that come in order each chunk of theirs is searched once, those of its entries that stand from
-    /// the first of theirs on, at most 64, are gone through and moved once, and its tree is written once; entries in
-    /// another order are taken out and added one by one. The tree over the chunks is written once, from the first of
-    /// theirs to the last, a step for each of these, or, where there are 32 chunks and more for each entry, along the
-    /// paths to theirs. Where a chunk is parted or emptied it is written whole, a step for each chunk, and the chunks
-    /// behind that one are moved.
+    /// Cost: for entries that come in order each chunk of theirs is searched once, and those of its entries that stand from
+    /// the first of theirs on, at most 64, are gone through and moved once. Where they are not in order of their ends, a
+    /// tree of these is written once. Entries in another order are taken out and added one by one. The tree over the chunks
+    /// is written once, from the first of theirs to the last, a step for each of these, or, where there are 32 chunks and
+    /// more for each entry, along the paths to theirs. Where a chunk is parted or emptied it is written whole, a step for
+    /// each chunk, and the chunks behind that one are moved.
     pub fn replace(&mut self, old: &[Entry], new: &[Entry])
         requires room { length new.now ≤ self.old.spare }
         requires fresh { AreNew new.now (others_all old.now self.old.entries) }
