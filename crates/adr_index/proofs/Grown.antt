@@ -82,7 +82,7 @@ later_after None h t = refl
 later_after (Some e) None t = or_false (is_before t e)
 later_after (Some e) (Some f) t = max_after e f t
 
-own_after : (e : Entry) (t : ℤ) → comes_after (own_end e) t ≡ lasts_past e t
+pub own_after : (e : Entry) (t : ℤ) → comes_after (own_end e) t ≡ lasts_past e t
 own_after e t = either (lasts e.span)
   where
     either : (b : Bool) → comes_after (cond b (Some e.span.end) None) t ≡ (b && is_before t e.span.end)

@@ -1,5 +1,6 @@
 pub mod Asked
 pub mod Depth
+pub mod Exchanged
 pub mod Found
 pub mod Fresh
 pub mod Grown

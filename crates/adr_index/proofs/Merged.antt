@@ -35,7 +35,7 @@ before_stays : (x : Entry) (run xs : List Entry) → AllByRecursion (λ e. is_li
 before_stays x [] xs h = refl
 before_stays x (r ∷ run) xs h = rw h.0 (before_stays x run (others r xs) h.1)
 
-same_goes : (r x : Entry) (xs : List Entry) → IsOrdered (x ∷ xs) → is_listed_before x r ≡ false → is_listed_before r x ≡ false → others r (x ∷ xs) ≡ xs
+pub same_goes : (r x : Entry) (xs : List Entry) → IsOrdered (x ∷ xs) → is_listed_before x r ≡ false → is_listed_before r x ≡ false → others r (x ∷ xs) ≡ xs
 same_goes r x xs o h k = rw (h, k) (others_before r xs (rest_after r x xs o h))
 
 none_goes : (r x : Entry) (xs : List Entry) → IsOrdered (x ∷ xs) → is_listed_before x r ≡ false → is_listed_before r x ≡ true → others r (x ∷ xs) ≡ x ∷ xs
@@ -71,7 +71,7 @@ last_comes r run es h k =
 -- ---- the steps of taking a run out of entries that were read up to a place, of which those that stay were written
 
 -- what is left of a list, from its next on
-next : (es : List Entry) (i : ℕ) (x : Entry) → i < length es → x ≡ get_or es i x → drop i es ≡ x ∷ drop (i + 1) es
+pub next : (es : List Entry) (i : ℕ) (x : Entry) → i < length es → x ≡ get_or es i x → drop i es ≡ x ∷ drop (i + 1) es
 next es i x lt read = drop_more es i x lt ∙ ap (λ (y : Entry). y ∷ drop (i + 1) es) (sym read)
 
 -- nothing is taken of what comes before all of the run

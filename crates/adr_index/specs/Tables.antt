@@ -1,7 +1,8 @@
 -- The chunks of an index with their pool.
-use Rattle.std.specs.Prelude.{◌≡◌, ◌⊎◌, ℕ, ◌+◌, ◌-◌, ◌*◌, ◌^◌, ◌<◌, ◌≤◌, true, List, [], ◌∷◌, Option, length, vec_capacity, slice_set}
-use Rattle.std.specs.List.{list_any}
+use Rattle.std.specs.Prelude.{◌≡◌, ◌⊎◌, ℕ, ◌+◌, ◌-◌, ◌*◌, ◌^◌, ◌<◌, ◌≤◌, ◌==◌, true, false, List, [], ◌∷◌, ◌++◌, Option, length, take, drop, vec_capacity, slice_set, slice_index_or}
+use Rattle.std.specs.List.{list_all, list_any, AllByRecursion}
 use Rattle.adr_model.specs.declared.entry.Entry.{Entry}
+use Rattle.adr_model.specs.Entries.{is_listed_before}
 use Rattle.adr_index.specs.declared.table.Table.{Table}
 use Rattle.adr_time.specs.declared.span.End.{End}
 use Rattle.adr_index.specs.declared.chunk.Chunk.{Chunk}
@@ -62,3 +63,27 @@ pub record IsIndex (t : Table) (gs : List (Option End)) : Type 0 where
   pub table : IsTable t
   pub enough : length t.chunks.items + length t.pool.items ≤ length gs
   pub tops : HasTops t.chunks.items gs
+
+-- an entry stands in the place of another: those before it come before that one, and all but it are the others
+pub record IsStanding (place : ℕ) (e : Entry) (es : List Entry) : Type 0 where
+  pub inside : place < length es
+  pub before : AllByRecursion (λ x. is_listed_before x e ≡ true) (take place es)
+  pub others : others e es ≡ take place es ++ drop (place + 1) es
+
+-- an old entry stands in a chunk, at a place of it, to which a later new one belongs too
+pub record IsExchanged (chunk_place place : ℕ) (old new : Entry) (cs : List Chunk) : Type 0 where
+  pub inside : chunk_place < length cs
+  pub chunk : Chunk
+  pub is : chunk ≡ slice_index_or cs chunk_place chunk
+  pub standing : IsStanding place old (listed chunk)
+  pub later : is_listed_before old new ≡ true
+  pub before : AllByRecursion (λ x. is_listed_before x old ≡ true) (all_listed (take chunk_place cs))
+  pub old_after : AllByRecursion (λ x. is_listed_before old x ≡ true) (all_listed (drop (chunk_place + 1) cs))
+  pub new_after : AllByRecursion (λ x. is_listed_before new x ≡ true) (all_listed (drop (chunk_place + 1) cs))
+
+-- as many new entries as old ones, of which all have a written number that no new one has
+pub record ArePairs (old new : List Entry) : Type 0 where
+  pub many : length old ≡ length new
+  pub number : ℕ
+  pub gone : list_all (λ e. e.rank.written == number) old ≡ true
+  pub come : list_any (λ e. e.rank.written == number) new ≡ false

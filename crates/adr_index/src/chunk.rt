@@ -1,9 +1,10 @@
 //! A chunk of an index: some entries in order, under a tree of their ends.
-ghost use Rattle.std.specs.Prelude.{◌≡◌, ◌+◌, ◌-◌, ◌*◌, ◌<◌, ◌≤◌, ◌++◌, ◌∷◌, [], ◌^◌, IfNone, IfOk, IfSome, OnOk, length, vec_capacity};
-ghost use Rattle.std.specs.List.{remove_range};
+ghost use Rattle.std.specs.Prelude.{◌≡◌, ◌+◌, ◌-◌, ◌*◌, ◌<◌, ◌≤◌, ◌++◌, ◌∷◌, [], ◌^◌, true, IfNone, IfOk, IfSome, OnOk, drop, length, map, slice_set, take, vec_capacity};
+ghost use Rattle.std.specs.List.{remove_range, AllByRecursion};
+ghost use Rattle.adr_model.specs.Entries.{is_listed_before};
 ghost use Rattle.adr_index.specs.Chunks.{listed_too, ArePooled, HasEnds, IsChunk, IsPooled, IsRoomy, StartsLast};
 ghost use Rattle.adr_index.specs.Query.{any_late, hits, looks};
-ghost use Rattle.adr_index.specs.Tree.{IsByStart};
+ghost use Rattle.adr_index.specs.Tree.{own_end, IsByStart};
 ghost use Rattle.adr_index.specs.Index.{inserted, inserted_all, others_all, IsOrdered};
 
 use crate::order::{comes_before, place_of};
@@ -127,6 +128,39 @@ fn insert_each(entries: &mut Vec<Entry>, run: &[Entry])
     }
 }
 
+/// Writes an entry over another, and answers whether both have the same end.
+fn write_over(entries: &mut Vec<Entry>, place: usize, entry: Entry) -> bool
+    requires inside { place < length entries.old.items }
+    ensures entries { entries.new.items ≡ slice_set entries.old.items place entry }
+    ensures ends { result ≡ true → map own_end entries.new.items ≡ map own_end entries.old.items }
+    ensures room { vec_capacity entries.old ≤ vec_capacity entries.new }
+{
+    let is_alike = Reach::of(&entries[place]).is(Reach::of(&entry));
+    entries[place] = entry;
+    is_alike
+}
+
+/// Adds an entry in its place, and takes out the one at a place before that, so that only those between them move.
+/// Answers whether each place keeps its end.
+fn exchange_at(entries: &mut Vec<Entry>, from: usize, entry: &Entry) -> bool
+    requires order { IsOrdered entries.old.items }
+    requires inside { from < length entries.old.items }
+    requires before { AllByRecursion (λ x. is_listed_before x entry.now ≡ true) (take from entries.old.items) }
+    ensures entries { entries.new.items ≡ inserted entry.now (take from entries.old.items ++ drop (from + 1) entries.old.items) }
+    ensures ends { result ≡ true → map own_end entries.new.items ≡ map own_end entries.old.items }
+    ensures count { length entries.new.items ≡ length entries.old.items }
+    ensures room { vec_capacity entries.old ≤ vec_capacity entries.new }
+{
+    let mut place = from;
+    let mut is_alike = true;
+    while place + 1 < entries.len() && comes_before(&entries[place + 1], entry) {
+        let next = entries[place + 1];
+        is_alike &= write_over(entries, place, next);
+        place += 1;
+    }
+    is_alike & write_over(entries, place, *entry)
+}
+
 impl Chunk {
     /// Room for a chunk, and no entries.
     pub(crate) fn empty(alloc: Global) -> Result<Chunk, AllocError>
@@ -237,6 +271,24 @@ impl Chunk {
     {
         insert_each(&mut self.entries, run);
         self.refresh();
+    }
+
+    /// Adds an entry in its place, and takes out the one at a place before that. The tree is written anew only where an
+    /// end has changed its place.
+    pub(crate) fn exchange(&mut self, place: usize, entry: &Entry)
+        requires chunk { IsChunk self.old }
+        requires order { IsOrdered self.old.entries.items }
+        requires inside { place < length self.old.entries.items }
+        requires before { AllByRecursion (λ x. is_listed_before x entry.now ≡ true) (take place self.old.entries.items) }
+        ensures entries { self.new.entries.items ≡ inserted entry.now (take place self.old.entries.items ++ drop (place + 1) self.old.entries.items) }
+        ensures count { length self.new.entries.items ≡ length self.old.entries.items }
+        ensures chunk { IsChunk self.new }
+    {
+        if !exchange_at(&mut self.entries, place, entry) {
+            self.refresh();
+            return;
+        }
+        self.last = last_start(&self.entries);
     }
 
     /// For how many more entries there is room.

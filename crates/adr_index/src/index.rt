@@ -1,13 +1,13 @@
 //! Entries in order, found by the moments and windows that they cover.
-ghost use Rattle.std.specs.Prelude.{◌≡◌, ◌+◌, ◌*◌, ◌<◌, ◌≤◌, [], false, length, IfOk, IsOk, OnOk, OnErr};
-ghost use Rattle.std.specs.List.{list_any};
+ghost use Rattle.std.specs.Prelude.{◌≡◌, ◌==◌, ◌+◌, ◌*◌, ◌<◌, ◌≤◌, [], true, false, length, IfOk, IsOk, OnOk, OnErr};
+ghost use Rattle.std.specs.List.{list_all, list_any};
 ghost use Rattle.std.specs.List.Sorted.{IsPermutation};
 ghost use Rattle.adr_refusal.specs.Answer.{OnlyNoMemory};
 ghost use Rattle.adr_model.specs.Entries.{covering, meeting, IsListed};
 ghost use Rattle.adr_index.specs.Chunks.{all_listed, listed, AreChunks};
 ghost use Rattle.adr_index.specs.Index.{inserted, inserted_all, is_entry, most_probes, others_all, without, AreDistinct, AreNew, IsOrdered};
 ghost use Rattle.adr_index.specs.Query.{hits};
-ghost use Rattle.adr_index.specs.Tables.{HasTops, HasTopsBut, IsTable};
+ghost use Rattle.adr_index.specs.Tables.{ArePairs, HasTops, HasTopsBut, IsTable};
 
 use crate::chunk::Chunk;
 use crate::order::sort;
@@ -119,11 +119,11 @@ fn are_far(chunks: &[Chunk], entries: &[Entry]) -> bool
 }
 
 /// Takes out what stands in the places of the old entries, those of one chunk together, and answers of which chunks the
-/// tree is still to be written.
-fn take_all(table: &mut Table, tops: &mut [Reach], old: &[Entry]) -> Stretch
+/// tree is still to be written, where it was so of some.
+fn take_all(table: &mut Table, tops: &mut [Reach], old: &[Entry], changed: Stretch) -> Stretch
     requires table { IsTable table.old }
     requires lengths { length table.old.chunks.items + length table.old.pool.items ≤ length tops.old }
-    requires tops { HasTops table.old.chunks.items tops.old }
+    requires tops { HasTopsBut changed.from changed.to table.old.chunks.items tops.old }
     ensures table { IsTable table.new }
     ensures entries { all_listed table.new.chunks.items ≡ others_all old.now (all_listed table.old.chunks.items) }
     ensures spare { table.old.spare ≤ table.new.spare }
@@ -132,7 +132,7 @@ fn take_all(table: &mut Table, tops: &mut [Reach], old: &[Entry]) -> Stretch
     ensures tops { HasTopsBut result.from result.to table.new.chunks.items tops.new }
 {
     let is_far = are_far(&table.chunks, old);
-    let mut stretch = Stretch::none();
+    let mut stretch = changed;
     let mut near = 0;
     let mut rest = old;
     while !rest.is_empty() {
@@ -172,6 +172,121 @@ fn put_all(table: &mut Table, tops: &mut [Reach], new: &[Entry], changed: Stretc
         (_, rest) = rest.split_at(run.given);
     }
     stretch
+}
+
+/// Whether all entries have the written number.
+fn have_number(entries: &[Entry], number: u64) -> bool
+    ensures { result ≡ list_all (λ e. e.rank.written == number) entries.now }
+{
+    entries.iter().all(|entry| entry.rank.written == number)
+}
+
+/// Whether some entry has the written number.
+fn any_has_number(entries: &[Entry], number: u64) -> bool
+    ensures { result ≡ list_any (λ e. e.rank.written == number) entries.now }
+{
+    entries.iter().any(|entry| entry.rank.written == number)
+}
+
+/// Whether there are as many new entries as old ones, of which all have a written number that no new one has, so that
+/// no new one stands in the place of an old one.
+fn are_pairs(old: &[Entry], new: &[Entry]) -> bool
+    ensures { result ≡ true → ArePairs old.now new.now }
+{
+    let Some(first) = old.first() else {
+        return false;
+    };
+    let number = first.rank.written;
+    if old.len() != new.len() || any_has_number(new, number) {
+        return false;
+    }
+    have_number(old, number)
+}
+
+/// Exchanges the old entry for the new one, in its chunk if both belong there, and answers the place of the chunk, or
+/// `near`, and of which chunks the tree is still to be written.
+fn exchange_one(
+    table: &mut Table,
+    tops: &mut [Reach],
+    near: usize,
+    old: &[Entry],
+    new: &[Entry],
+    changed: Stretch,
+) -> (usize, Stretch)
+    requires old { length old.now ≡ 1 }
+    requires new { length new.now ≡ 1 }
+    requires table { IsTable table.old }
+    requires spare { 0 < table.old.spare }
+    requires fresh { AreNew new.now (others_all old.now (all_listed table.old.chunks.items)) }
+    requires lengths { length table.old.chunks.items + length table.old.pool.items ≤ length tops.old }
+    requires tops { HasTopsBut changed.from changed.to table.old.chunks.items tops.old }
+    ensures table { IsTable table.new }
+    ensures entries { all_listed table.new.chunks.items ≡ inserted_all new.now (others_all old.now (all_listed table.old.chunks.items)) }
+    ensures spare { table.old.spare ≤ table.new.spare + 1 }
+    ensures sum { length table.new.chunks.items + length table.new.pool.items ≤ length table.old.chunks.items + length table.old.pool.items }
+    ensures nodes { length tops.new ≡ length tops.old }
+    ensures tops { HasTopsBut result.1.from result.1.to table.new.chunks.items tops.new }
+{
+    let place = table.exchange(near, &old[0], &new[0]);
+    if let Some(home) = place {
+        return (home, changed.with(place, table.chunks.len()));
+    }
+    let stretch = take_all(table, tops, old, changed);
+    let stretch = put_all(table, tops, new, stretch);
+    (near, stretch)
+}
+
+/// Exchanges each old entry for the new one of its pair, and answers of which chunks the tree is still to be written.
+fn exchange_all(table: &mut Table, tops: &mut [Reach], old: &[Entry], new: &[Entry]) -> Stretch
+    requires pairs { ArePairs old.now new.now }
+    requires table { IsTable table.old }
+    requires spare { length new.now ≤ table.old.spare }
+    requires fresh { AreNew new.now (others_all old.now (all_listed table.old.chunks.items)) }
+    requires lengths { length table.old.chunks.items + length table.old.pool.items ≤ length tops.old }
+    requires tops { HasTops table.old.chunks.items tops.old }
+    ensures table { IsTable table.new }
+    ensures entries { all_listed table.new.chunks.items ≡ inserted_all new.now (others_all old.now (all_listed table.old.chunks.items)) }
+    ensures spare { table.old.spare ≤ table.new.spare + length new.now }
+    ensures sum { length table.new.chunks.items + length table.new.pool.items ≤ length table.old.chunks.items + length table.old.pool.items }
+    ensures nodes { length tops.new ≡ length tops.old }
+    ensures tops { HasTopsBut result.from result.to table.new.chunks.items tops.new }
+{
+    let is_far = are_far(&table.chunks, old);
+    let mut stretch = Stretch::none();
+    let mut near = 0;
+    let mut going = old;
+    let mut coming = new;
+    while !coming.is_empty() {
+        let (gone, later) = going.split_at(1);
+        let (come, rest) = coming.split_at(1);
+        (near, stretch) = exchange_one(table, tops, near, gone, come, stretch);
+        stretch = write_far(&table.chunks, tops, stretch, is_far);
+        going = later;
+        coming = rest;
+    }
+    stretch
+}
+
+/// Takes out what stands in the places of the old entries, and adds the new ones, pair by pair where that comes to the
+/// same, and answers of which chunks the tree is still to be written.
+fn change(table: &mut Table, tops: &mut [Reach], old: &[Entry], new: &[Entry]) -> Stretch
+    requires table { IsTable table.old }
+    requires spare { length new.now ≤ table.old.spare }
+    requires fresh { AreNew new.now (others_all old.now (all_listed table.old.chunks.items)) }
+    requires lengths { length table.old.chunks.items + length table.old.pool.items ≤ length tops.old }
+    requires tops { HasTops table.old.chunks.items tops.old }
+    ensures table { IsTable table.new }
+    ensures entries { all_listed table.new.chunks.items ≡ inserted_all new.now (others_all old.now (all_listed table.old.chunks.items)) }
+    ensures spare { table.old.spare ≤ table.new.spare + length new.now }
+    ensures sum { length table.new.chunks.items + length table.new.pool.items ≤ length table.old.chunks.items + length table.old.pool.items }
+    ensures nodes { length tops.new ≡ length tops.old }
+    ensures tops { HasTopsBut result.from result.to table.new.chunks.items tops.new }
+{
+    if are_pairs(old, new) {
+        return exchange_all(table, tops, old, new);
+    }
+    let taken = take_all(table, tops, old, Stretch::none());
+    put_all(table, tops, new, taken)
 }
 
 /// Makes room for the ends of that many chunks, and at least twice as much as before, so that it is seldom done.
@@ -322,20 +437,25 @@ impl Index {
     /// Takes out what stands in the place of an old entry, with its start, written number and place, and adds the new
     /// ones, as when an event is written again. It takes no memory: a chunk that is emptied is kept for later.
     ///
-    /// Cost: for entries that come in order each chunk of theirs is searched once, those of its entries that stand from
-    /// the first of theirs on, at most 64, are gone through and moved once, and its tree is written once; entries in
-    /// another order are taken out and added one by one. The tree over the chunks is written once, from the first of
-    /// theirs to the last, a step for each of these, or, where there are 32 chunks and more for each entry, along the
-    /// paths to theirs. Where a chunk is parted or emptied it is written whole, a step for each chunk, and the chunks
-    /// behind that one are moved.
+    /// Cost: entries are exchanged in pairs where as many go as come, all old ones have one written number, and no new
+    /// one has it. Their chunk is searched once. If the new entry comes behind the old one and belongs to that chunk, only
+    /// those between the two are moved, and the chunk's tree is written only where an end changes its place; else the one
+    /// is taken out, and the other added.
+    ///
+    /// Other entries are taken out first, and then added. Where they come in order each chunk of theirs is searched once,
+    /// those of its entries that stand from the first of theirs on, at most 64, are gone through and moved once, and its
+    /// tree is written once; entries in another order are taken out and added one by one.
+    ///
+    /// The tree over the chunks is written once, from the first of theirs to the last, a step for each of these, or, where
+    /// there are 32 chunks and more for each entry, along the paths to theirs. Where a chunk is parted or emptied it is
+    /// written whole, a step for each chunk, and the chunks behind that one are moved.
     pub fn replace(&mut self, old: &[Entry], new: &[Entry])
         requires room { length new.now ≤ self.old.spare }
         requires fresh { AreNew new.now (others_all old.now self.old.entries) }
         ensures entries { self.new.entries ≡ inserted_all new.now (others_all old.now self.old.entries) }
         ensures spare { self.old.spare ≤ self.new.spare + length new.now }
     {
-        let changed = take_all(&mut self.table, &mut self.tops, old);
-        let stretch = put_all(&mut self.table, &mut self.tops, new, changed);
+        let stretch = change(&mut self.table, &mut self.tops, old, new);
         write(&self.table.chunks, &mut self.tops, stretch);
     }
 

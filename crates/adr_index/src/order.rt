@@ -1,10 +1,11 @@
 //! The order in which an index lists its entries.
-ghost use Rattle.std.specs.Prelude.{◌≡◌, ◌≤◌, ◌<◌, true, false, length, take, drop};
+ghost use Rattle.std.specs.Prelude.{◌≡◌, ◌≤◌, ◌<◌, true, false, length, take, drop, IfSome};
 ghost use Rattle.std.specs.List.{insert, AllByRecursion};
 ghost use Rattle.std.specs.List.Sorted.{IsPermutation};
 ghost use Rattle.std.specs.Ordering.{is_lt};
 ghost use Rattle.adr_model.specs.Entries.{is_listed_before};
 ghost use Rattle.adr_index.specs.Index.{inserted, is_entry, AreDistinct, IsOrdered};
+ghost use Rattle.adr_index.specs.Tables.{IsStanding};
 
 use adr_model::Entry;
 use std::cmp::Ordering;
@@ -57,6 +58,18 @@ pub(crate) fn place_of(entries: &[Entry], near: usize, entry: &Entry) -> usize
         place += 1;
     }
     place
+}
+
+/// Where an entry stands in the place of this one, if one does.
+pub(crate) fn standing_at(entries: &[Entry], entry: &Entry) -> Option<usize>
+    requires order { IsOrdered entries.now }
+    ensures { IfSome result (λ place. IsStanding place entry.now entries.now) }
+{
+    let place = place_of(entries, entries.len() / 2, entry);
+    if place >= entries.len() || comes_before(entry, &entries[place]) {
+        return None;
+    }
+    Some(place)
 }
 
 /// How the first entry stands to the second in an index.

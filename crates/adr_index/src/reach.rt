@@ -1,5 +1,5 @@
 //! The greatest end of some entries.
-ghost use Rattle.std.specs.Prelude.{◌≡◌, None};
+ghost use Rattle.std.specs.Prelude.{◌≡◌, true, None};
 ghost use Rattle.adr_index.specs.Tree.{comes_after, greater_end, own_end};
 
 use adr_model::Entry;
@@ -71,6 +71,14 @@ impl Reach {
         } else {
             self
         }
+    }
+
+    /// Whether both are the same.
+    #[inline(always)]
+    pub(crate) fn is(self, other: Reach) -> bool
+        ensures { result ≡ true → self ≡ other }
+    {
+        self.number == other.number
     }
 
     /// Whether the end lies after the moment.

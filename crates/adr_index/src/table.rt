@@ -4,11 +4,11 @@ ghost use Rattle.std.specs.List.{AllByRecursion, list_any};
 ghost use Rattle.adr_model.specs.Entries.{is_listed_before};
 ghost use Rattle.adr_index.specs.Chunks.{all_listed, AreChunks, ArePooled, EndsBefore, GoTogether, IsChunk, IsPooled};
 ghost use Rattle.adr_index.specs.declared.chunk.Chunk.{Chunk as AnyChunk};
-ghost use Rattle.adr_index.specs.Tables.{IsChangedAt, IsFound, IsSure, IsTable, Spends};
-ghost use Rattle.adr_index.specs.Index.{inserted, inserted_all, is_entry, others_all, without, AreNew, IsOrdered};
+ghost use Rattle.adr_index.specs.Tables.{IsChangedAt, IsExchanged, IsFound, IsSure, IsTable, Spends};
+ghost use Rattle.adr_index.specs.Index.{inserted, inserted_all, is_entry, others, others_all, without, AreNew, IsOrdered};
 
 use crate::chunk::Chunk;
-use crate::order::{comes_before, is_entry};
+use crate::order::{comes_before, is_entry, standing_at};
 use adr_model::Entry;
 use std::alloc::{AllocError, Global};
 
@@ -265,6 +265,42 @@ fn put_any(chunks: &mut Vec<Chunk>, pool: &mut Vec<Chunk>, entry: Entry) -> Opti
     put_among(chunks, pool, entry)
 }
 
+/// The chunk where an entry stands in the place of the old one, and its place there, if the new one comes behind it and
+/// belongs to that chunk. The chunk is searched for behind that at `near` first.
+fn exchange_place(chunks: &[Chunk], near: usize, old: &Entry, new: &Entry) -> Option<(usize, usize)>
+    requires chunks { AreChunks chunks.now }
+    requires order { IsOrdered (all_listed chunks.now) }
+    ensures { IfSome result (λ r. IsExchanged r.0 r.1 old.now new.now chunks.now) }
+{
+    if chunks.is_empty() || !comes_before(old, new) {
+        return None;
+    }
+    let home = home(chunks, near, old);
+    if home < chunks.len() - 1 && ends_before(&chunks[home], new) {
+        return None;
+    }
+    let place = standing_at(&chunks[home].entries, old)?;
+    Some((home, place))
+}
+
+/// Exchanges what stands in the place of the old entry for the new one, if both belong to one chunk, and answers its
+/// place; None where nothing is changed.
+fn exchange_among(chunks: &mut Vec<Chunk>, near: usize, old: &Entry, new: &Entry) -> Option<usize>
+    requires chunks { AreChunks chunks.old.items }
+    requires order { IsOrdered (all_listed chunks.old.items) }
+    ensures none { IfNone result (chunks.new.items ≡ chunks.old.items) }
+    ensures chunks { AreChunks chunks.new.items }
+    ensures entries { IfSome result (λ place. all_listed chunks.new.items ≡ inserted new.now (others old.now (all_listed chunks.old.items))) }
+    ensures count { length (all_listed chunks.new.items) ≡ length (all_listed chunks.old.items) }
+    ensures spends { (pool : List AnyChunk) → Spends 0 chunks.old.items pool chunks.new.items pool }
+    ensures room { vec_capacity chunks.old ≤ vec_capacity chunks.new }
+    ensures changed { IfSome result (λ place. IsChangedAt place chunks.old.items chunks.new.items) }
+{
+    let (home, place) = exchange_place(chunks, near, old, new)?;
+    chunks[home].exchange(place, new);
+    Some(home)
+}
+
 /// The chunks of an index, empty ones for later, how many entries there are, and how many more are sure of their room.
 ///
 /// A chunk parts once it has more than 64 entries, into halves of 32 and 33: so few empty chunks make sure of many
@@ -372,6 +408,21 @@ impl Table {
         let (count, run) = take_among(&mut self.chunks, &mut self.pool, near, entries);
         self.count -= count;
         run
+    }
+
+    /// Exchanges what stands in the place of the old entry for the new one, if both belong to one chunk, and answers its
+    /// place; None where nothing is changed. The chunk is searched for behind that at `near` first.
+    pub(crate) fn exchange(&mut self, near: usize, old: &Entry, new: &Entry) -> Option<usize>
+        requires table { IsTable self.old }
+        requires fresh { list_any (is_entry new.now.rank.written new.now.rank.place) (others old.now (all_listed self.old.chunks.items)) ≡ false }
+        ensures none { IfNone result (self.new.chunks.items ≡ self.old.chunks.items) }
+        ensures table { IsTable self.new }
+        ensures entries { IfSome result (λ place. all_listed self.new.chunks.items ≡ inserted new.now (others old.now (all_listed self.old.chunks.items))) }
+        ensures spare { self.new.spare ≡ self.old.spare }
+        ensures sum { length self.new.chunks.items + length self.new.pool.items ≤ length self.old.chunks.items + length self.old.pool.items }
+        ensures changed { IfSome result (λ place. IsChangedAt place self.old.chunks.items self.new.chunks.items) }
+    {
+        exchange_among(&mut self.chunks, near, old, new)
     }
 
     /// Takes out the entries of that written number and place, and answers whether there were any.

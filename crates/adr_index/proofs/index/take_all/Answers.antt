@@ -1,18 +1,8 @@
-use Rattle.std.proofs.Common.{rules, ◌≡◌, length, refl, ◌∙◌, arith}
+use Rattle.std.proofs.Common.{rules, ◌≡◌, length, ◌∙◌, arith}
 use Rattle.adr_index.specs.Chunks.{all_listed}
-use Rattle.adr_index.proofs.Mended.{inside_new, stretched, tops_but}
+use Rattle.adr_index.proofs.Mended.{inside_new, stretched}
 use Rattle.adr_index.proofs.Runs.{others_rest}
 use Rattle.adr_index.proofs.index.take_all.Goals as goal
-
-pub loop-rest-init : goal.loop-rest-init
-loop-rest-init c = record {
-  table = c.requires.table;
-  entries = refl;
-  spare = omega arith;
-  nodes = refl;
-  sum = omega arith;
-  tops = tops_but c.none-stretch.result.from c.none-stretch.result.to c.args.table.now.chunks.items c.args.tops.now c.none-stretch.ensures c.requires.tops;
-}
 
 pub with-stretch-requires : goal.with-stretch-requires
 with-stretch-requires c =
