@@ -83,6 +83,9 @@ module _ {Y S : Type 0} (m : HashMap (String Y) Indexed S) (key : List ℕ) (non
   pub no_entries : entries_at m key ≡ []
   no_entries = ap (λ (o : Option Indexed). option_map_or (λ i. i.entries) o []) none
 
+  pub no_spare : spare_at m key ≡ 0
+  no_spare = ap (λ (o : Option Indexed). option_map_or (λ i. i.spare) o 0) none
+
   pub none_changed : (f : List Entry → List Entry) → f [] ≡ [] → (id : List ℕ) → entries_at m id ≡ (if bytes_eq key id then f (entries_at m id) else entries_at m id)
   none_changed f empty id = by (bytes_eq key id) refl
     where

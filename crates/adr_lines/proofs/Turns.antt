@@ -1,5 +1,5 @@
 -- One group more is taken out or put in.
-use Rattle.std.proofs.Common.{◌≡◌, ℕ, ◌+◌, ◌≤◌, ◌⊎◌, inl, inr, length, Bool, true, false, ◌||◌, cond, if◌then◌else◌, List, [], ◌∷◌, ◌++◌, refl, ap, sym, subst, ◌∙◌, length-append, arith}
+use Rattle.std.proofs.Common.{◌≡◌, ℕ, ◌+◌, ◌≤◌, ◌⊎◌, inl, inr, length, drop, get_or, Bool, true, false, ◌||◌, cond, if◌then◌else◌, List, [], ◌∷◌, ◌++◌, refl, ap, sym, subst, ◌∙◌, length-append, arith}
 use Rattle.std.specs.HashMap.{get_by_text}
 use Rattle.std.specs.Option.{option_map_or}
 use Rattle.std.specs.Str.{bytes_eq}
@@ -13,7 +13,7 @@ use Rattle.adr_index.specs.Index.{inserted, inserted_all, others, others_all, Ar
 use Rattle.adr_lines.specs.declared.grouped.TypeEntries.{TypeEntries}
 use Rattle.adr_lines.specs.Grouped.{entries_under}
 use Rattle.adr_lines.specs.declared.indexes.Indexes.{Indexes}
-use Rattle.adr_lines.specs.Indexes.{has_type, own_entries, spare_under, wanted_under}
+use Rattle.adr_lines.specs.Indexes.{has_type, own_entries, spare_under, wanted_under, BeginAlike}
 
 -- ---- lists in two parts
 
@@ -32,6 +32,11 @@ new_both (x ∷ xs) ys es h = let r = new_both xs ys (inserted x es) h.1 in ((h.
 pub none_left : (xs : List Entry) → others_all xs [] ≡ []
 none_left [] = refl
 none_left (x ∷ xs) = none_left xs
+
+-- none come where there is no room
+pub none_come : (xs ys : List Entry) → length xs ≤ 0 → inserted_all xs (others_all ys []) ≡ []
+none_come [] ys h = none_left ys
+none_come (x ∷ xs) ys h = absurd (omega arith)
 
 own_type : (k : PayloadType) → same_type k k ≡ true
 own_type k = bytes_eq_self (name_of k)
@@ -111,6 +116,64 @@ none_of_type (g ∷ gs) k h = by (same_type g.payload_type k) h (none_of_type gs
     by : (b : Bool) → (b || has_type gs k) ≡ false → (has_type gs k ≡ false → entries_under gs k ≡ []) → cond b g.entries.items [] ++ entries_under gs k ≡ []
     by true t rest = absurd (cc)
     by false t rest = rest t
+
+-- ---- a group that comes for one that goes
+
+-- what is done with the entries of both where they are of the type
+pub own_exchanged : (g c : TypeEntries) (k : PayloadType) (es : List Entry) → same_type g.payload_type c.payload_type ≡ true
+    → (if same_type c.payload_type k then inserted_all c.entries.items (others_all g.entries.items es) else es) ≡ inserted_all (own_entries c k) (others_all (own_entries g k) es)
+own_exchanged g c k es same =
+    by (same_type c.payload_type k)
+    ∙ ap (λ (n : List ℕ). inserted_all (own_entries c k) (others_all (cond (bytes_eq n (name_of k)) g.entries.items []) es)) (sym (one_name g.payload_type c.payload_type same))
+  where
+    by : (b : Bool) → cond b (inserted_all c.entries.items (others_all g.entries.items es)) es ≡ inserted_all (cond b c.entries.items []) (others_all (cond b g.entries.items []) es)
+    by true = refl
+    by false = refl
+
+module _ (g c : TypeEntries) (more rest : List TypeEntries) (alike : BeginAlike (g ∷ more) (c ∷ rest)) where
+  -- the one comes under no type of those that go later
+  either_none : (k : PayloadType) → (own_entries c k ≡ []) ⊎ (entries_under more k ≡ [])
+  either_none k = by (same_type c.payload_type k) refl
+    where
+      by : (b : Bool) → same_type c.payload_type k ≡ b → (cond b c.entries.items [] ≡ []) ⊎ (entries_under more k ≡ [])
+      by true s = inr (sym (entries_of_same c.payload_type k s more) ∙ none_of_type more c.payload_type alike.1)
+      by false s = inl refl
+
+  swapped : (k : PayloadType) (es : List Entry) → inserted_all (own_entries c k) (others_all (entries_under (g ∷ more) k) es) ≡ others_all (entries_under more k) (inserted_all (own_entries c k) (others_all (own_entries g k) es))
+  swapped k es = ap (inserted_all (own_entries c k)) (others_all-append (own_entries g k) (entries_under more k) es) ∙ by (own_entries c k) (entries_under more k) (others_all (own_entries g k) es) (either_none k)
+    where
+      by : (xs ys es : List Entry) → (xs ≡ []) ⊎ (ys ≡ []) → inserted_all xs (others_all ys es) ≡ others_all ys (inserted_all xs es)
+      by xs ys es (inl none) = rw none refl
+      by xs ys es (inr none) = rw none refl
+
+  module _ (k : PayloadType) (es next : List Entry) (is : next ≡ inserted_all (own_entries c k) (others_all (own_entries g k) es)) where
+    pub pair_turn : inserted_all (entries_under rest k) (others_all (entries_under more k) next) ≡ inserted_all (entries_under (c ∷ rest) k) (others_all (entries_under (g ∷ more) k) es)
+    pair_turn =
+        ap (λ (xs : List Entry). inserted_all (entries_under rest k) (others_all (entries_under more k) xs)) is
+        ∙ (ap (inserted_all (entries_under rest k)) (sym (swapped k es)) ∙ sym (inserted_all-append (own_entries c k) (entries_under rest k) (others_all (entries_under (g ∷ more) k) es)))
+
+    pub pair_fresh_turn : AreNew (entries_under (c ∷ rest) k) (others_all (entries_under (g ∷ more) k) es) → AreNew (entries_under rest k) (others_all (entries_under more k) next)
+    pair_fresh_turn h =
+        subst (λ (xs : List Entry). AreNew (entries_under rest k) xs) (swapped k es ∙ ap (others_all (entries_under more k)) (sym is))
+        (new_both (own_entries c k) (entries_under rest k) (others_all (entries_under (g ∷ more) k) es) h).1
+
+  pub pair_fresh_here : (es : List Entry) → AreNew (entries_under (c ∷ rest) c.payload_type) (others_all (entries_under (g ∷ more) c.payload_type) es) → AreNew c.entries.items (others_all g.entries.items es)
+  pair_fresh_here es h = subst (AreNew c.entries.items) (gone ∙ ap (λ (xs : List Entry). others_all xs es) own) (fresh_here c rest (others_all (entries_under (g ∷ more) c.payload_type) es) h)
+    where
+      own : own_entries g c.payload_type ≡ g.entries.items
+      own = rw alike.0 refl
+
+      gone : others_all (entries_under (g ∷ more) c.payload_type) es ≡ others_all (own_entries g c.payload_type) es
+      gone = others_all-append (own_entries g c.payload_type) (entries_under more c.payload_type) es ∙ ap (λ (xs : List Entry). others_all xs (others_all (own_entries g c.payload_type) es)) (none_of_type more c.payload_type alike.1)
+
+-- the first groups, as they are read
+module _ (g c : TypeEntries) where
+  pub first_groups : (gs cs : List TypeEntries) → g ≡ get_or gs 0 g → c ≡ get_or cs 0 c → BeginAlike gs cs → (gs ≡ g ∷ drop 1 gs) × (cs ≡ c ∷ drop 1 cs) × BeginAlike (g ∷ drop 1 gs) (c ∷ drop 1 cs)
+  first_groups [] cs i j h = absurd h
+  first_groups (x ∷ gs) [] i j h = absurd h
+  first_groups (x ∷ gs) (y ∷ cs) i j h = (ap (λ (z : TypeEntries). z ∷ gs) (sym i), ap (λ (z : TypeEntries). z ∷ cs) (sym j), rw (i, j) h)
+
+-- ---- room for all
 
 -- each type of either has room, and the others need none
 pub room_for_all : (gone come : List TypeEntries) (k : PayloadType) (first last : ℕ)

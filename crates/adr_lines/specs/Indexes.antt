@@ -1,5 +1,5 @@
 -- The entries under each payload type.
-use Rattle.std.specs.Prelude.{ℕ, ◌+◌, Bool, List, [], length, if◌then◌else◌}
+use Rattle.std.specs.Prelude.{◌≡◌, ℕ, ◌+◌, Bool, true, false, List, [], ◌∷◌, length, if◌then◌else◌}
 use Rattle.std.specs.List.{list_any}
 use Rattle.std.specs.Option.{option_map_or}
 use Rattle.std.specs.HashMap.{get_by_text}
@@ -30,3 +30,8 @@ own_entries group payload_type = if same_type group.payload_type payload_type th
 -- how many entries go and come under the type
 abbrev pub wanted_under : List TypeEntries → List TypeEntries → PayloadType → ℕ
 wanted_under gone come payload_type = length (entries_under gone payload_type) + length (entries_under come payload_type)
+
+-- the first groups of either are of one type, of which no other one goes
+abbrev pub BeginAlike : List TypeEntries → List TypeEntries → Type 0
+BeginAlike (g ∷ more) (c ∷ rest) = (same_type g.payload_type c.payload_type ≡ true) × (has_type more c.payload_type ≡ false)
+BeginAlike gone come = ⊥

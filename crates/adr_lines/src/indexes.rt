@@ -2,7 +2,7 @@
 ghost use Rattle.adr_lines.specs.Distinct.{AreAllDistinct};
 
 use crate::TypeEntries;
-use crate::counting::wanted;
+use crate::counting::{begin_alike, wanted};
 use adr_index::Index;
 use adr_model::Entry;
 use adr_value::{PayloadType, Refusal};
@@ -25,7 +25,7 @@ impl Drop for Indexes {
 }
 
 impl Indexes {
-    ghost use Rattle.std.specs.Prelude.{◌≡◌, ◌+◌, ◌≤◌, [], true, false, length, IfOk, OnOk};
+    ghost use Rattle.std.specs.Prelude.{◌≡◌, ◌+◌, ◌≤◌, [], true, false, length, IfOk, OnOk, if◌then◌else◌};
     ghost use Rattle.std.specs.Option.{option_copied, option_map_or};
     ghost use Rattle.adr_refusal.specs.Answer.{OnlyNoMemory};
     ghost use Rattle.adr_value.specs.Same.{same_type};
@@ -172,14 +172,25 @@ impl Indexes {
         Ok(())
     }
 
+    /// Takes out what stands in the places of the old entries under the type, and adds the new ones, which there is room
+    /// for.
+    fn replace(&mut self, payload_type: &PayloadType, old: &[Entry], new: &[Entry])
+        requires fresh { AreNew new.now (others_all old.now (under self.old payload_type.now)) }
+        requires room { length new.now ≤ spare_under self.old payload_type.now }
+        ensures entries { (k : AnyType) → under self.new k ≡ (if same_type payload_type.now k then inserted_all new.now (others_all old.now (under self.old k)) else under self.old k) }
+        ensures spare { (k : AnyType) → spare_under self.old k ≤ spare_under self.new k + (if same_type payload_type.now k then length new.now else 0) }
+    {
+        if let Some(index) = self.by_name.get_mut(payload_type.name()) {
+            index.replace(old, new);
+        }
+    }
+
     /// Takes out what stands in the places of the group's entries.
     fn take(&mut self, group: &TypeEntries)
         ensures entries { (k : AnyType) → under self.new k ≡ others_all (own_entries group.now k) (under self.old k) }
         ensures spare { (k : AnyType) → spare_under self.old k ≤ spare_under self.new k }
     {
-        if let Some(index) = self.by_name.get_mut(group.payload_type.name()) {
-            index.replace(group.entries.as_slice(), &[]);
-        }
+        self.replace(&group.payload_type, group.entries.as_slice(), &[]);
     }
 
     /// Adds the group's entries, which there is room for.
@@ -189,9 +200,23 @@ impl Indexes {
         ensures entries { (k : AnyType) → under self.new k ≡ inserted_all (own_entries group.now k) (under self.old k) }
         ensures spare { (k : AnyType) → spare_under self.old k ≤ spare_under self.new k + length (own_entries group.now k) }
     {
-        if let Some(index) = self.by_name.get_mut(group.payload_type.name()) {
-            index.replace(&[], group.entries.as_slice());
-        }
+        self.replace(&group.payload_type, &[], group.entries.as_slice());
+    }
+
+    /// Takes out what stands in the places of the old group's entries, and adds those of the new one, which is of the
+    /// same type, and which there is room for.
+    fn exchange_types(&mut self, old: &TypeEntries, new: &TypeEntries)
+        requires same { same_type old.now.payload_type new.now.payload_type ≡ true }
+        requires fresh { AreNew new.now.entries.items (others_all old.now.entries.items (under self.old new.now.payload_type)) }
+        requires room { length new.now.entries.items ≤ spare_under self.old new.now.payload_type }
+        ensures entries { (k : AnyType) → under self.new k ≡ inserted_all (own_entries new.now k) (others_all (own_entries old.now k) (under self.old k)) }
+        ensures spare { (k : AnyType) → spare_under self.old k ≤ spare_under self.new k + length (own_entries new.now k) }
+    {
+        self.replace(
+            &new.payload_type,
+            old.entries.as_slice(),
+            new.entries.as_slice(),
+        );
     }
 
     fn take_all(&mut self, gone: &[TypeEntries])
@@ -219,14 +244,23 @@ impl Indexes {
     }
 
     /// Takes out what stands in the places of the entries that go, and puts in those that come, which there is room
-    /// for. It takes no memory. Cost: for each group of either a look-up, and that of `Index::replace`.
+    /// for. It takes no memory. Cost: for each group of either a look-up, and that of `Index::replace`. As long as the
+    /// groups are of the same types in turn, one look-up and one such call serves for what goes and what comes under a
+    /// type; for each of these the type is compared with those of the groups that go after it.
     pub fn exchange(&mut self, gone: &[TypeEntries], come: &[TypeEntries])
         requires room { (k : AnyType) → length (entries_under come.now k) ≤ spare_under self.old k }
         requires fresh { (k : AnyType) → AreNew (entries_under come.now k) (others_all (entries_under gone.now k) (under self.old k)) }
         ensures entries { (k : AnyType) → under self.new k ≡ inserted_all (entries_under come.now k) (others_all (entries_under gone.now k) (under self.old k)) }
         ensures spare { (k : AnyType) → spare_under self.old k ≤ spare_under self.new k + length (entries_under come.now k) }
     {
-        self.take_all(gone);
-        self.put_all(come);
+        let mut going = gone;
+        let mut coming = come;
+        'pairs: while begin_alike(going, coming) {
+            self.exchange_types(&going[0], &coming[0]);
+            (_, going) = going.split_at(1);
+            (_, coming) = coming.split_at(1);
+        }
+        self.take_all(going);
+        self.put_all(coming);
     }
 }
