@@ -3,18 +3,15 @@ use Rattle.std.proofs.Common.{◌≡◌, ℕ, zero, suc, ◌+◌, ◌-◌, ◌/�
 use Rattle.std.specs.List.{AllByRecursion, insert, list_all, list_any}
 use Rattle.std.proofs.lemmas.Bool.{and_parts, or_parts}
 use Rattle.std.proofs.lemmas.Bool.Decides.{nat_tests}
-use Rattle.std.proofs.lemmas.List.{drop-map, drop_at, get_or_read, length-append, length-map, length-take-le, take-map, take_at}
+use Rattle.std.proofs.lemmas.List.{drop_at, get_or_read, length-append, length-take-le, take_at}
 use Rattle.std.proofs.lemmas.List.Elements.{filter-append}
 use Rattle.std.proofs.lemmas.Map.Views.{any-filter_same}
-use Rattle.adr_time.specs.declared.span.End.{End}
 use Rattle.adr_model.specs.declared.entry.Entry.{Entry}
 use Rattle.adr_model.specs.Entries.{is_listed_before}
 use Rattle.adr_index.specs.declared.chunk.Chunk.{Chunk}
-use Rattle.adr_index.specs.Chunks.{all_listed, listed, HasEnds}
+use Rattle.adr_index.specs.Chunks.{all_listed, listed}
 use Rattle.adr_index.specs.Index.{inserted, inserted_all, is_entry, others, others_all, AreNew, IsOrdered}
 use Rattle.adr_index.specs.Tables.{ArePairs, IsExchanged, IsStanding}
-use Rattle.adr_index.specs.Tree.{any_lasts, comes_after, only, own_end, IsTree}
-use Rattle.adr_index.proofs.Grown.{only_all, own_after}
 use Rattle.adr_index.proofs.Merged.{next, none_before, same_goes}
 use Rattle.adr_index.proofs.Ordered.{all_more, inserted_between, listed_total, listed_trans, ordered_inserted, ordered_later, ordered_others, others_between, past_place, place_found}
 use Rattle.adr_index.proofs.Placed.{all_set, around}
@@ -49,36 +46,6 @@ written_over e es xs i inside is before after =
     let long : length (take i es) ≡ i = length-take-le i es (omega arith) in
     sym (insert_over e es i inside)
     ∙ (place_found e (take i es ++ drop (i + 1) es) i (rw (length-append (take i es) (drop (i + 1) es)) (omega arith)) (rw (take_at (take i es) (drop (i + 1) es) i long) before) (rw (drop_at (take i es) (drop (i + 1) es) i long) after) ∙ ap (inserted e) is)
-
--- ---- a tree serves for all entries that have the same ends in its places
-
-lasts_ends : (es : List Entry) (t : ℤ) → any_lasts es t ≡ list_any (λ g. comes_after g t) (map own_end es)
-lasts_ends [] t = refl
-lasts_ends (e ∷ es) t = rw (← own_after e t) (ap (λ (b : Bool). comes_after (own_end e) t || b) (lasts_ends es t))
-
-lasts_alike : (xs ys : List Entry) → map own_end xs ≡ map own_end ys → (t : ℤ) → any_lasts xs t ≡ any_lasts ys t
-lasts_alike xs ys h t = lasts_ends xs t ∙ (ap (list_any (λ g. comes_after g t)) h ∙ sym (lasts_ends ys t))
-
-same_length : (xs ys : List Entry) → map own_end xs ≡ map own_end ys → length xs ≡ length ys
-same_length xs ys h = sym (length-map xs own_end) ∙ (ap length h ∙ length-map ys own_end)
-
-tree_alike : (n : ℕ) (xs ys : List Entry) (gs : List (Option End)) → map own_end xs ≡ map own_end ys → IsTree only 8 n xs gs → IsTree only 8 n ys gs
-tree_alike zero xs ys gs h t = tt
-tree_alike (suc n) xs ys gs h t = rw (← same_length xs ys h) (λ two. (
-  λ u. (t two).0 u ∙ rw (only_all xs, only_all ys) (lasts_alike xs ys h u),
-  λ more. let parts = (t two).1 more in (
-    tree_alike n (take (length xs / 2) xs) (take (length xs / 2) ys) (take (length xs / 2 - 1) gs) (sym (take-map own_end (length xs / 2) xs) ∙ (ap (take (length xs / 2)) h ∙ take-map own_end (length xs / 2) ys)) parts.0,
-    tree_alike n (drop (length xs / 2) xs) (drop (length xs / 2) ys) (drop (length xs / 2) gs) (sym (drop-map own_end (length xs / 2) xs) ∙ (ap (drop (length xs / 2)) h ∙ drop-map own_end (length xs / 2) ys)) parts.1,
-  ),
-))
-
-pub ends_alike : (xs ys : List Entry) (gs : List (Option End)) (end : Option End) → map own_end ys ≡ map own_end xs → HasEnds xs gs end → HasEnds ys gs end
-ends_alike xs ys gs end h ends = record {
-  levels = ends.levels;
-  enough = rw (same_length ys xs h) ends.enough;
-  tree = tree_alike ends.levels xs ys gs (sym h) ends.tree;
-  greatest = λ t. ends.greatest t ∙ lasts_alike xs ys (sym h) t;
-}
 
 -- ---- in one of the chunks
 
@@ -118,7 +85,7 @@ module _ (cs : List Chunk) (k i : ℕ) (c : Chunk) (o n : Entry) (inside : k < l
           length-append (listed c) (all_listed (drop (k + 1) cs)),
         ) (omega arith)
 
-pub exchange_ordered : (r : Option ℕ) (o n : Entry) (cs ds : List Chunk) → IfNone r (ds ≡ cs) → IfSome r (λ place. all_listed ds ≡ inserted n (others o (all_listed cs))) → IsOrdered (all_listed cs) → list_any (is_entry n.rank.written n.rank.place) (others o (all_listed cs)) ≡ false → IsOrdered (all_listed ds)
+pub exchange_ordered : (r : Option (ℕ × Bool)) (o n : Entry) (cs ds : List Chunk) → IfNone r (ds ≡ cs) → IfSome r (λ place. all_listed ds ≡ inserted n (others o (all_listed cs))) → IsOrdered (all_listed cs) → list_any (is_entry n.rank.written n.rank.place) (others o (all_listed cs)) ≡ false → IsOrdered (all_listed ds)
 exchange_ordered None o n cs ds none some order fresh = rw none order
 exchange_ordered (Some k) o n cs ds none some order fresh = rw some (ordered_inserted n (others o (all_listed cs)) (ordered_others o (all_listed cs) order) fresh)
 

@@ -1,3 +1,4 @@
+pub mod Alike
 pub mod Asked
 pub mod Depth
 pub mod Exchanged

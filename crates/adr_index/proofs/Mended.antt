@@ -1,5 +1,5 @@
 -- A tree of which a part is written anew.
-use Rattle.std.proofs.Common.{◌≡◌, ℕ, zero, suc, ◌+◌, ◌-◌, ◌/◌, ◌<◌, ◌≤◌, max, min, List, length, take, drop, set, Option, Some, None, IfNone, IfSome, ◌⊎◌, ◌∙◌, ap, arith, inl, inr}
+use Rattle.std.proofs.Common.{◌≡◌, ℕ, zero, suc, ◌+◌, ◌-◌, ◌/◌, ◌<◌, ◌≤◌, Bool, true, false, max, min, List, length, take, drop, set, Option, Some, None, IfNone, IfSome, ◌⊎◌, refl, ◌∙◌, ap, arith, inl, inr}
 use Rattle.std.proofs.lemmas.List.{length-set, length-take-le, length-drop, take-set-le, drop-set-lt, drop-set-add}
 use Rattle.std.proofs.Math.Seq.{take-set-lt}
 use Rattle.adr_time.specs.declared.span.End.{End}
@@ -7,7 +7,7 @@ use Rattle.adr_model.specs.declared.entry.Entry.{Entry}
 use Rattle.adr_index.specs.declared.chunk.Chunk.{Chunk}
 use Rattle.adr_index.specs.declared.stretch.Stretch.{Stretch}
 use Rattle.adr_index.specs.Chunks.{listed}
-use Rattle.adr_index.specs.Tables.{HasTops, HasTopsBut, IsChangedAt}
+use Rattle.adr_index.specs.Tables.{HasTops, HasTopsBut, IsChangedAt, KeepsTops}
 use Rattle.adr_index.specs.Tree.{IsTree, IsTreeBut}
 use Rattle.adr_index.proofs.Grown.{tree_levels, tree_short}
 
@@ -94,6 +94,11 @@ inside_new None old new count all h = h
 inside_new (Some k) old new count all h = rw (all, h.is, length-set old k h.chunk) h.inside
 
 -- one more was, or all were
-pub stretched : (r : Option ℕ) (old new : List Chunk) (gs : List (Option End)) (s t : Stretch) (count : ℕ) → count ≡ length new → IfSome r (λ place. IsChangedAt place old new) → IfSome r (λ place. (t.from ≡ min s.from place) × (t.to ≡ max s.to (place + 1))) → IfNone r ((t.from ≡ 0) × (t.to ≡ count)) → HasTopsBut s.from s.to old gs → HasTopsBut t.from t.to new gs
-stretched None old new gs s t count whole h one all tops = λ n. all_but listed 6 n t.from t.to new gs all.0 (omega (arith, all.1, whole))
-stretched (Some k) old new gs s t count whole h one all tops = λ n. rw h.is (one_but listed 6 n s.from s.to t.from t.to k old h.chunk gs (omega (arith, one.0)) (omega (arith, one.1)) (omega (arith, one.0)) (omega (arith, one.1)) (tops n))
+spread : (r : Option ℕ) (old new : List Chunk) (gs : List (Option End)) (s t : Stretch) (count : ℕ) → count ≡ length new → IfSome r (λ place. IsChangedAt place old new) → IfSome r (λ place. (t.from ≡ min s.from place) × (t.to ≡ max s.to (place + 1))) → IfNone r ((t.from ≡ 0) × (t.to ≡ count)) → HasTopsBut s.from s.to old gs → HasTopsBut t.from t.to new gs
+spread None old new gs s t count whole h one all tops = λ n. all_but listed 6 n t.from t.to new gs all.0 (omega (arith, all.1, whole))
+spread (Some k) old new gs s t count whole h one all tops = λ n. rw h.is (one_but listed 6 n s.from s.to t.from t.to k old h.chunk gs (omega (arith, one.0)) (omega (arith, one.1)) (omega (arith, one.0)) (omega (arith, one.1)) (tops n))
+
+-- and also where the tree is as it was
+pub stretched : (keeps : Bool) (r : Option ℕ) (old new : List Chunk) (gs : List (Option End)) (s t : Stretch) (count : ℕ) → count ≡ length new → IfSome r (λ place. IsChangedAt place old new) → (keeps ≡ true → KeepsTops old new) → (keeps ≡ true → t ≡ s) → (keeps ≡ false → IfSome r (λ place. (t.from ≡ min s.from place) × (t.to ≡ max s.to (place + 1)))) → (keeps ≡ false → IfNone r ((t.from ≡ 0) × (t.to ≡ count))) → HasTopsBut s.from s.to old gs → HasTopsBut t.from t.to new gs
+stretched true r old new gs s t count whole h kept same one all tops = rw (same refl) (kept refl s.from s.to gs tops)
+stretched false r old new gs s t count whole h kept same one all tops = spread r old new gs s t count whole h (one refl) (all refl) tops

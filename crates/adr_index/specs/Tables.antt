@@ -58,6 +58,10 @@ pub record IsChangedAt (place : ℕ) (old new : List Chunk) : Type 0 where
 abbrev pub HasTopsBut : ℕ → ℕ → List Chunk → List (Option End) → Type 0
 HasTopsBut from to cs gs = (levels : ℕ) → IsTreeBut listed 6 levels from to cs gs
 
+-- what is a tree over the old chunks, but for a part, is so over the new ones
+abbrev pub KeepsTops : List Chunk → List Chunk → Type 0
+KeepsTops old new = (from to : ℕ) (gs : List (Option End)) → HasTopsBut from to old gs → HasTopsBut from to new gs
+
 -- chunks in order, with the tree of their ends
 pub record IsIndex (t : Table) (gs : List (Option End)) : Type 0 where
   pub table : IsTable t

@@ -176,17 +176,21 @@ impl Chunk {
         })
     }
 
-    /// Writes the tree anew, and when the last entry starts.
-    fn refresh(&mut self)
+    /// Writes the tree anew, and when the last entry starts, and answers whether the greatest end is as it was.
+    fn refresh(&mut self) -> bool
         requires { length self.old.entries.items ≤ length self.old.greatest.items + 1 }
         ensures entries { self.new.entries ≡ self.old.entries }
         ensures nodes { length self.new.greatest.items ≡ length self.old.greatest.items }
         ensures ends { HasEnds self.new.entries.items self.new.greatest.items self.new.end }
         ensures last { 0 < length self.new.entries.items → StartsLast self.new.last self.new.entries.items }
+        ensures end { result ≡ true → self.new.end ≡ self.old.end }
     {
         let levels = digits(self.entries.len());
-        self.end = rebuild(levels, &self.entries, &mut self.greatest);
+        let end = rebuild(levels, &self.entries, &mut self.greatest);
+        let keeps_end = end.is(self.end);
+        self.end = end;
         self.last = last_start(&self.entries);
+        keeps_end
     }
 
     /// Adds the first entry.
@@ -244,8 +248,9 @@ impl Chunk {
         Some(other)
     }
 
-    /// Takes out what stands in the places of the entries of the run, which are in order.
-    pub(crate) fn take(&mut self, run: &[Entry])
+    /// Takes out what stands in the places of the entries of the run, which are in order, and answers
+    /// whether the greatest end is as it was.
+    pub(crate) fn take(&mut self, run: &[Entry]) -> bool
         requires chunk { IsChunk self.old }
         requires order { IsOrdered self.old.entries.items }
         requires run { IsOrdered run.now }
@@ -254,13 +259,15 @@ impl Chunk {
         ensures fewer { length self.new.entries.items ≤ length self.old.entries.items }
         ensures room { IsRoomy self.new }
         ensures chunk { 0 < length self.new.entries.items → IsChunk self.new }
+        ensures end { result ≡ true → self.new.end ≡ self.old.end }
     {
         take_each(&mut self.entries, run);
-        self.refresh();
+        self.refresh()
     }
 
-    /// Adds the entries of the run, which are in order and for which there is room.
-    pub(crate) fn put_each(&mut self, run: &[Entry])
+    /// Adds the entries of the run, which are in order and for which there is room, and answers whether the
+    /// greatest end is as it was.
+    pub(crate) fn put_each(&mut self, run: &[Entry]) -> bool
         requires chunk { IsChunk self.old }
         requires order { IsOrdered self.old.entries.items }
         requires run { IsOrdered run.now }
@@ -268,14 +275,15 @@ impl Chunk {
         ensures entries { self.new.entries.items ≡ inserted_all run.now self.old.entries.items }
         ensures chunk { IsChunk self.new }
         ensures more { length self.new.entries.items ≡ length self.old.entries.items + length run.now }
+        ensures end { result ≡ true → self.new.end ≡ self.old.end }
     {
         insert_each(&mut self.entries, run);
-        self.refresh();
+        self.refresh()
     }
 
     /// Adds an entry in its place, and takes out the one at a place before that. The tree is written anew only where an
-    /// end has changed its place.
-    pub(crate) fn exchange(&mut self, place: usize, entry: &Entry)
+    /// end has changed its place. Answers whether the greatest end is as it was.
+    pub(crate) fn exchange(&mut self, place: usize, entry: &Entry) -> bool
         requires chunk { IsChunk self.old }
         requires order { IsOrdered self.old.entries.items }
         requires inside { place < length self.old.entries.items }
@@ -283,12 +291,13 @@ impl Chunk {
         ensures entries { self.new.entries.items ≡ inserted entry.now (take place self.old.entries.items ++ drop (place + 1) self.old.entries.items) }
         ensures count { length self.new.entries.items ≡ length self.old.entries.items }
         ensures chunk { IsChunk self.new }
+        ensures end { result ≡ true → self.new.end ≡ self.old.end }
     {
         if !exchange_at(&mut self.entries, place, entry) {
-            self.refresh();
-            return;
+            return self.refresh();
         }
         self.last = last_start(&self.entries);
+        true
     }
 
     /// For how many more entries there is room.

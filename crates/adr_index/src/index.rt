@@ -30,9 +30,9 @@ use std::marker::Model;
 /// No two entries have one written number and place. An entry whose span covers no moment is kept, and never found.
 ///
 /// They lie in chunks of at most 64. An edit goes to one chunk for each entry, found by halving or behind the last one,
-/// and writes what the tree of greatest ends has from the first chunk that it changed to the last. Where a chunk is
-/// parted or emptied, all of the tree is written anew, a step for each chunk: n/48 of them where an index of n entries
-/// is filled at once. A chunk that loses entries is not put together with others.
+/// and writes what the tree of greatest ends has from the first chunk whose greatest end it changed to the last. Where a
+/// chunk is parted or emptied, all of the tree is written anew, a step for each chunk: n/48 of them where an index of n
+/// entries is filled at once. A chunk that loses entries is not put together with others.
 pub struct Index {
     table: Table,
     tops: Vec<Reach>,
@@ -110,7 +110,7 @@ fn are_far(chunks: &[Chunk], entries: &[Entry]) -> bool
     let (Some(first), Some(last)) = (entries.first(), entries.last()) else {
         return false;
     };
-    if entries.len() > chunks.len() / APART {
+    if entries.len() == 1 || entries.len() > chunks.len() / APART {
         return false;
     }
     let from = home(chunks, 0, first);
@@ -137,7 +137,7 @@ fn take_all(table: &mut Table, tops: &mut [Reach], old: &[Entry], changed: Stret
     let mut rest = old;
     while !rest.is_empty() {
         let run = table.take(near, rest);
-        stretch = stretch.with(run.place, table.chunks.len());
+        stretch = stretch.with(run.place, run.keeps_tops, table.chunks.len());
         stretch = write_far(&table.chunks, tops, stretch, is_far);
         near = run.place.unwrap_or(0);
         (_, rest) = rest.split_at(run.given);
@@ -166,7 +166,7 @@ fn put_all(table: &mut Table, tops: &mut [Reach], new: &[Entry], changed: Stretc
     let mut rest = new;
     while !rest.is_empty() {
         let run = table.put_run(near, rest);
-        stretch = stretch.with(run.place, table.chunks.len());
+        stretch = stretch.with(run.place, run.keeps_tops, table.chunks.len());
         stretch = write_far(&table.chunks, tops, stretch, is_far);
         near = run.place.unwrap_or(0);
         (_, rest) = rest.split_at(run.given);
@@ -227,9 +227,9 @@ fn exchange_one(
     ensures nodes { length tops.new ≡ length tops.old }
     ensures tops { HasTopsBut result.1.from result.1.to table.new.chunks.items tops.new }
 {
-    let place = table.exchange(near, &old[0], &new[0]);
-    if let Some(home) = place {
-        return (home, changed.with(place, table.chunks.len()));
+    if let Some((home, keeps_tops)) = table.exchange(near, &old[0], &new[0]) {
+        let stretch = changed.with(Some(home), keeps_tops, table.chunks.len());
+        return (home, stretch);
     }
     let stretch = take_all(table, tops, old, changed);
     let stretch = put_all(table, tops, new, stretch);
@@ -446,9 +446,9 @@ impl Index {
     /// those of its entries that stand from the first of theirs on, at most 64, are gone through and moved once, and its
     /// tree is written once; entries in another order are taken out and added one by one.
     ///
-    /// The tree over the chunks is written once, from the first of theirs to the last, a step for each of these, or, where
-    /// there are 32 chunks and more for each entry, along the paths to theirs. Where a chunk is parted or emptied it is
-    /// written whole, a step for each chunk, and the chunks behind that one are moved.
+    /// The tree over the chunks is written once, from the first of theirs whose greatest end changes to the last, a step
+    /// for each of these, or, where there are 32 chunks and more for each entry, along the paths to theirs. Where a chunk
+    /// is parted or emptied it is written whole, a step for each chunk, and the chunks behind that one are moved.
     pub fn replace(&mut self, old: &[Entry], new: &[Entry])
         requires room { length new.now ≤ self.old.spare }
         requires fresh { AreNew new.now (others_all old.now self.old.entries) }

@@ -1,5 +1,5 @@
 //! The chunks over which the tree of ends is to be written anew.
-ghost use Rattle.std.specs.Prelude.{◌≡◌, ◌+◌, ◌<◌, ◌≤◌, IfNone, IfSome, max, min};
+ghost use Rattle.std.specs.Prelude.{◌≡◌, ◌+◌, ◌<◌, ◌≤◌, true, false, IfNone, IfSome, max, min};
 
 /// The places of chunks from one up to another.
 #[derive(Clone, Copy)]
@@ -28,12 +28,16 @@ impl Stretch {
     }
 
     /// The stretch and the place that was changed, and what lies between them. That of all so many chunks, where more
-    /// was changed than one place.
-    pub(crate) fn with(self, changed: Option<usize>, count: usize) -> Stretch
+    /// was changed than one place; the stretch as it is, where the tree is as it was.
+    pub(crate) fn with(self, changed: Option<usize>, keeps_tops: bool, count: usize) -> Stretch
         requires { IfSome changed (λ place. place < count) }
-        ensures one { IfSome changed (λ place. (result.from ≡ min self.from place) × (result.to ≡ max self.to (place + 1))) }
-        ensures all { IfNone changed ((result.from ≡ 0) × (result.to ≡ count)) }
+        ensures kept { keeps_tops ≡ true → result ≡ self }
+        ensures one { keeps_tops ≡ false → IfSome changed (λ place. (result.from ≡ min self.from place) × (result.to ≡ max self.to (place + 1))) }
+        ensures all { keeps_tops ≡ false → IfNone changed ((result.from ≡ 0) × (result.to ≡ count)) }
     {
+        if keeps_tops {
+            return self;
+        }
         let Some(place) = changed else {
             return Stretch::all(count);
         };

@@ -4,7 +4,7 @@ ghost use Rattle.std.specs.List.{AllByRecursion, list_any};
 ghost use Rattle.adr_model.specs.Entries.{is_listed_before};
 ghost use Rattle.adr_index.specs.Chunks.{all_listed, AreChunks, ArePooled, EndsBefore, GoTogether, IsChunk, IsPooled};
 ghost use Rattle.adr_index.specs.declared.chunk.Chunk.{Chunk as AnyChunk};
-ghost use Rattle.adr_index.specs.Tables.{IsChangedAt, IsExchanged, IsFound, IsSure, IsTable, Spends};
+ghost use Rattle.adr_index.specs.Tables.{IsChangedAt, IsExchanged, IsFound, IsSure, IsTable, KeepsTops, Spends};
 ghost use Rattle.adr_index.specs.Index.{inserted, inserted_all, is_entry, others, others_all, without, AreNew, IsOrdered};
 
 use crate::chunk::Chunk;
@@ -147,11 +147,12 @@ fn lay_by(pool: &mut Vec<Chunk>, chunk: Chunk)
 }
 
 /// What was taken out or added at once: how many of the entries that were given, and the place of their chunk, where no
-/// other was changed.
+/// other was changed, and whether the tree over the chunks is as it was.
 #[derive(Clone, Copy)]
 pub(crate) struct Run {
     pub(crate) given: usize,
     pub(crate) place: Option<usize>,
+    pub(crate) keeps_tops: bool,
 }
 
 /// How many of the entries, from the first on, are in order and belong to the chunk of the first.
@@ -173,50 +174,54 @@ fn run_into(chunk: &Chunk, entries: &[Entry]) -> usize
 }
 
 /// Takes out what stands in the place of the first entry, and of those behind it that belong to the same chunk, and
-/// answers how many entries of the chunk that were. A chunk that it leaves empty goes to the pool. The chunk is
+/// answers how many entries of the chunk that were, of how many of the given ones, and the chunk's place, where no other
+/// was changed, and whether its greatest end is as it was. A chunk that it leaves empty goes to the pool. The chunk is
 /// searched for behind that at `near` first.
 pub(crate) fn take_among(
     chunks: &mut Vec<Chunk>,
     pool: &mut Vec<Chunk>,
     near: usize,
     entries: &[Entry],
-) -> (usize, Run)
+) -> (usize, usize, Option<usize>, bool)
     requires some { 0 < length chunks.old.items }
     requires any { 0 < length entries.now }
     requires chunks { AreChunks chunks.old.items }
     requires order { IsOrdered (all_listed chunks.old.items) }
     requires pool { ArePooled pool.old.items }
     requires kept { length chunks.old.items + length pool.old.items ≤ vec_capacity pool.old }
-    ensures some { 0 < result.1.given }
-    ensures given { result.1.given ≤ length entries.now }
+    ensures some { 0 < result.1 }
+    ensures given { result.1 ≤ length entries.now }
     ensures chunks { AreChunks chunks.new.items }
-    ensures entries { all_listed chunks.new.items ≡ others_all (take result.1.given entries.now) (all_listed chunks.old.items) }
+    ensures entries { all_listed chunks.new.items ≡ others_all (take result.1 entries.now) (all_listed chunks.old.items) }
     ensures count { length (all_listed chunks.new.items) + result.0 ≡ length (all_listed chunks.old.items) }
     ensures pool { ArePooled pool.new.items }
     ensures spends { Spends 0 chunks.old.items pool.old.items chunks.new.items pool.new.items }
     ensures room { vec_capacity chunks.old ≤ vec_capacity chunks.new }
     ensures kept { vec_capacity pool.old ≤ vec_capacity pool.new }
-    ensures changed { IfSome result.1.place (λ place. IsChangedAt place chunks.old.items chunks.new.items) }
+    ensures changed { IfSome result.2 (λ place. IsChangedAt place chunks.old.items chunks.new.items) }
+    ensures tops { result.3 ≡ true → KeepsTops chunks.old.items chunks.new.items }
 {
     let place = home(chunks, near, &entries[0]);
     let given = run_into(&chunks[place], entries);
     let (run, _) = entries.split_at(given);
     let count = chunks[place].entries.len();
-    chunks[place].take(run);
+    let keeps_tops = chunks[place].take(run);
     let left = chunks[place].entries.len();
     if left > 0 {
-        let place = Some(place);
-        return (count - left, Run { given, place });
+        return (count - left, given, Some(place), keeps_tops);
     }
     let chunk = chunks.remove(place);
     lay_by(pool, chunk);
-    let place = None;
-    (count, Run { given, place })
+    (count, given, None, false)
 }
 
 /// Adds the first entry and those behind it to the chunk to which they belong, as far as it has room, and answers how
-/// many, and its place; None where it has no room, and nothing is changed.
-fn put_behind(chunks: &mut Vec<Chunk>, near: usize, entries: &[Entry]) -> Option<(usize, usize)>
+/// many, its place, and whether its greatest end is as it was; None where it has no room, and nothing is changed.
+fn put_behind(
+    chunks: &mut Vec<Chunk>,
+    near: usize,
+    entries: &[Entry],
+) -> Option<(usize, usize, bool)>
     requires any { 0 < length entries.now }
     requires chunks { AreChunks chunks.old.items }
     requires order { IsOrdered (all_listed chunks.old.items) }
@@ -228,6 +233,7 @@ fn put_behind(chunks: &mut Vec<Chunk>, near: usize, entries: &[Entry]) -> Option
     ensures spends { IfSome result (λ r. (pool : List AnyChunk) → Spends r.0 chunks.old.items pool chunks.new.items pool) }
     ensures room { vec_capacity chunks.old ≤ vec_capacity chunks.new }
     ensures changed { IfSome result (λ r. IsChangedAt r.1 chunks.old.items chunks.new.items) }
+    ensures tops { IfSome result (λ r. r.2 ≡ true → KeepsTops chunks.old.items chunks.new.items) }
 {
     if chunks.is_empty() {
         return None;
@@ -239,8 +245,8 @@ fn put_behind(chunks: &mut Vec<Chunk>, near: usize, entries: &[Entry]) -> Option
     }
     let given = run_into(&chunks[place], entries).min(room);
     let (run, _) = entries.split_at(given);
-    chunks[place].put_each(run);
-    Some((given, place))
+    let keeps_tops = chunks[place].put_each(run);
+    Some((given, place, keeps_tops))
 }
 
 /// Adds an entry. It takes a chunk of the pool at most. Answers the place of its chunk, where no other was changed.
@@ -284,21 +290,27 @@ fn exchange_place(chunks: &[Chunk], near: usize, old: &Entry, new: &Entry) -> Op
 }
 
 /// Exchanges what stands in the place of the old entry for the new one, if both belong to one chunk, and answers its
-/// place; None where nothing is changed.
-fn exchange_among(chunks: &mut Vec<Chunk>, near: usize, old: &Entry, new: &Entry) -> Option<usize>
+/// place, and whether its greatest end is as it was; None where nothing is changed.
+fn exchange_among(
+    chunks: &mut Vec<Chunk>,
+    near: usize,
+    old: &Entry,
+    new: &Entry,
+) -> Option<(usize, bool)>
     requires chunks { AreChunks chunks.old.items }
     requires order { IsOrdered (all_listed chunks.old.items) }
     ensures none { IfNone result (chunks.new.items ≡ chunks.old.items) }
     ensures chunks { AreChunks chunks.new.items }
-    ensures entries { IfSome result (λ place. all_listed chunks.new.items ≡ inserted new.now (others old.now (all_listed chunks.old.items))) }
+    ensures entries { IfSome result (λ r. all_listed chunks.new.items ≡ inserted new.now (others old.now (all_listed chunks.old.items))) }
     ensures count { length (all_listed chunks.new.items) ≡ length (all_listed chunks.old.items) }
     ensures spends { (pool : List AnyChunk) → Spends 0 chunks.old.items pool chunks.new.items pool }
     ensures room { vec_capacity chunks.old ≤ vec_capacity chunks.new }
-    ensures changed { IfSome result (λ place. IsChangedAt place chunks.old.items chunks.new.items) }
+    ensures changed { IfSome result (λ r. IsChangedAt r.0 chunks.old.items chunks.new.items) }
+    ensures tops { IfSome result (λ r. r.1 ≡ true → KeepsTops chunks.old.items chunks.new.items) }
 {
     let (home, place) = exchange_place(chunks, near, old, new)?;
-    chunks[home].exchange(place, new);
-    Some(home)
+    let keeps_tops = chunks[home].exchange(place, new);
+    Some((home, keeps_tops))
 }
 
 /// The chunks of an index, empty ones for later, how many entries there are, and how many more are sure of their room.
@@ -376,15 +388,24 @@ impl Table {
         ensures spare { self.old.spare ≤ self.new.spare + result.given }
         ensures sum { length self.new.chunks.items + length self.new.pool.items ≤ length self.old.chunks.items + length self.old.pool.items }
         ensures changed { IfSome result.place (λ place. IsChangedAt place self.old.chunks.items self.new.chunks.items) }
+        ensures tops { result.keeps_tops ≡ true → KeepsTops self.old.chunks.items self.new.chunks.items }
     {
-        if let Some((given, place)) = put_behind(&mut self.chunks, near, entries) {
+        if let Some((given, place, keeps_tops)) = put_behind(&mut self.chunks, near, entries) {
             self.count += given;
             self.spare -= given;
             let place = Some(place);
-            return Run { given, place };
+            return Run {
+                given,
+                place,
+                keeps_tops,
+            };
         }
         let place = self.put(entries[0]);
-        Run { given: 1, place }
+        Run {
+            given: 1,
+            place,
+            keeps_tops: false,
+        }
     }
 
     /// Takes out what stands in the place of the first entry, and of some of those behind it, and answers of how many,
@@ -399,28 +420,47 @@ impl Table {
         ensures spare { self.old.spare ≤ self.new.spare }
         ensures sum { length self.new.chunks.items + length self.new.pool.items ≤ length self.old.chunks.items + length self.old.pool.items }
         ensures changed { IfSome result.place (λ place. IsChangedAt place self.old.chunks.items self.new.chunks.items) }
+        ensures tops { result.keeps_tops ≡ true → KeepsTops self.old.chunks.items self.new.chunks.items }
     {
         if self.chunks.is_empty() {
-            let given = entries.len();
-            let place = None;
-            return Run { given, place };
+            return Run {
+                given: entries.len(),
+                place: None,
+                keeps_tops: false,
+            };
         }
-        let (count, run) = take_among(&mut self.chunks, &mut self.pool, near, entries);
+        let (count, given, place, keeps_tops) = take_among(
+            &mut self.chunks,
+            &mut self.pool,
+            near,
+            entries,
+        );
         self.count -= count;
-        run
+        Run {
+            given,
+            place,
+            keeps_tops,
+        }
     }
 
     /// Exchanges what stands in the place of the old entry for the new one, if both belong to one chunk, and answers its
-    /// place; None where nothing is changed. The chunk is searched for behind that at `near` first.
-    pub(crate) fn exchange(&mut self, near: usize, old: &Entry, new: &Entry) -> Option<usize>
+    /// place, and whether the tree over the chunks is as it was; None where nothing is changed. The chunk is searched for
+    /// behind that at `near` first.
+    pub(crate) fn exchange(
+        &mut self,
+        near: usize,
+        old: &Entry,
+        new: &Entry,
+    ) -> Option<(usize, bool)>
         requires table { IsTable self.old }
         requires fresh { list_any (is_entry new.now.rank.written new.now.rank.place) (others old.now (all_listed self.old.chunks.items)) ≡ false }
         ensures none { IfNone result (self.new.chunks.items ≡ self.old.chunks.items) }
         ensures table { IsTable self.new }
-        ensures entries { IfSome result (λ place. all_listed self.new.chunks.items ≡ inserted new.now (others old.now (all_listed self.old.chunks.items))) }
+        ensures entries { IfSome result (λ r. all_listed self.new.chunks.items ≡ inserted new.now (others old.now (all_listed self.old.chunks.items))) }
         ensures spare { self.new.spare ≡ self.old.spare }
         ensures sum { length self.new.chunks.items + length self.new.pool.items ≤ length self.old.chunks.items + length self.old.pool.items }
-        ensures changed { IfSome result (λ place. IsChangedAt place self.old.chunks.items self.new.chunks.items) }
+        ensures changed { IfSome result (λ r. IsChangedAt r.0 self.old.chunks.items self.new.chunks.items) }
+        ensures tops { IfSome result (λ r. r.1 ≡ true → KeepsTops self.old.chunks.items self.new.chunks.items) }
     {
         exchange_among(&mut self.chunks, near, old, new)
     }

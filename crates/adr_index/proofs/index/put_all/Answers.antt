@@ -13,7 +13,7 @@ with-stretch-requires c =
 pub write_far-stretch-requires-clause-tops : goal.write_far-stretch-requires-clause-tops
 write_far-stretch-requires-clause-tops c =
     let all : c.len.result ≡ length c.put_run-run.new.self.chunks.items = omega arith in
-    rw c.deref-in-loop-rest.ensures.value (stretched c.put_run-run.result.place c.loop-rest.table.chunks.items c.put_run-run.new.self.chunks.items c.loop-rest.tops c.loop-rest.stretch c.with-stretch.result c.len.result all c.put_run-run.ensures.changed c.with-stretch.ensures.one c.with-stretch.ensures.all c.loop-rest.invariant.tops)
+    rw c.deref-in-loop-rest.ensures.value (stretched c.put_run-run.result.keeps_tops c.put_run-run.result.place c.loop-rest.table.chunks.items c.put_run-run.new.self.chunks.items c.loop-rest.tops c.loop-rest.stretch c.with-stretch.result c.len.result all c.put_run-run.ensures.changed c.put_run-run.ensures.tops c.with-stretch.ensures.kept c.with-stretch.ensures.one c.with-stretch.ensures.all c.loop-rest.invariant.tops)
 
 pub loop-rest-preserved : goal.loop-rest-preserved
 loop-rest-preserved c =

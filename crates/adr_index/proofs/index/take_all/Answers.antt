@@ -12,7 +12,7 @@ with-stretch-requires c =
 pub write_far-stretch-requires-clause-tops : goal.write_far-stretch-requires-clause-tops
 write_far-stretch-requires-clause-tops c =
     let all : c.len.result ≡ length c.take-run.new.self.chunks.items = search rules in
-    rw c.deref-in-loop-rest.ensures.value (stretched c.take-run.result.place c.loop-rest.table.chunks.items c.take-run.new.self.chunks.items c.loop-rest.tops c.loop-rest.stretch c.with-stretch.result c.len.result all c.take-run.ensures.changed c.with-stretch.ensures.one c.with-stretch.ensures.all c.loop-rest.invariant.tops)
+    rw c.deref-in-loop-rest.ensures.value (stretched c.take-run.result.keeps_tops c.take-run.result.place c.loop-rest.table.chunks.items c.take-run.new.self.chunks.items c.loop-rest.tops c.loop-rest.stretch c.with-stretch.result c.len.result all c.take-run.ensures.changed c.take-run.ensures.tops c.with-stretch.ensures.kept c.with-stretch.ensures.one c.with-stretch.ensures.all c.loop-rest.invariant.tops)
 
 pub take-run-requires-clause-any : goal.take-run-requires-clause-any
 take-run-requires-clause-any c = search rules

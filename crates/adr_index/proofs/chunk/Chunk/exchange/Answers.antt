@@ -1,6 +1,6 @@
 use Rattle.std.proofs.Common.{rules, ◌≡◌, ◌<◌, true, length, arith}
 use Rattle.adr_index.specs.Chunks.{StartsLast}
-use Rattle.adr_index.proofs.Exchanged.{ends_alike}
+use Rattle.adr_index.proofs.Alike.{ends_alike}
 use Rattle.adr_index.proofs.chunk.Chunk.exchange.Goals as goal
 
 pub returns-clause-chunk : goal.returns-clause-chunk

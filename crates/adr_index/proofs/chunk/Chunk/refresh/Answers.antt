@@ -4,11 +4,11 @@ use Rattle.adr_index.proofs.chunk.Chunk.refresh.Goals as goal
 
 pub returns-clause-ends : goal.returns-clause-ends
 returns-clause-ends c =
-    let whole : length c.rebuild-self.new.greatest ≡ c.args.self.now.greatest.len = search rules in
-    rw (take_at c.rebuild-self.new.greatest (drop (length c.rebuild-self.new.greatest) c.args.self.now.greatest.items) c.args.self.now.greatest.len whole)
+    let whole : length c.rebuild-end.new.greatest ≡ c.args.self.now.greatest.len = search rules in
+    rw (take_at c.rebuild-end.new.greatest (drop (length c.rebuild-end.new.greatest) c.args.self.now.greatest.items) c.args.self.now.greatest.len whole)
     (record {
       levels = c.digits-levels.result;
       enough = search rules;
-      tree = rw c.deref.ensures.value at c.rebuild-self.ensures.tree;
-      greatest = rw c.deref.ensures.value at c.rebuild-self.ensures.greatest;
+      tree = rw c.deref.ensures.value at c.rebuild-end.ensures.tree;
+      greatest = rw c.deref.ensures.value at c.rebuild-end.ensures.greatest;
     })

@@ -8,7 +8,7 @@ use Rattle.adr_index.proofs.table.Table.take.Goals as goal
 pub returns-clause-table : goal.returns-clause-table
 returns-clause-table c = record {
   chunks = c.take_among-count.ensures.chunks;
-  order = rw c.take_among-count.ensures.entries (ordered_taken (take c.take_among-count.result.1.given c.args.entries.now) (all_listed c.args.self.now.chunks.items) c.requires.table.order);
+  order = rw c.take_among-count.ensures.entries (ordered_taken (take c.take_among-count.result.1 c.args.entries.now) (all_listed c.args.self.now.chunks.items) c.requires.table.order);
   pool = c.take_among-count.ensures.pool;
   count = omega (arith, c.requires.table.count, c.take_among-count.ensures.count);
   sure = sure_kept c.args.self.now.spare c.args.self.now.chunks.items c.args.self.now.pool.items _ _ c.take_among-count.ensures.spends c.requires.table.sure;
