@@ -40,6 +40,8 @@ class Shape:
     most_resources: int = 8
     deletes: float = 0.2
     faults: float = 0.0
+    # Of how many queries beside those borders the whole time is listed.
+    whole: float = 0.3
     has_eras: bool = False
 
 
@@ -51,7 +53,7 @@ SHAPES = {
     "years": Shape(1200, events=(2, 10), has_eras=True),
     "borders of chunks": Shape(590, events=(2, 5), rounds=(2, 5), long=BORDERS, most_resources=4),
     "borders of blocks": Shape(9, events=(1, 3), rounds=(1, 3), long=BLOCKS, most_resources=3),
-    "the largest events": Shape(1, events=(1, 2), rounds=(1, 2), long=LARGEST, most_resources=2),
+    "the largest events": Shape(1, events=(1, 2), rounds=(1, 2), long=LARGEST, most_resources=2, whole=0.1),
 }
 PLAIN_SHAPES = [name for name in SHAPES if name not in ("faults", "borders of blocks", "the largest events")]
 
@@ -250,7 +252,7 @@ class Case:
     def query(self):
         resource = self.pick(self.ids["resource"]) if self.chance() < 0.97 else "r99"
         kind = self.pick(self.types) if self.chance() < 0.95 else "NOTHING"
-        turn = 0.8 if self.shape.long and self.chance() < 0.3 else self.chance()
+        turn = 0.8 if self.shape.long and self.chance() < self.shape.whole else self.chance()
         if turn < 0.5:
             return f"at {resource} {kind} {self.instant()}"
         if turn < 0.76:

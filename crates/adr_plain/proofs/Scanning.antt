@@ -2,6 +2,7 @@
 use Rattle.std.proofs.Common.{◌≡◌, ℤ, Bool, true, false, List, [], ◌∷◌, ◌++◌, append-nil, Option, Some, None, filter, refl, sym, ap, ◌∙◌, cond, arith}
 use Rattle.std.proofs.lemmas.Int.{ints}
 use Rattle.std.proofs.lemmas.List.Elements.{filter-append}
+use Rattle.adr_time.specs.Spans.{is_before}
 use Rattle.adr_time.specs.declared.span.End.{End}
 use Rattle.adr_time.specs.declared.span.End.TheVariants.{At, Endless}
 use Rattle.adr_model.specs.declared.entry.Entry.{Entry}
@@ -57,3 +58,9 @@ earliest_passed test ts t = ap earliest (filter-append test ts (t ∷ [])) ∙ b
     by : (b : Bool) → earliest (filter test ts ++ cond b (t ∷ []) []) ≡ cond b (earlier_of t (earliest (filter test ts))) (earliest (filter test ts))
     by true = earliest-last (filter test ts) t
     by false = ap earliest (append-nil (filter test ts))
+
+-- a bound that isn't before an end makes it no earlier
+pub later_is_passed : (t : ℤ) (e : End) (c : Bool) → is_before t e ≡ false → cond c (earlier_of t e) e ≡ e
+later_is_passed t e false after = refl
+later_is_passed t (At u) true after = grind (arith, ints)
+later_is_passed t Endless true after = grind (arith, ints)

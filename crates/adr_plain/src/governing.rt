@@ -1,7 +1,7 @@
 //! What wins among entries, and until when.
 ghost use Rattle.std.specs.Prelude.{◌≡◌, Some, cond, filter, IfOk};
 ghost use Rattle.adr_refusal.specs.Answer.{OnlyNoMemory};
-ghost use Rattle.adr_time.specs.Spans.{covers as is_covered};
+ghost use Rattle.adr_time.specs.Spans.{covers as is_covered, is_before};
 ghost use Rattle.adr_model.specs.Answer.{bounds as bounds_of, changes, earlier_of, earliest, is_change, same_winner as is_same_winner};
 ghost use Rattle.adr_model.specs.Governor.{first_of, winner_at as winner_of_all_at};
 ghost use Rattle.adr_plain.specs.Scan.{first_with};
@@ -93,11 +93,22 @@ fn changes_at(entries: &[Entry], moment: Moment, now: Option<Winner>, later: Mom
     moment.nanoseconds() < later.nanoseconds() && !same_winner(winner_at(entries, later), now)
 }
 
-/// The end when a bound is looked at too.
+/// Whether a bound comes before an end.
+fn is_earlier(bound: Moment, end: &End) -> bool
+    ensures { result ≡ is_before bound end.now }
+{
+    bound.is_before(*end)
+}
+
+/// The end when a bound is looked at too. One that isn't before it makes no difference, whatever wins there.
+#[tactic(auto, using(crate::proofs::Scanning::later_is_passed))]
 fn end_with(entries: &[Entry], moment: Moment, now: Option<Winner>, bound: Moment, end: End) -> End
     requires { now ≡ winner_of_all_at entries.now moment }
     ensures { result ≡ cond (is_change entries.now moment bound) (earlier_of bound end) end }
 {
+    if !is_earlier(bound, &end) {
+        return end;
+    }
     if changes_at(entries, moment, now, bound) {
         End::At(bound).earlier(end)
     } else {
