@@ -32,7 +32,7 @@ LARGEST = (8191, 8192, 8193, 16383, 16384)
 class Shape:
     """How many scripts of 10,000 are of this shape, and what stands in one."""
 
-    share: int
+    share: float
     events: tuple = (2, 14)
     rounds: tuple = (2, 8)
     hours: tuple = (6, 12, 30, 240)
@@ -49,11 +49,11 @@ SHAPES = {
     "few objects": Shape(4400),
     "many events": Shape(1200, events=(15, 40), hours=(6, 12, 30)),
     "objects that go and come": Shape(1400, events=(2, 6), rounds=(4, 10), deletes=0.5, most_resources=5),
-    "faults": Shape(1200, events=(1, 4), rounds=(2, 4), faults=0.6, most_resources=3),
+    "faults": Shape(1205, events=(1, 4), rounds=(2, 4), faults=0.6, most_resources=3),
     "years": Shape(1200, events=(2, 10), has_eras=True),
     "borders of chunks": Shape(590, events=(2, 5), rounds=(2, 5), long=BORDERS, most_resources=4),
-    "borders of blocks": Shape(9, events=(1, 3), rounds=(1, 3), long=BLOCKS, most_resources=3),
-    "the largest events": Shape(1, events=(1, 2), rounds=(1, 2), long=LARGEST, most_resources=2, whole=0.1),
+    "borders of blocks": Shape(4.5, events=(1, 3), rounds=(1, 3), long=BLOCKS, most_resources=3),
+    "the largest events": Shape(0.5, events=(1, 2), rounds=(1, 2), long=LARGEST, most_resources=2, whole=0.1),
 }
 PLAIN_SHAPES = [name for name in SHAPES if name not in ("faults", "borders of blocks", "the largest events")]
 
