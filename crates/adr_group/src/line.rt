@@ -2,7 +2,6 @@
 ghost use Rattle.std.specs.Prelude.{◌≡◌, ◌+◌, ◌<◌, ◌≤◌, ℤ, None, IfOk, IsTrue, if◌then◌else◌};
 ghost use Rattle.std.specs.Option.{option_copied};
 ghost use Rattle.adr_refusal.specs.Answer.{OnlyNoMemory};
-ghost use Rattle.adr_model.specs.Entries.{meeting};
 ghost use Rattle.adr_model.specs.Governor.{winner_at};
 ghost use Rattle.adr_model.specs.Timeline.{shows};
 ghost use Rattle.adr_timeline.specs.Build.{most_compared_all};
@@ -47,26 +46,16 @@ impl<'a> Given<'a> {
     }
 }
 
-/// The entries of the index, where there is one, that meet the window.
-fn overlapping(alloc: Global, index: Option<&Index>, window: Span) -> Result<Vec<Entry>, Refusal>
-    ensures found { IfOk result (λ found. found.items ≡ meeting (indexed (option_copied index.entry)) window) }
-    ensures memory { OnlyNoMemory result }
-{
-    match index {
-        Some(index) => index.overlapping(window),
-        None => Ok(Vec::new(alloc)),
-    }
-}
-
 impl Source for Given<'_> {
     ghost use Rattle.adr_group.specs.Repair.{given_entries};
 
     ghost entries = { given_entries };
 
     fn meeting(&self, alloc: Global, window: Span) -> Result<Vec<Entry>, Refusal> {
-        let mut entries = overlapping(alloc, self.index, window)?;
-        entries.retain(|entry| self.writes.has(entry.rank.written));
-        Ok(entries)
+        match self.index {
+            Some(index) => index.overlapping_of(window, self.writes),
+            None => Ok(Vec::new(alloc)),
+        }
     }
 }
 
@@ -115,7 +104,7 @@ fn built_in(
 }
 
 /// What those writes show inside the windows, and nothing outside. `NoMemory` where there is no room for it. Cost: for
-/// each window that lasts, or for some that touch, that of `Index::overlapping`, and for each that of a timeline of the
+/// each window that lasts, or for some that touch, that of `Index::overlapping_of`, and for each that of a timeline of the
 /// entries of those writes that meet it; windows in order, as those of an event mostly are, are built in one pass.
 pub(crate) fn built(
     alloc: Global,

@@ -6,6 +6,7 @@ ghost use Rattle.adr_refusal.specs.Copy.{IsCopyOf};
 ghost use Rattle.adr_lines.specs.Right.{has_number};
 ghost use Rattle.adr_group.specs.Writes.{changed_number, is_number, stays};
 
+use adr_index::Wanted;
 use adr_value::Refusal;
 use std::alloc::Global;
 use std::marker::Model;
@@ -32,6 +33,16 @@ impl Model for Writes {
     ghost view = { λ w. w.numbers.items };
 
     ghost invariant = { λ w. IsStrictlyIncreasing w.numbers.items };
+}
+
+impl Wanted for Writes {
+    ghost use Rattle.adr_lines.specs.Right.{has_number};
+
+    ghost is_wanted = { has_number };
+
+    fn wants(&self, written: u64) -> bool {
+        self.has(written)
+    }
 }
 
 /// The numbers but for the one that goes, with room for one more.

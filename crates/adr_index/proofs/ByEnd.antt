@@ -1,9 +1,9 @@
 -- Entries in order of their ends.
-use Rattle.std.proofs.Common.{◌≡◌, ℕ, zero, suc, ◌+◌, ◌-◌, ◌/◌, ◌^◌, ◌<◌, ◌≤◌, Bool, true, false, ◌||◌, cond, List, [], ◌∷◌, ◌++◌, length, filter, take, drop, get_or, Option, refl, sym, ◌∙◌, ap, arith, ℤ, inl, inr}
+use Rattle.std.proofs.Common.{◌≡◌, ℕ, zero, suc, ◌+◌, ◌-◌, ◌/◌, ◌^◌, ◌<◌, ◌≤◌, Bool, true, false, ◌||◌, cond, List, [], ◌∷◌, ◌++◌, length, filter, take, drop, get_or, Option, refl, sym, ◌∙◌, ap, arith, ℤ}
 use Rattle.std.specs.List.{AllByRecursion, insert}
 use Rattle.std.proofs.Math.ListN.{drop_of_length-le}
 use Rattle.std.proofs.lemmas.List.{append_assoc, append-nil, drop_at, drop_more, get_or_default, get_or_read, get_or-take, length-append, length-take-le, take_at, take_more, take-append-drop}
-use Rattle.std.proofs.lemmas.Bool.{cases_Bool, false≢true, not-true}
+use Rattle.std.proofs.lemmas.Bool.{false≢true}
 use Rattle.adr_time.specs.declared.span.End.{End}
 use Rattle.adr_model.specs.declared.entry.Entry.{Entry}
 use Rattle.adr_index.specs.Index.{others, others_all}

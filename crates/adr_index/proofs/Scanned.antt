@@ -8,10 +8,10 @@ use Rattle.adr_model.specs.declared.entry.Entry.{Entry}
 use Rattle.adr_index.specs.declared.chunk.Chunk.{Chunk}
 use Rattle.adr_index.specs.declared.query.Query.{Query}
 use Rattle.adr_index.specs.Chunks.{all_listed, listed}
-use Rattle.adr_index.specs.Query.{any_late, hits, looks, reached}
+use Rattle.adr_index.specs.Query.{any_late, hits, looks, reached, wanted_of}
 use Rattle.adr_index.specs.Tree.{any_lasts, comes_after, greater_end, IsByStart}
 use Rattle.adr_index.proofs.Grown.{lasts_append, later_after, parted}
-use Rattle.adr_index.proofs.Searched.{found_left, grows, hits_append, late_append, looks_both, looks_left, reached_left, reached_parts, starts_left, starts_right}
+use Rattle.adr_index.proofs.Searched.{found_left, grows, late_append, looks_both, looks_left, reached_left, reached_parts, starts_left, starts_right, wanted_append}
 use Rattle.adr_index.proofs.Ordered.{or_grouped}
 
 pub each_taken : (P : Chunk → Type 0) (m : ℕ) (cs : List Chunk) → AllByRecursion P cs → AllByRecursion P (take m cs)
@@ -56,10 +56,10 @@ module _ (cs : List Chunk) (i : ℕ) (c : Chunk) (inside : i < length cs) (read 
     pub found_here : IsByStart (all_listed (drop i cs)) → any_late (listed c) q ≡ true → hits (all_listed (drop i cs)) q ≡ hits (listed c) q
     found_here o late = found_left (all_listed (drop i cs)) (listed c) (all_listed (drop (i + 1) cs)) q whole o late
 
-    pub found_rest : (found new all : List Entry) → found ++ hits (all_listed (drop i cs)) q ≡ all → new ≡ found ++ hits (listed c) q → new ++ hits (all_listed (drop (i + 1) cs)) q ≡ all
-    found_rest found new all h k =
-        rw k (append_assoc found (hits (listed c) q) (hits (all_listed (drop (i + 1) cs)) q)
-        ∙ (ap (λ (xs : List Entry). found ++ xs) (sym (hits_append (listed c) (all_listed (drop (i + 1) cs)) q) ∙ ap (λ (es : List Entry). hits es q) (sym whole)) ∙ h))
+    pub found_rest : (w : ℕ → Bool) (found new all : List Entry) → found ++ wanted_of w (hits (all_listed (drop i cs)) q) ≡ all → new ≡ found ++ wanted_of w (hits (listed c) q) → new ++ wanted_of w (hits (all_listed (drop (i + 1) cs)) q) ≡ all
+    found_rest w found new all h k =
+        rw k (append_assoc found (wanted_of w (hits (listed c) q)) (wanted_of w (hits (all_listed (drop (i + 1) cs)) q))
+        ∙ (ap (λ (xs : List Entry). found ++ xs) (sym (wanted_append w (listed c) (all_listed (drop (i + 1) cs)) q) ∙ ap (λ (es : List Entry). wanted_of w (hits es q)) (sym whole)) ∙ h))
 
     pub late_here : (all : Bool) → any_late (all_listed (drop i cs)) q ≡ all → any_late (listed c) q ≡ true → true ≡ all
     late_here all h late = rw late at first

@@ -11,7 +11,7 @@ use Rattle.adr_model.specs.declared.entry.Entry.{Entry}
 use Rattle.adr_index.specs.declared.query.Query.{Query}
 use Rattle.adr_index.specs.declared.query.Latest.{Latest}
 use Rattle.adr_index.specs.declared.query.Latest.TheVariants.{Before, By}
-use Rattle.adr_index.specs.Query.{any_late, begins, lasts_past, is_hit, is_late, hits, if_hit, looks, reached}
+use Rattle.adr_index.specs.Query.{any_late, begins, lasts_past, is_hit, is_late, hits, if_hit, looks, reached, wanted_of}
 use Rattle.adr_index.specs.Tree.{IsByStart, any_lasts}
 use Rattle.adr_index.proofs.Ordered.{all_left, all_right, or_grouped}
 
@@ -69,6 +69,13 @@ late_rest (x ∷ xs) ys q o h = elim (cases_Bool (is_late q x)) [
 
 pub hits_append : (xs ys : List Entry) (q : Query) → hits (xs ++ ys) q ≡ hits xs q ++ hits ys q
 hits_append xs ys q = filter-append (λ (e : Entry). is_hit q e) xs ys
+
+pub all_wanted : (es : List Entry) → wanted_of (λ _. true) es ≡ es
+all_wanted [] = refl
+all_wanted (e ∷ es) = ap (λ (fs : List Entry). e ∷ fs) (all_wanted es)
+
+pub wanted_append : (w : ℕ → Bool) (xs ys : List Entry) (q : Query) → wanted_of w (hits (xs ++ ys) q) ≡ wanted_of w (hits xs q) ++ wanted_of w (hits ys q)
+wanted_append w xs ys q = ap (wanted_of w) (hits_append xs ys q) ∙ filter-append (λ (e : Entry). w e.rank.written) (hits xs q) (hits ys q)
 
 pub late_append : (xs ys : List Entry) (q : Query) → any_late (xs ++ ys) q ≡ (any_late xs q || any_late ys q)
 late_append [] ys q = refl
@@ -140,11 +147,11 @@ module _ (es : List Entry) (i : ℕ) (x : Entry) (q : Query) (inside : i < lengt
       let begun = not-true (begins q.latest x.span.start) (and_parts (lasts_past x q.from) (not (begins q.latest x.span.start)) late).1 in
       rw (here, late_missed x q begun) (none_begin (drop (i + 1) es) x.span.start q (rw here at o).0 begun)
 
-  pub stepped_found : (found new all : List Entry) → found ++ hits (drop i es) q ≡ all → new ≡ found ++ if_hit x q → new ++ hits (drop (i + 1) es) q ≡ all
-  stepped_found found new all h k = rw k (append_assoc found (if_hit x q) (hits (drop (i + 1) es) q) ∙ (ap (λ (zs : List Entry). found ++ zs) (sym (either (is_hit q x))) ∙ (rw here at h)))
+  pub stepped_found : (w : ℕ → Bool) (found new all : List Entry) → found ++ wanted_of w (hits (drop i es) q) ≡ all → new ≡ found ++ wanted_of w (if_hit x q) → new ++ wanted_of w (hits (drop (i + 1) es) q) ≡ all
+  stepped_found w found new all h k = rw k (append_assoc found (wanted_of w (if_hit x q)) (wanted_of w (hits (drop (i + 1) es) q)) ∙ (ap (λ (zs : List Entry). found ++ zs) (sym (either (is_hit q x))) ∙ (rw here at h)))
     where
-      either : (b : Bool) → (if b then x ∷ hits (drop (i + 1) es) q else hits (drop (i + 1) es) q) ≡ (if b then x ∷ [] else []) ++ hits (drop (i + 1) es) q
-      either true = refl
+      either : (b : Bool) → wanted_of w (if b then x ∷ hits (drop (i + 1) es) q else hits (drop (i + 1) es) q) ≡ wanted_of w (if b then x ∷ [] else []) ++ wanted_of w (hits (drop (i + 1) es) q)
+      either true = filter-append (λ (e : Entry). w e.rank.written) (x ∷ []) (hits (drop (i + 1) es) q)
       either false = refl
 
   pub stepped_late : (all : Bool) → any_late (drop i es) q ≡ all → is_late q x ≡ false → any_late (drop (i + 1) es) q ≡ all

@@ -1,7 +1,6 @@
 -- The chunks of an index.
-use Rattle.std.specs.Prelude.{◌≡◌, ℕ, ℤ, ◌^◌, ◌-◌, ◌<◌, ◌≤◌, Bool, false, ⊤, List, [], ◌∷◌, length, slice_index_or, sum_by, Option, Some, None, vec_capacity}
+use Rattle.std.specs.Prelude.{◌≡◌, ℕ, ℤ, ◌-◌, ◌<◌, ◌≤◌, Bool, false, ⊤, List, [], ◌∷◌, length, slice_index_or, sum_by, Option, Some, None, vec_capacity}
 use Rattle.std.specs.List.{AllByRecursion, flat_map}
-use Rattle.adr_time.specs.declared.span.End.{End}
 use Rattle.adr_model.specs.declared.entry.Entry.{Entry}
 use Rattle.adr_model.specs.Entries.{is_listed_before}
 use Rattle.adr_index.specs.declared.chunk.Chunk.{Chunk}

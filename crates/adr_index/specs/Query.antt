@@ -28,6 +28,10 @@ is_late q e = lasts_past e q.from && not (begins q.latest e.span.start)
 abbrev pub hits : List Entry → Query → List Entry
 hits es q = filter (is_hit q) es
 
+-- those of the wanted writes
+abbrev pub wanted_of : (ℕ → Bool) → List Entry → List Entry
+wanted_of is_wanted es = filter (λ e. is_wanted e.rank.written) es
+
 -- the entry, where it is asked for
 abbrev pub if_hit : Entry → Query → List Entry
 if_hit e q = if is_hit q e then e ∷ [] else []

@@ -2,15 +2,15 @@
 ghost use Rattle.std.specs.Prelude.{◌≡◌, ◌+◌, ◌-◌, ◌*◌, ◌<◌, ◌≤◌, ◌++◌, ◌∷◌, [], ◌^◌, true, IfNone, IfOk, IfSome, OnOk, length, take, drop, vec_capacity};
 ghost use Rattle.std.specs.List.{remove_range};
 ghost use Rattle.adr_index.specs.Chunks.{listed_too, ArePooled, IsChunk, IsPooled, IsRoomy, IsSettled, StartsLast};
-ghost use Rattle.adr_index.specs.Query.{any_late, hits, looks};
+ghost use Rattle.adr_index.specs.Query.{any_late, hits, looks, wanted_of};
 ghost use Rattle.adr_index.specs.Tree.{IsByEnd, IsByStart};
 ghost use Rattle.adr_index.specs.Index.{inserted, inserted_all, others_all, IsOrdered};
 
 use crate::by_end::{are_by_end, fits, last_of};
 use crate::order::{comes_before, place_of};
-use crate::query::Query;
 use crate::reach::Reach;
 use crate::tree::{digits, rebuild, search};
+use crate::wanted::{Asked, Wanted};
 use adr_model::Entry;
 use adr_rule::Meter;
 use adr_time::Moment;
@@ -315,26 +315,26 @@ impl Chunk {
     }
 
     /// Searches its entries, as the search of their tree does.
-    pub(crate) fn search(
+    pub(crate) fn search<W: Wanted>(
         &self,
         depth: u32,
-        query: &Query,
+        asked: &Asked<W>,
         found: &mut Vec<Entry>,
         meter: &mut Meter,
     ) -> Result<bool, AllocError>
         requires chunk { IsChunk self.now }
         requires depth { 2 * length self.now.entries.items ≤ 2 ^ depth }
         requires order { IsByStart self.now.entries.items }
-        ensures found { OnOk result (found.new.items ≡ found.old.items ++ hits self.now.entries.items query.now) }
-        ensures late { IfOk result (λ is_late. is_late ≡ any_late self.now.entries.items query.now) }
-        ensures looks { meter.new ≤ meter.old + looks depth self.now.entries.items query.now }
+        ensures found { OnOk result (found.new.items ≡ found.old.items ++ wanted_of (W.is_wanted asked.now.wanted.now) (hits self.now.entries.items asked.now.query)) }
+        ensures late { IfOk result (λ is_late. is_late ≡ any_late self.now.entries.items asked.now.query) }
+        ensures looks { meter.new ≤ meter.old + looks depth self.now.entries.items asked.now.query }
     {
         search(
             depth,
             self.is_by_end,
             &self.entries,
             &self.greatest,
-            query,
+            asked,
             found,
             meter,
         )

@@ -6,7 +6,7 @@ ghost use Rattle.adr_refusal.specs.Answer.{OnlyNoMemory};
 ghost use Rattle.adr_model.specs.Entries.{covering, meeting, IsListed};
 ghost use Rattle.adr_index.specs.Chunks.{all_listed, listed, AreChunks};
 ghost use Rattle.adr_index.specs.Index.{inserted, inserted_all, is_entry, most_probes, others_all, without, AreDistinct, AreNew, IsOrdered};
-ghost use Rattle.adr_index.specs.Query.{hits};
+ghost use Rattle.adr_index.specs.Query.{hits, wanted_of};
 ghost use Rattle.adr_index.specs.Tables.{HasTops, HasTopsBut, IsTable};
 
 use crate::chunk::Chunk;
@@ -17,6 +17,7 @@ use crate::stretch::Stretch;
 use crate::table::{Table, home};
 use crate::tops::{rebuild_chunks, search_chunks};
 use crate::tree::digits;
+use crate::wanted::{Asked, Every, Wanted};
 use adr_model::Entry;
 use adr_refusal::Refusal;
 use adr_rule::Meter;
@@ -352,9 +353,13 @@ impl Index {
     }
 
     /// The entries that are asked for, with a tick for each look.
-    fn find_counted(&self, query: &Query, meter: &mut Meter) -> Result<Vec<Entry>, AllocError>
-        ensures found { IfOk result (λ found. found.items ≡ hits self.now.entries query.now) }
-        ensures probes { meter.new ≤ meter.old + most_probes self.now.entries (length (hits self.now.entries query.now)) }
+    fn find_counted<W: Wanted>(
+        &self,
+        asked: &Asked<W>,
+        meter: &mut Meter,
+    ) -> Result<Vec<Entry>, AllocError>
+        ensures found { IfOk result (λ found. found.items ≡ wanted_of (W.is_wanted asked.now.wanted.now) (hits self.now.entries asked.now.query)) }
+        ensures probes { meter.new ≤ meter.old + most_probes self.now.entries (length (hits self.now.entries asked.now.query)) }
     {
         let mut found = Vec::with_capacity(*self.tops.allocator(), OFTEN)?;
         let depth = digits(self.table.count);
@@ -363,19 +368,23 @@ impl Index {
             depth + 1,
             &self.table.chunks,
             &self.tops,
-            query,
+            asked,
             &mut found,
             meter,
         )?;
         Ok(found)
     }
 
-    /// The entries that are asked for.
-    fn find(&self, query: &Query) -> Result<Vec<Entry>, AllocError>
-        ensures { IfOk result (λ found. found.items ≡ hits self.now.entries query.now) }
+    /// The entries that are asked for, whatever write they are of, with a tick for each look.
+    fn find_all(&self, query: Query, meter: &mut Meter) -> Result<Vec<Entry>, AllocError>
+        ensures found { IfOk result (λ found. found.items ≡ hits self.now.entries query) }
+        ensures probes { meter.new ≤ meter.old + most_probes self.now.entries (length (hits self.now.entries query)) }
     {
-        let mut meter = Meter::new();
-        self.find_counted(query, &mut meter)
+        let asked = Asked {
+            query,
+            wanted: &Every,
+        };
+        self.find_counted(&asked, meter)
     }
 
     /// The entries that cover the moment, in order. Cost: as much as [`Index::covering_counted`] says.
@@ -387,9 +396,8 @@ impl Index {
         ensures found { IfOk result (λ found. found.items ≡ covering self.now.entries at) }
         ensures refused { OnlyNoMemory result }
     {
-        let query = query_at(at);
-        let found = self.find(&query)?;
-        Ok(found)
+        let mut meter = Meter::new();
+        self.covering_counted(at, &mut meter)
     }
 
     /// The entries whose span meets the window, in order. Cost: as much as [`Index::overlapping_counted`] says.
@@ -401,11 +409,26 @@ impl Index {
         ensures found { IfOk result (λ found. found.items ≡ meeting self.now.entries window) }
         ensures refused { OnlyNoMemory result }
     {
+        let mut meter = Meter::new();
+        self.overlapping_counted(window, &mut meter)
+    }
+
+    /// The entries of the wanted writes whose span meets the window, in order. Cost: as much as
+    /// [`Index::overlapping_counted`] says, and a question for each entry that meets the window.
+    ///
+    /// # Errors
+    ///
+    /// `NoMemory` where there is no room for them.
+    pub fn overlapping_of<W: Wanted>(&self, window: Span, wanted: &W) -> Result<Vec<Entry>, Refusal>
+        ensures found { IfOk result (λ found. found.items ≡ wanted_of (W.is_wanted wanted.now) (meeting self.now.entries window)) }
+        ensures refused { OnlyNoMemory result }
+    {
         if !window.lasts() {
             return Ok(Vec::new(*self.tops.allocator()));
         }
+        let mut meter = Meter::new();
         let query = query_of(&window);
-        let found = self.find(&query)?;
+        let found = self.find_counted(&Asked { query, wanted }, &mut meter)?;
         Ok(found)
     }
 
@@ -420,8 +443,7 @@ impl Index {
         ensures probes { meter.new ≤ meter.old + most_probes self.now.entries (length (covering self.now.entries at)) }
         ensures refused { OnlyNoMemory result }
     {
-        let query = query_at(at);
-        let found = self.find_counted(&query, meter)?;
+        let found = self.find_all(query_at(at), meter)?;
         Ok(found)
     }
 
@@ -443,8 +465,7 @@ impl Index {
         if !window.lasts() {
             return Ok(Vec::new(*self.tops.allocator()));
         }
-        let query = query_of(&window);
-        let found = self.find_counted(&query, meter)?;
+        let found = self.find_all(query_of(&window), meter)?;
         Ok(found)
     }
 }

@@ -11,6 +11,8 @@ mod stretch;
 mod table;
 mod tops;
 mod tree;
+mod wanted;
 
 pub use adr_model::Entry;
 pub use index::Index;
+pub use wanted::Wanted;

@@ -2,13 +2,14 @@
 ghost use Rattle.std.specs.Prelude.{◌≡◌, ◌+◌, ◌*◌, ◌<◌, ◌≤◌, ◌^◌, ◌++◌, IfOk, OnOk, length};
 ghost use Rattle.std.specs.List.{AllByRecursion};
 ghost use Rattle.adr_index.specs.Chunks.{all_listed, listed, AreChunks};
-ghost use Rattle.adr_index.specs.Query.{any_late, hits, looks, reached};
+ghost use Rattle.adr_index.specs.Query.{any_late, hits, looks, reached, wanted_of};
 ghost use Rattle.adr_index.specs.Tables.{HasTops};
 ghost use Rattle.adr_index.specs.Tree.{any_lasts, IsByStart, IsGreatest, IsTree, IsTreeBut};
 
 use crate::chunk::Chunk;
 use crate::query::Query;
 use crate::reach::Reach;
+use crate::wanted::{Asked, Wanted};
 use adr_model::Entry;
 use adr_rule::Meter;
 use std::alloc::AllocError;
@@ -17,22 +18,22 @@ use std::alloc::AllocError;
 const FEW: usize = 6;
 
 /// Searches the few chunks, up to an entry that lasts and starts too late, and answers whether it came to such a one.
-fn scan_chunks(
+fn scan_chunks<W: Wanted>(
     depth: u32,
     chunks: &[Chunk],
-    query: &Query,
+    asked: &Asked<W>,
     found: &mut Vec<Entry>,
     meter: &mut Meter,
 ) -> Result<bool, AllocError>
     requires chunks { AreChunks chunks.now }
     requires depth { AllByRecursion (λ c. 2 * length (listed c) ≤ 2 ^ depth) chunks.now }
     requires order { IsByStart (all_listed chunks.now) }
-    ensures found { OnOk result (found.new.items ≡ found.old.items ++ hits (all_listed chunks.now) query.now) }
-    ensures late { IfOk result (λ is_late. is_late ≡ any_late (all_listed chunks.now) query.now) }
-    ensures looks { meter.new ≤ meter.old + length chunks.now + 2 * depth * reached (all_listed chunks.now) query.now }
+    ensures found { OnOk result (found.new.items ≡ found.old.items ++ wanted_of (W.is_wanted asked.now.wanted.now) (hits (all_listed chunks.now) asked.now.query)) }
+    ensures late { IfOk result (λ is_late. is_late ≡ any_late (all_listed chunks.now) asked.now.query) }
+    ensures looks { meter.new ≤ meter.old + length chunks.now + 2 * depth * reached (all_listed chunks.now) asked.now.query }
 {
     for chunk in chunks {
-        if chunk.search(depth, query, found, meter)? {
+        if chunk.search(depth, asked, found, meter)? {
             return Ok(true);
         }
     }
@@ -51,12 +52,12 @@ fn any_chunk_reaches(chunks: &[Chunk], tops: &[Reach], query: &Query) -> bool
 
 /// Adds the entries of the chunks that are asked for, as the search of a chunk does, which takes `depth` levels, one
 /// more than its entries need.
-pub(crate) fn search_chunks(
+pub(crate) fn search_chunks<W: Wanted>(
     levels: u32,
     depth: u32,
     chunks: &[Chunk],
     tops: &[Reach],
-    query: &Query,
+    asked: &Asked<W>,
     found: &mut Vec<Entry>,
     meter: &mut Meter,
 ) -> Result<bool, AllocError>
@@ -66,29 +67,29 @@ pub(crate) fn search_chunks(
     requires lengths { length chunks.now ≤ length tops.now + 1 }
     requires tree { IsTree listed 6 levels chunks.now tops.now }
     requires order { IsByStart (all_listed chunks.now) }
-    ensures found { OnOk result (found.new.items ≡ found.old.items ++ hits (all_listed chunks.now) query.now) }
-    ensures late { IfOk result (λ is_late. is_late ≡ any_late (all_listed chunks.now) query.now) }
-    ensures looks { meter.new ≤ meter.old + looks (levels + depth) (all_listed chunks.now) query.now }
+    ensures found { OnOk result (found.new.items ≡ found.old.items ++ wanted_of (W.is_wanted asked.now.wanted.now) (hits (all_listed chunks.now) asked.now.query)) }
+    ensures late { IfOk result (λ is_late. is_late ≡ any_late (all_listed chunks.now) asked.now.query) }
+    ensures looks { meter.new ≤ meter.old + looks (levels + depth) (all_listed chunks.now) asked.now.query }
 {
     let count = chunks.len();
     if count < 2 {
-        return scan_chunks(depth, chunks, query, found, meter);
+        return scan_chunks(depth, chunks, asked, found, meter);
     }
     let middle = count / 2;
     meter.tick();
-    if !any_chunk_reaches(chunks, tops, query) {
+    if !any_chunk_reaches(chunks, tops, &asked.query) {
         return Ok(false);
     }
     if count <= FEW {
-        return scan_chunks(depth, chunks, query, found, meter);
+        return scan_chunks(depth, chunks, asked, found, meter);
     }
     let (left, right) = chunks.split_at(middle);
     let (front, _) = tops.split_at(middle - 1);
     let (_, back) = tops.split_at(middle);
-    if search_chunks(levels - 1, depth, left, front, query, found, meter)? {
+    if search_chunks(levels - 1, depth, left, front, asked, found, meter)? {
         return Ok(true);
     }
-    search_chunks(levels - 1, depth, right, back, query, found, meter)
+    search_chunks(levels - 1, depth, right, back, asked, found, meter)
 }
 
 /// The greatest end of the few chunks.

@@ -2,12 +2,13 @@
 //! its middle, and the greatest end of all of it stands before the ends of the second part.
 ghost use Rattle.std.specs.Prelude.{◌≡◌, ◌+◌, ◌*◌, ◌<◌, ◌≤◌, ◌^◌, ◌++◌, IfOk, OnOk, length};
 ghost use Rattle.adr_index.specs.Index.{digits as digits_of};
-ghost use Rattle.adr_index.specs.Query.{any_late, hits, if_hit, looks};
+ghost use Rattle.adr_index.specs.Query.{any_late, hits, if_hit, looks, wanted_of};
 ghost use Rattle.adr_index.specs.Tree.{any_lasts, only, AreSearched, HasEnds, IsByStart, IsGreatest, IsTree};
 
 use crate::by_end::last_of;
 use crate::query::{Query, is_hit, is_late};
 use crate::reach::Reach;
+use crate::wanted::{Asked, Wanted};
 use adr_model::Entry;
 use adr_rule::Meter;
 use adr_time::{End, Span};
@@ -26,10 +27,14 @@ pub(crate) fn digits(number: usize) -> u32
 }
 
 /// Adds the entry, where it is asked for.
-fn keep_hit(entry: &Entry, query: &Query, found: &mut Vec<Entry>) -> Result<(), AllocError>
-    ensures { OnOk result (found.new.items ≡ found.old.items ++ if_hit entry.now query.now) }
+fn keep_hit<W: Wanted>(
+    entry: &Entry,
+    asked: &Asked<W>,
+    found: &mut Vec<Entry>,
+) -> Result<(), AllocError>
+    ensures { OnOk result (found.new.items ≡ found.old.items ++ wanted_of (W.is_wanted asked.now.wanted.now) (if_hit entry.now asked.now.query)) }
 {
-    if is_hit(entry, query) {
+    if is_hit(entry, &asked.query) && asked.wanted.wants(entry.rank.written) {
         let end: End = entry.span.end;
         let span = Span {
             start: entry.span.start,
@@ -46,23 +51,23 @@ fn keep_hit(entry: &Entry, query: &Query, found: &mut Vec<Entry>) -> Result<(), 
 
 /// Adds the few entries that are asked for, in order, up to one that lasts and starts too late, and answers whether it
 /// came to such a one. Each look at an entry is a tick.
-fn scan(
+fn scan<W: Wanted>(
     entries: &[Entry],
-    query: &Query,
+    asked: &Asked<W>,
     found: &mut Vec<Entry>,
     meter: &mut Meter,
 ) -> Result<bool, AllocError>
     requires order { IsByStart entries.now }
-    ensures found { OnOk result (found.new.items ≡ found.old.items ++ hits entries.now query.now) }
-    ensures late { IfOk result (λ is_late. is_late ≡ any_late entries.now query.now) }
+    ensures found { OnOk result (found.new.items ≡ found.old.items ++ wanted_of (W.is_wanted asked.now.wanted.now) (hits entries.now asked.now.query)) }
+    ensures late { IfOk result (λ is_late. is_late ≡ any_late entries.now asked.now.query) }
     ensures looks { meter.new ≤ meter.old + length entries.now }
 {
     for entry in entries {
         meter.tick();
-        if is_late(entry, query) {
+        if is_late(entry, &asked.query) {
             return Ok(true);
         }
-        keep_hit(entry, query, found)?;
+        keep_hit(entry, asked, found)?;
     }
     Ok(false)
 }
@@ -83,12 +88,12 @@ fn any_reaches(is_by_end: bool, entries: &[Entry], greatest: &[Reach], query: &Q
 /// Adds the entries that are asked for, in order, and answers whether it came to one that lasts and starts too late.
 /// They are in order of their ends too, or have a tree of these. Each look at an entry or at an end is a tick. A level
 /// more than the entries need pays for the few that are gone through one by one.
-pub(crate) fn search(
+pub(crate) fn search<W: Wanted>(
     levels: u32,
     is_by_end: bool,
     entries: &[Entry],
     greatest: &[Reach],
-    query: &Query,
+    asked: &Asked<W>,
     found: &mut Vec<Entry>,
     meter: &mut Meter,
 ) -> Result<bool, AllocError>
@@ -96,29 +101,29 @@ pub(crate) fn search(
     requires lengths { length entries.now ≤ length greatest.now + 1 }
     requires ends { AreSearched is_by_end levels entries.now greatest.now }
     requires order { IsByStart entries.now }
-    ensures found { OnOk result (found.new.items ≡ found.old.items ++ hits entries.now query.now) }
-    ensures late { IfOk result (λ is_late. is_late ≡ any_late entries.now query.now) }
-    ensures looks { meter.new ≤ meter.old + looks levels entries.now query.now }
+    ensures found { OnOk result (found.new.items ≡ found.old.items ++ wanted_of (W.is_wanted asked.now.wanted.now) (hits entries.now asked.now.query)) }
+    ensures late { IfOk result (λ is_late. is_late ≡ any_late entries.now asked.now.query) }
+    ensures looks { meter.new ≤ meter.old + looks levels entries.now asked.now.query }
 {
     let count = entries.len();
     if count < 2 {
-        return scan(entries, query, found, meter);
+        return scan(entries, asked, found, meter);
     }
     let middle = count / 2;
     meter.tick();
-    if !any_reaches(is_by_end, entries, greatest, query) {
+    if !any_reaches(is_by_end, entries, greatest, &asked.query) {
         return Ok(false);
     }
     if count <= FEW {
-        return scan(entries, query, found, meter);
+        return scan(entries, asked, found, meter);
     }
     let (left, right) = entries.split_at(middle);
     let (front, _) = greatest.split_at(middle - 1);
     let (_, back) = greatest.split_at(middle);
-    if search(levels - 1, is_by_end, left, front, query, found, meter)? {
+    if search(levels - 1, is_by_end, left, front, asked, found, meter)? {
         return Ok(true);
     }
-    search(levels - 1, is_by_end, right, back, query, found, meter)
+    search(levels - 1, is_by_end, right, back, asked, found, meter)
 }
 
 /// The greatest end of the few entries.

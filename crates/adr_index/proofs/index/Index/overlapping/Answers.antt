@@ -1,9 +1,0 @@
-use Rattle.std.proofs.Common.{rules, ◌≡◌, ◌∙◌, sym, false}
-use Rattle.adr_time.specs.Spans.{lasts}
-use Rattle.adr_index.proofs.Asked.{meeting_empty}
-use Rattle.adr_index.proofs.index.Index.overlapping.Goals as goal
-
-pub returns-then-not-lasts-clause-found : goal.returns-then-not-lasts-clause-found
-returns-then-not-lasts-clause-found c =
-    let empty : lasts c.args.window ≡ false = search rules in
-    c.new.ensures.items ∙ sym (meeting_empty c.args.self.now.entries c.args.window empty)
