@@ -36,6 +36,7 @@ pub(crate) fn find_meeting(
     ensures { OnOk result (found.new.items ≡ meeting entries.now window.now) }
 {
     found.clear();
+    found.reserve(entries.len())?;
     for entry in entries {
         if meets(&entry.span, window) {
             found.push(*entry)?;

@@ -96,7 +96,9 @@ fn add_chunks<R: Ranks>(
     ensures { OnOk result (entries.new.items ≡ entries.old.items ++ map (shown_entry (R.rank ranks.now)) (listed chunks.now)) }
 {
     for chunk in chunks {
-        add_shown(entries, chunk.segments(), ranks)?;
+        let segments = chunk.segments();
+        entries.reserve(segments.len())?;
+        add_shown(entries, segments, ranks)?;
     }
     Ok(())
 }
