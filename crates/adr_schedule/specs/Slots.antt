@@ -12,6 +12,10 @@ in_slot values slot = lookup (slot ∷ []) values
 abbrev pub value_at : {G : Type 0} → List ℕ → List (List ℕ × G) → ℕ → Option G
 value_at seats values place = option_and_then (λ slot. in_slot values slot) (slice_get seats place)
 
+-- there is a value in the slot
+abbrev pub HasSlot : {G : Type 0} → List (List ℕ × G) → ℕ → Type 0
+HasSlot {G} values slot = (g : G) × (in_slot values slot ≡ Some g)
+
 -- some place has the slot
 abbrev pub is_taken : List ℕ → ℕ → Bool
 is_taken seats slot = list_any (λ s. s == slot) seats

@@ -1,5 +1,6 @@
 //! What is to be made of the groups of some places, before any place moves.
 ghost use Rattle.std.specs.Prelude.{◌≡◌, ◌≤◌, ◌+◌, ◌++◌, ◌∷◌, ℕ, List, true, false, Some, None, slice_get, sum_by, IfOk, IfSome, OnOk, MatchOption};
+ghost use Rattle.std.specs.Bool.{MatchBool};
 ghost use Rattle.std.specs.Option.{option_copied, option_map_or};
 ghost use Rattle.adr_refusal.specs.Answer.{OnlyNoMemory};
 ghost use Rattle.adr_model.specs.Lists.{In};
@@ -9,7 +10,7 @@ ghost use Rattle.adr_schedule.specs.declared.draft.Draft.{Draft as AnyDraft};
 ghost use Rattle.adr_schedule.specs.Draft.{most_drafted, AreDraftsIn, AreDraftsOf, AreSeen, AreWindowsFor, IsDraftOf, IsSame, IsSeen};
 ghost use Rattle.adr_schedule.specs.Moves.{asked_at, is_among};
 ghost use Rattle.adr_schedule.specs.Shift.{kept_side, most_shifted, number_in, sides_for, AreTwo};
-ghost use Rattle.adr_schedule.specs.Slots.{in_slot};
+ghost use Rattle.adr_schedule.specs.Slots.{in_slot, HasSlot};
 ghost use Rattle.adr_schedule.specs.Tally.{AreAllOf, HasSeen, IsTallied};
 
 use crate::change::{Change, Side};
@@ -210,11 +211,13 @@ pub(crate) struct Drafted {
     pub(crate) slots: Option<Vec<u64>>,
 }
 
-/// The drafts of some slots, those slots, each under its own number, and counted, and the windows that were asked for.
+/// The drafts of some slots, those slots, each under its own number, and counted, that of the last place, and the windows
+/// that were asked for.
 #[derive(Drop)]
 struct Drafts {
     list: Vec<Draft>,
     seen: SharedMap<u64, u64>,
+    last: Option<u64>,
     tally: Tally,
     windows: Windows,
 }
@@ -248,6 +251,17 @@ fn add(
     Ok(())
 }
 
+/// Whether the slot was looked at: that of the place before mostly is the same.
+fn is_seen(drafts: &Drafts, slot: u64) -> bool
+    requires { IfSome drafts.now.last (HasSlot drafts.now.seen) }
+    ensures { MatchBool result (HasSlot drafts.now.seen slot) (in_slot drafts.now.seen slot ≡ None) }
+{
+    if drafts.last == Some(slot) {
+        return true;
+    }
+    drafts.seen.get(&slot).is_some()
+}
+
 /// Adds the draft of the place's slot, unless that was looked at.
 fn add_place(
     alloc: Global,
@@ -261,6 +275,8 @@ fn add_place(
     requires two { AreTwo change.now }
     requires drafts { AreDraftsIn change.now groups.now drafts.old.list.items }
     requires known { AreSeen change.now groups.now drafts.old.list.items drafts.old.seen }
+    requires last { IfSome drafts.old.last (HasSlot drafts.old.seen) }
+    ensures last { OnOk result (IfSome drafts.new.last (HasSlot drafts.new.seen)) }
     ensures windows { OnOk result (AreWindowsFor change.now drafts.new.windows) }
     ensures drafts { OnOk result (AreDraftsIn change.now groups.now drafts.new.list.items) }
     ensures own { OnOk result (AreDraftsOf change.now drafts.old.list.items → AreDraftsOf change.now drafts.new.list.items) }
@@ -276,12 +292,14 @@ fn add_place(
         drafts.tally.left = None;
         return Ok(());
     };
-    if let Some(_known) = drafts.seen.get(&slot) {
+    if is_seen(drafts, slot) {
+        drafts.last = Some(slot);
         return Ok(());
     }
     let Drafts { list, windows, .. } = drafts;
     add(alloc, groups, slot, change, windows, list)?;
     drafts.seen = drafts.seen.put(alloc, slot, slot)?;
+    drafts.last = Some(slot);
     drafts.tally.add(seats, slot)?;
     Ok(())
 }
@@ -306,6 +324,7 @@ pub(crate) fn drafts_of(
     let mut drafts = Drafts {
         list: Vec::new(alloc),
         seen: SharedMap::new(),
+        last: None,
         tally: Tally::new(alloc, places.len()),
         windows: Windows::none(),
     };

@@ -16,6 +16,7 @@ rest-preserved c =
       windows = new.ensures.windows;
       drafts = new.ensures.drafts;
       own = new.ensures.own c.rest.invariant.own;
+      last = new.ensures.last;
       known = new.ensures.known;
       seen = λ p s among at. next_seen c.args.change.now c.args.groups.now c.rest.drafts.list.items c.add_place.new.drafts.list.items c.args.seats.now c.rest.rest.now more place
           c.in-Some.ensures.cases.0 new.ensures.grows new.ensures.seen p s at (c.rest.invariant.seen p s among at);
