@@ -199,10 +199,50 @@ static void names(void) {
     SEE(is_named("UNKNOWN", 30) && is_named("UNKNOWN", 97) && is_named("UNKNOWN", 104) && is_named("UNKNOWN", UINT32_MAX));
 }
 
+#if __GLIBC__ == 2 && __GLIBC_MINOR__ >= 33
+#include <malloc.h>
+/* The bytes of the heap that are in use; 0 where a checker has a heap of its own. */
+static size_t in_use(void) {
+    struct mallinfo2 heap = mallinfo2();
+    return heap.uordblks + heap.hblkhd;
+}
+
+/* What an editor keeps of an event of so many intervals, each with so many values. */
+static size_t kept(unsigned intervals, unsigned values) {
+    static char body[200000];
+    kuvteleg_editor editor = {0};
+    char *at = body + sprintf(body, "{\"programID\":\"p1\",\"intervalPeriod\":{\"start\":\"2024-01-01T00:00:00Z\"},\"intervals\":[");
+    for (unsigned i = 0; i < intervals; i++) {
+        at += sprintf(at, "%s{\"payloads\":[%s", i ? "," : "", values ? "{\"type\":\"PRICE\",\"values\":[0" : "");
+        for (unsigned k = 1; k < values; k++)
+            at += sprintf(at, ",0");
+        at += sprintf(at, "%s]}", values ? "]}" : "");
+    }
+    strcpy(at, "]}");
+    SEE(kuvteleg_open(&editor, KUVTELEG_NEWEST) == KUVTELEG_OK);
+    SEE(create(&editor, KUVTELEG_PROGRAM, "p1", "{\"programName\":\"P\"}") == KUVTELEG_OK);
+    size_t before = in_use();
+    SEE(create(&editor, KUVTELEG_EVENT, "e1", body) == KUVTELEG_OK);
+    size_t taken = in_use() - before;
+    SEE(taken > 0 || in_use() == 0);
+    SEE(kuvteleg_close(&editor) == KUVTELEG_OK);
+    return taken;
+}
+
+/* Lists keep no room to spare: one that grew beyond a power of two keeps little more than one that has just so many. */
+static void lists_without_room(void) {
+    SEE(kept(8200, 0) <= kept(8192, 0) * 5 / 4);
+    SEE(kept(1000, 33) <= kept(1000, 32) * 5 / 4);
+}
+#else
+static void lists_without_room(void) {}
+#endif
+
 int main(void) {
     closed_handles();
     names();
     readers();
+    lists_without_room();
     printf("%u passed, %u failed\n", passed, failed);
     return failed != 0;
 }
