@@ -1,4 +1,4 @@
-/* Calls each function of the library, in the right and in the wrong order. */
+/* Calls each function of the library, in the right and in the wrong order, and measures what lists keep. */
 #include "kuvteleg.h"
 #include <ctype.h>
 #include <stdio.h>
