@@ -3,7 +3,7 @@
 //! What is measured is let go by `drop` before an answer is looked at: at the end of its scope it would be taken apart,
 //! field by field, in the proof of each function that has it. A line is printed by a function of its own, since a step
 //! that prints is proved over the types of all that is in scope there.
-ghost use Rattle.std.specs.Prelude.{◌≡◌, Ok, IfOk};
+ghost use Rattle.std.specs.Prelude.{◌≡◌, Ok, IfOk, IsErr, OnErr};
 
 use adr_value::Refusal;
 use std::io;
@@ -16,7 +16,8 @@ use std::time::Instant;
 ///
 /// `OutOfMemory` for any refusal.
 pub fn told<T: Drop>(answer: Result<T, Refusal>) -> io::Result<T>
-    ensures { IfOk result (λ value. answer ≡ Ok value) }
+    ensures ok { IfOk result (λ value. answer ≡ Ok value) }
+    ensures err { OnErr result (IsErr answer) }
 {
     match answer {
         Ok(value) => Ok(value),
