@@ -4,6 +4,7 @@ ghost use Rattle.std.specs.Prelude.{◌≤◌};
 
 use adr_server::{Fault, Job, Logs, NoGate, Tie, fan, job, run, status};
 use clap::{Error, error};
+use std::alloc::Global;
 use std::fmt::Display;
 use std::process::ExitCode;
 use std::rt::Env;
@@ -14,6 +15,9 @@ use std::{env, io};
 const FAULT: u8 = 1;
 
 const BAD_COMMAND_LINE: u8 = 2;
+
+/// More bytes than a list of an edit or a reply takes at once, and fewer than the 32 MiB up to which the C library learns.
+const LARGE: usize = 16 << 20;
 
 /// Does what the words of the command line ask for, and answers the exit status: 0 at the end of input, 1 after a
 /// fault, 2 for a bad command line. What standard output and standard error take changes no status, but that a help
@@ -32,6 +36,7 @@ pub(crate) fn start_program<
         + Sync
         + 'static,
 >(rt: &R) -> ExitCode {
+    keep_freed_memory(rt.alloc());
     match words(rt) {
         Ok(words) => match job(rt.alloc(), words) {
             Ok(Job::Run(workers, tie)) => run_script(rt, workers, tie),
@@ -44,6 +49,12 @@ pub(crate) fn start_program<
         }
         Err(_) => no_runtime(rt),
     }
+}
+
+/// Has the C library keep at hand what the script gives back. A list larger than all that it saw given back it takes
+/// from the system, page by page, and gives back to it (mallopt(3), `M_MMAP_THRESHOLD`); so it is shown a larger one.
+fn keep_freed_memory(alloc: Global) {
+    let _large = Vec::<u8>::with_capacity(alloc, LARGE);
 }
 
 /// The words of the command line after the program's name.

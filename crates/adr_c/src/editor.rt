@@ -5,8 +5,8 @@ ghost use Rattle.adr_embed.specs.Held.{Edited};
 ghost use Rattle.adr_embed.specs.contracts.editing.Editing.{the_row as editing_row};
 ghost use Rattle.adr_c.specs.Owned.{owned};
 
+use crate::loose::Loose;
 use adr_embed::Editing;
-use adr_loose::Loose;
 use std::alloc::Global;
 use std::marker::Model;
 use std::{mem, ptr};

@@ -12,6 +12,7 @@ ghost use Rattle.adr_c.specs.Calls.{anew, answer_held, kind_numbered, last_of, r
 mod calls;
 mod editor;
 mod laws;
+mod loose;
 mod reader;
 mod state;
 

@@ -5,8 +5,8 @@ ghost use Rattle.adr_embed.specs.Held.{Seen};
 ghost use Rattle.adr_embed.specs.contracts.reading.Reading.{the_row as reading_row};
 ghost use Rattle.adr_c.specs.Owned.{owned};
 
+use crate::loose::Loose;
 use adr_embed::Reading;
-use adr_loose::Loose;
 use std::alloc::Global;
 use std::marker::Model;
 use std::{mem, ptr};

@@ -1,7 +1,7 @@
 //! An index over few entries, and over many.
 use crate::moments::at;
 use crate::spans::{endless, entry, span};
-use adr_index::{Entry, Index};
+use adr_index::{Entry, Index, Wanted};
 use adr_rule::Meter;
 use adr_time::Span;
 use adr_value::Refusal;
@@ -87,14 +87,33 @@ fn finds_what_overlaps(index: &Index) -> Result<bool, Refusal> {
     Ok(true)
 }
 
-/// Whether what covers a moment of the three is found, and what meets a window.
+/// One write alone.
+struct Alone(u64);
+
+impl Wanted for Alone {
+    ghost use Rattle.std.specs.Prelude.{◌==◌};
+
+    ghost is_wanted = { λ alone written. written == alone.0 };
+
+    fn wants(&self, written: u64) -> bool {
+        written == self.0
+    }
+}
+
+/// Whether of what meets a window of the three one write's alone is found, and nothing where that doesn't meet it.
+fn finds_one_write(index: &Index) -> Result<bool, Refusal> {
+    let is_found = are(&index.overlapping_of(span(0, 20), &Alone(5))?, &[5]);
+    Ok(is_found && are(&index.overlapping_of(span(0, 10), &Alone(6))?, &[]))
+}
+
+/// Whether what covers a moment of the three is found, and what meets a window, of all writes and of one.
 fn finds_all(index: &Index) -> Result<bool, Refusal> {
     for (moment, wanted) in COVERING {
         if !are(&index.covering(at(moment))?, wanted) {
             return Ok(false);
         }
     }
-    finds_what_overlaps(index)
+    Ok(finds_what_overlaps(index)? && finds_one_write(index)?)
 }
 
 /// Whether an entry of the three is found, taken out once, and then found no more.

@@ -1,7 +1,7 @@
 //! Jobs that the words of a command line ask for.
 use crate::rows::{Asked, check};
 use adr_model::Tie;
-use adr_options::{Job, job};
+use adr_server::{Job, job};
 use adr_value::Refusal;
 use std::alloc::Global;
 use std::test::Fail;

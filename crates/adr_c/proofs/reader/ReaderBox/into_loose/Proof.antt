@@ -28,7 +28,7 @@ use Rattle.std.specs.contracts.alloc.Global as heap
 use Rattle.std.proofs.alloc.Global.TheLaws as heap_laws
 use Rattle.std.specs.contracts.impls.GlobalAllocator.TheImpl.{ghosts}
 use Rattle.std.proofs.raw_atomic.Walks.{proved_at, leaves}
-use Rattle.adr_loose.proofs.Values.{both, Loose, loose_good, loose_in}
+use Rattle.adr_c.proofs.LooseBoxes.{both, Loose, loose_good, loose_in}
 use Rattle.adr_embed.specs.contracts.reading.Reading.{the_row as Reading}
 use Rattle.adr_c.proofs.Boxes.{word, boxed_out, held_out}
 use Rattle.adr_c.specs.contracts.reader.ReaderBox as inner
