@@ -2,7 +2,7 @@
 ghost use Rattle.std.specs.Prelude.{◌≡◌, ◌↔◌, IsTrue};
 ghost use Rattle.adr_audience.specs.Asks.{asked_keys};
 
-use adr_keys::{Index, Key};
+use adr_keys::{Key, KeyIndex};
 use std::marker::Model;
 
 /// What a resource with its ven offers of the keys that some event asks for, in the order in which it offers them.
@@ -30,7 +30,7 @@ impl Model for Asked {
 
 impl Asked {
     /// Those of the keys that some row of the index has.
-    pub(crate) fn of(index: &Index, keys: Vec<Key>) -> Asked
+    pub(crate) fn of(index: &KeyIndex, keys: Vec<Key>) -> Asked
         ensures { result ≡ asked_keys index.now keys.items }
     {
         let mut keys = keys;

@@ -13,13 +13,13 @@ ghost use Rattle.adr_audience.specs.Offers.{offers};
 ghost use Rattle.adr_audience.specs.Rows.{places_of_ven as the_places_of_ven};
 
 use crate::asked::Asked;
-use crate::asking::{add_event, asks_of, follow_event, follow_program, remove_event};
 use crate::candidates::{candidates, numbers_at};
-use crate::offering::{add_resource, follow_resource, follow_ven, offers_of, remove_resource};
-use crate::offers::offered_keys;
+use crate::event_rows::{add_event, asks_of, follow_event, follow_program, remove_event};
 use crate::query::places_for;
+use crate::resource_keys::offered_keys;
+use crate::resource_rows::{add_resource, follow_resource, follow_ven, offers_of, remove_resource};
 use crate::vens::places_of_ven;
-use adr_keys::Index;
+use adr_keys::KeyIndex;
 use adr_object::{Edit, Event, Id, Kind, Object, Program, Resource, Ven};
 use adr_store::Store;
 use adr_value::Refusal;
@@ -29,8 +29,8 @@ use std::marker::Model;
 /// What the resources of a book offer and what its events ask for, each in order of creation, with an index from each
 /// key to the places that have it. Contracts see the rows of keys.
 pub struct Audiences {
-    resources: Index,
-    events: Index,
+    resources: KeyIndex,
+    events: KeyIndex,
     alloc: Global,
 }
 
@@ -61,8 +61,8 @@ impl Audiences {
         ensures { AreKeysOf empty result }
     {
         Audiences {
-            resources: Index::new(alloc),
-            events: Index::new(alloc),
+            resources: KeyIndex::new(alloc),
+            events: KeyIndex::new(alloc),
             alloc,
         }
     }

@@ -6,7 +6,7 @@ ghost use Rattle.adr_keys.specs.Places.{has, fits};
 ghost use Rattle.adr_keys.specs.declared.key.Key.TheVariants.{Anyone};
 ghost use Rattle.adr_audience.specs.Asks.{shares, number_at as the_number_at, applies_with as the_applies_with};
 
-use adr_keys::{Index, Key, Places};
+use adr_keys::{Key, KeyIndex, Places};
 use adr_object::{Event, Resource, Ven};
 use adr_rule::{Scene, applies};
 use adr_store::Store;
@@ -14,7 +14,11 @@ use adr_value::Refusal;
 use std::alloc::Global;
 
 /// The places whose rows have one of the keys, or ask for anyone.
-pub(crate) fn candidates(index: &Index, alloc: Global, keys: &[Key]) -> Result<Vec<usize>, Refusal>
+pub(crate) fn candidates(
+    index: &KeyIndex,
+    alloc: Global,
+    keys: &[Key],
+) -> Result<Vec<usize>, Refusal>
     ensures ok { IfOk result (λ places. places.items ≡ filter (λ p. shares (get_or index.now p []) (Anyone ∷ keys.now)) (range_with_len 0 (length index.now))) }
     ensures refusal { OnlyNoMemory result }
 {
@@ -25,7 +29,7 @@ pub(crate) fn candidates(index: &Index, alloc: Global, keys: &[Key]) -> Result<V
 }
 
 /// Adds the places whose rows have one of the keys.
-fn add_keys(index: &Index, keys: &[Key], found: &mut Places)
+fn add_keys(index: &KeyIndex, keys: &[Key], found: &mut Places)
     ensures places { (p : ℕ) → IsTrue (fits found.old p) → has found.new p ≡ (has found.old p || shares (get_or index.now p []) keys.now) }
     ensures room { (p : ℕ) → fits found.new p ≡ fits found.old p }
 {

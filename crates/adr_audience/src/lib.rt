@@ -3,14 +3,14 @@
 //! without looking at every event.
 
 mod asked;
-mod asking;
-mod asks;
 mod audiences;
 mod candidates;
+mod event_keys;
+mod event_rows;
 mod laws;
-mod offering;
-mod offers;
 mod query;
+mod resource_keys;
+mod resource_rows;
 mod vens;
 
 pub use adr_keys::{Key, Places};

@@ -9,15 +9,15 @@ ghost use Rattle.adr_keys.specs.Places.{has, fits};
 ghost use Rattle.adr_audience.specs.Query.{is_fixed as the_is_fixed, is_called as the_is_called, is_offered, meets_value, meets_type, meets, is_for, places_where};
 ghost use Rattle.adr_keys.specs.Rows.{offers_key};
 
-use crate::offers::asked_key;
-use adr_keys::{Index, Key, Places};
+use crate::resource_keys::asked_key;
+use adr_keys::{Key, KeyIndex, Places};
 use adr_object::{Event, Program, Target};
 use adr_value::{Datum, Name, Refusal, Text};
 use std::alloc::Global;
 
 /// The places, that an event of the program is for, in order.
 pub(crate) fn places_for(
-    index: &Index,
+    index: &KeyIndex,
     alloc: Global,
     event: &Event,
     program: &Program,
@@ -48,7 +48,7 @@ pub(crate) fn places_for(
 /// Keeps the places, that meet a list of targets.
 fn narrow(
     found: &mut Places,
-    index: &Index,
+    index: &KeyIndex,
     alloc: Global,
     targets: &[Target],
     event: &Event,
@@ -66,7 +66,7 @@ fn narrow(
 /// Keeps the places, that meet some value of the maps of a type.
 fn narrow_type(
     found: &mut Places,
-    index: &Index,
+    index: &KeyIndex,
     alloc: Global,
     targets: &[Target],
     kind: &Name,
@@ -89,7 +89,7 @@ fn narrow_type(
 
 /// The places, that have a value of some map of the type.
 fn gathered(
-    index: &Index,
+    index: &KeyIndex,
     alloc: Global,
     targets: &[Target],
     kind: &Name,
@@ -105,7 +105,7 @@ fn gathered(
 }
 
 /// Adds the places that have a value of the map, where it is of the type.
-fn add_map(group: &mut Places, index: &Index, kind: &Name, other: &Target) -> Result<(), Refusal>
+fn add_map(group: &mut Places, index: &KeyIndex, kind: &Name, other: &Target) -> Result<(), Refusal>
     ensures ok { OnOk result ((p : ℕ) → IsTrue (fits group.old p) → has group.new p ≡ (has group.old p || (bytes_eq other.now.kind kind.now && list_any (is_offered (offers_key (get_or index.now p [])) kind.now) other.now.values))) }
     ensures room { (p : ℕ) → IsTrue (fits group.old p) → IsTrue (fits group.new p) }
     ensures refusal { OnlyNoMemory result }
@@ -119,7 +119,7 @@ fn add_map(group: &mut Places, index: &Index, kind: &Name, other: &Target) -> Re
 /// Adds the places that have one of the values under the type.
 fn add_values(
     group: &mut Places,
-    index: &Index,
+    index: &KeyIndex,
     kind: &Name,
     values: &[Datum],
 ) -> Result<(), Refusal>
@@ -135,7 +135,7 @@ fn add_values(
 }
 
 /// Adds the places that offer the key, where there is one.
-fn add_set(group: &mut Places, index: &Index, key: &Option<Key>)
+fn add_set(group: &mut Places, index: &KeyIndex, key: &Option<Key>)
     ensures places { (p : ℕ) → IsTrue (fits group.old p) → has group.new p ≡ (has group.old p || option_map_or (offers_key (get_or index.now p [])) key.now false) }
     ensures room { (p : ℕ) → fits group.new p ≡ fits group.old p }
 {

@@ -7,14 +7,14 @@ ghost use Rattle.adr_keys.specs.Rows.{offers_key};
 ghost use Rattle.adr_keys.specs.declared.key.Key.TheVariants.{Ven as ven_key};
 ghost use Rattle.adr_audience.specs.Rows.{is_of_ven as the_is_of_ven, offers_of as the_offers_of, places_of_ven as the_places_of_ven};
 
-use adr_keys::{Index, Key, Places};
+use adr_keys::{Key, KeyIndex, Places};
 use adr_object::{Id, Ven};
 use adr_store::Store;
 use adr_value::{Name, Refusal, Text};
 use std::alloc::Global;
 
 /// The places whose rows have the name of a ven. Vens may share one.
-pub(crate) fn places_named(rows: &Index, alloc: Global, name: &Name) -> Result<Places, Refusal>
+pub(crate) fn places_named(rows: &KeyIndex, alloc: Global, name: &Name) -> Result<Places, Refusal>
     ensures places { IfOk result (λ set. (p : ℕ) → p < length rows.now → has set p ≡ offers_key (get_or rows.now p []) (ven_key name.now)) }
     ensures refusal { OnlyNoMemory result }
 {
@@ -26,7 +26,7 @@ pub(crate) fn places_named(rows: &Index, alloc: Global, name: &Name) -> Result<P
 
 /// The places of the resources of the ven, where it is the store's and the rows are what the store's resources offer.
 pub(crate) fn places_of_ven(
-    rows: &Index,
+    rows: &KeyIndex,
     alloc: Global,
     store: &Store,
     ven: &Ven,

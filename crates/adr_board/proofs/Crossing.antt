@@ -17,7 +17,7 @@ use Rattle.adr_schedule.specs.contracts.resolution.Resolution as Resolution
 use Rattle.adr_keys.specs.contracts.row.Row as Row
 use Rattle.adr_keys.specs.contracts.key.Key as Key
 use Rattle.adr_keys.specs.contracts.sets.Sets as Sets
-use Rattle.adr_keys.specs.contracts.index.Index as Keys
+use Rattle.adr_keys.specs.contracts.index.KeyIndex as Keys
 use Rattle.adr_audience.specs.contracts.audiences.Audiences as Audiences
 use Rattle.adr_index.specs.contracts.index.Index as Index
 use Rattle.adr_lines.specs.contracts.indexes.Indexes as Indexes
@@ -36,8 +36,8 @@ use Rattle.std.specs.contracts.impls.GlobalAllocator.TheImpl.{ghosts}
 use Rattle.left_right.specs.contracts.reader.Reader as LeftRight
 use Rattle.adr_board.specs.declared.rule.Naming.{Ghosts as Names}
 use Rattle.adr_board.specs.contracts.rule.OneList as OneList
-use Rattle.adr_board.specs.contracts.rule.OneListProtocolShownView.TheImpl as ruled
-use Rattle.adr_board.specs.contracts.shown.Shown as Shown
+use Rattle.adr_board.specs.contracts.rule.OneListProtocolShownPublicationView.TheImpl as ruled
+use Rattle.adr_board.specs.contracts.shown.ShownPublication as Shown
 use Rattle.adr_board.specs.contracts.board.Told as Told
 use Rattle.adr_board.specs.contracts.board.Reader as Reader
 

@@ -5,7 +5,7 @@ use Rattle.adr_model.specs.declared.entry.Tie.{Tie}
 use Rattle.adr_model.specs.Book.{Book, empty}
 use Rattle.adr_model.specs.Edits.{after_from}
 use Rattle.adr_book.specs.Ledger.{Ledger, sealed_of}
-use Rattle.adr_board.specs.declared.diary.Entry.{Entry}
+use Rattle.adr_board.specs.declared.diary.DiaryEntry.{DiaryEntry}
 use Rattle.adr_board.specs.History.{HasLast, begun, ended, published_by}
 use Rattle.adr_board.specs.Publications.{opening_book, sealed}
 use Rattle.adr_board.specs.Published.{PublishedBook, last_batch}
@@ -37,7 +37,7 @@ still_follows tie old new rule last kept same base closed names =
 
 module _ (tie : Tie) (history : History) where
   -- a new one
-  pub opens_shown : (p : Publishing) (shown : PublishedBook) (published : List Ledger) (noted : History) (log : List Entry) (attempt : ℕ)
+  pub opens_shown : (p : Publishing) (shown : PublishedBook) (published : List Ledger) (noted : History) (log : List DiaryEntry) (attempt : ℕ)
       → p.tie ≡ tie → p.last ≡ opening_of tie → shown ≡ opening_of tie → published ≡ opening_book ∷ [] → noted ≡ history → published_by log ≡ opening_book ∷ [] → HasLast log 0 attempt
       → IsShownAs tie history p shown published noted log attempt
   opens_shown p shown published noted log attempt rule last first known same says numbered =
@@ -51,7 +51,7 @@ module _ (tie : Tie) (history : History) where
       }
 
   -- where the publisher's last publication stays
-  pub still_shown : (old new : Publishing) (shown : PublishedBook) (published : List Ledger) (noted : History) (log : List Entry) (attempt : ℕ)
+  pub still_shown : (old new : Publishing) (shown : PublishedBook) (published : List Ledger) (noted : History) (log : List DiaryEntry) (attempt : ℕ)
       → new.tie ≡ old.tie → new.last ≡ old.last → IsShownAs tie history old shown published noted log attempt → IsShownAs tie history new shown published noted log attempt
   still_shown old new shown published noted log attempt rule last kept =
       record {
@@ -64,7 +64,7 @@ module _ (tie : Tie) (history : History) where
       }
 
   -- where readers were not shown the next one
-  pub undone : (p : Publishing) (shown now : PublishedBook) (published known : List Ledger) (noted same : History) (log new : List Entry) (attempt : ℕ) (tried : Ledger)
+  pub undone : (p : Publishing) (shown now : PublishedBook) (published known : List Ledger) (noted same : History) (log new : List DiaryEntry) (attempt : ℕ) (tried : Ledger)
       → now ≡ shown → known ≡ published → same ≡ noted → (new ≡ log) ⊎ (new ≡ log ++ begun tried ∷ ended false tried ∷ [])
       → IsShownAs tie history p shown published noted log attempt → IsShownAs tie history p now known same new attempt
   undone p shown now published known noted same log new attempt tried is list book is_log kept =
@@ -79,7 +79,7 @@ module _ (tie : Tie) (history : History) where
       }
 
   -- where they were
-  pub goes_on : (p : Publishing) (shown now next : PublishedBook) (published known : List Ledger) (noted same : History) (log new : List Entry) (attempt attempts : ℕ) (tried : Ledger)
+  pub goes_on : (p : Publishing) (shown now next : PublishedBook) (published known : List Ledger) (noted same : History) (log new : List DiaryEntry) (attempt attempts : ℕ) (tried : Ledger)
       → next ≡ next_of p → next.book.objects ≡ after_from p.last.book.objects (last_batch next.book.closed)
       → now ≡ next → tried ≡ next.book → known ≡ published ++ tried ∷ [] → same ≡ noted → new ≡ log ++ begun tried ∷ ended true tried ∷ [] → length log ≡ 2 * attempts
       → IsShownAs tie history p shown published noted log attempt → IsShownAs tie history (gone_on p) now known same new attempts

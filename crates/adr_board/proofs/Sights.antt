@@ -10,7 +10,7 @@ use Rattle.adr_refusal.specs.declared.refusal.Refusal.TheVariants.{NoMemory, NoR
 use Rattle.adr_refusal.specs.Answer.{OnlyNoMemory}
 use Rattle.adr_model.specs.declared.entry.Tie.{Tie}
 use Rattle.adr_book.specs.Ledger.{Ledger}
-use Rattle.adr_board.specs.declared.diary.Entry.{Entry}
+use Rattle.adr_board.specs.declared.diary.DiaryEntry.{DiaryEntry}
 use Rattle.adr_board.specs.History.{seen_by, EndsInAttempt}
 use Rattle.adr_board.proofs.Prefixes.{prefix_trans, prefix_whole}
 use Rattle.adr_board.proofs.Histories.{seen_at}
@@ -30,14 +30,14 @@ sighted history v w s longer carried =
     (longer, is, carried.0, (s.snapshot.book, subst (λ (p : Publications). EndsInAttempt p s.page.log s.snapshot.number s.attempt s.snapshot.book) (sym is) carried.1))
 
 -- a snapshot of the last of the publications seen before is that of the last one now where it has the number of what is seen
-pub still_last : (tie : Tie) (old new : Publications) (log : List Entry) (number attempt : ℕ) (s : PublishedBook) → IsPrefix old new → IsSight new log number attempt
+pub still_last : (tie : Tie) (old new : Publications) (log : List DiaryEntry) (number attempt : ℕ) (s : PublishedBook) → IsPrefix old new → IsSight new log number attempt
     → s.number ≡ number → IsLastBy tie old s → IsLastBy tie new s
 still_last tie old new log number attempt s longer sight is last =
     let same : old ≡ new = prefix_whole old new longer (omega (arith, last.0.numbered, sight.1.numbered)) in
     subst (λ (l : Publications). IsLastBy tie l s) same last
 
 -- what a look takes, of a fresh copy or of the snapshot that its reader has, is the last of what is seen now
-pub taken : {Z : Type 0} (tie : Tie) (old new known : Publications) (log : List Entry) (number attempt : ℕ) (fresh : Option (Result PublishedBook Refusal)) (own : Option (Arc PublishedBook Z))
+pub taken : {Z : Type 0} (tie : Tie) (old new known : Publications) (log : List DiaryEntry) (number attempt : ℕ) (fresh : Option (Result PublishedBook Refusal)) (own : Option (Arc PublishedBook Z))
     → IsPrefix old new → IsSight new log number attempt → new ≡ known → IfSome own (λ s. IsLastBy tie old (arc_value s))
     → IfSome fresh (λ copy. IfOk copy (IsLastBy tie known) × OnlyNoMemory copy) → (fresh ≡ None → option_map (λ s. (arc_value {X = PublishedBook} s).number) own ≡ Some number)
     → IsTaken tie new fresh own

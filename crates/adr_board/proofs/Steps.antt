@@ -11,7 +11,7 @@ use Rattle.adr_book.specs.Ledger.{Ledger}
 use Rattle.adr_board.specs.Publications.{EndsWith, opening_book}
 use Rattle.adr_board.proofs.Prefixes.{prefix_self, prefix_trans, prefix_whole}
 use Rattle.adr_board.proofs.Linked.{ends_snoc, ends_opened}
-use Rattle.adr_board.specs.declared.shown.Shown.{Shown}
+use Rattle.adr_board.specs.declared.shown.ShownPublication.{ShownPublication}
 use Rattle.adr_board.specs.declared.shown.Showing.{Showing}
 use Rattle.adr_board.specs.Rules.{IsLast, IsLastBy, IsCarried, Keeps, Looks, Adds, MayFollow, showing}
 
@@ -34,7 +34,7 @@ set_within views seat w p q all longer own j u at =
     ⊎_elim (λ (t : (j ≡ seat) × (w ≡ u)). subst (λ (z : Publications). IsPrefix z q) t.1 own) (λ (t : (j ≢ seat) × (get_elem? views j ≡ some u)). prefix_trans u p q (all j u t.1) longer)
     (at_set views seat j w u at)
 
-pub looks : (tie : Tie) (history : History) (seat : ℕ) (v : Publications) (x : Shown) → TurnsAt (Keeps tie history) seat v x x (Looks tie history)
+pub looks : (tie : Tie) (history : History) (seat : ℕ) (v : Publications) (x : ShownPublication) → TurnsAt (Keeps tie history) seat v x x (Looks tie history)
 looks tie history seat v x views h at =
     let P = h.0 in
     (P, (P, h.1, h.2, set_within views seat P P P h.3 (prefix_self P) (prefix_self P)), (h.3 seat v at, h.1, h.2))
@@ -46,7 +46,7 @@ followed tie history v s t may =
     (ends_snoc v s.snapshot.number s.snapshot.book t.snapshot.book may.0 may.2)
 
 -- the editor has seen as many publications as there are, so it has seen the whole list
-pub adds : (tie : Tie) (history : History) (seat : ℕ) (v : Publications) (x y : Shown) (t : Showing) → MayFollow tie history v (showing x) t → showing y ≡ t → TurnsAt (Keeps tie history) seat v x y Adds
+pub adds : (tie : Tie) (history : History) (seat : ℕ) (v : Publications) (x y : ShownPublication) (t : Showing) → MayFollow tie history v (showing x) t → showing y ≡ t → TurnsAt (Keeps tie history) seat v x y Adds
 adds tie history seat v x y t may is views h at =
     let s = showing x in
     let P = h.0 in
@@ -60,12 +60,12 @@ adds tie history seat v x y t may is views h at =
     )
 
 -- the last operation is what is shown
-pub absorbed : (s : Showing) (xs : List Shown) (x : Shown) → fold (λ _ o. showing o) s (xs ++ x ∷ []) ≡ showing x
+pub absorbed : (s : Showing) (xs : List ShownPublication) (x : ShownPublication) → fold (λ _ o. showing o) s (xs ++ x ∷ []) ≡ showing x
 absorbed s [] x = refl
 absorbed s (y ∷ ys) x = absorbed (showing y) ys x
 
 -- the rule holds of a new board
-pub starts : (tie : Tie) (history : History) (x : Shown) → (showing x).snapshot.number ≡ 0 → (showing x).snapshot.tie ≡ tie → (showing x).snapshot.book ≡ opening_book → IsCarried history (opening_book ∷ []) (showing x) → Keeps tie history x ((opening_book ∷ []) ∷ [])
+pub starts : (tie : Tie) (history : History) (x : ShownPublication) → (showing x).snapshot.number ≡ 0 → (showing x).snapshot.tie ≡ tie → (showing x).snapshot.book ≡ opening_book → IsCarried history (opening_book ∷ []) (showing x) → Keeps tie history x ((opening_book ∷ []) ∷ [])
 starts tie history x number rule publication carried = (
   opening_book ∷ [],
   (rw (number, publication) ends_opened, rule),

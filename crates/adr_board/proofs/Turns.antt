@@ -5,14 +5,14 @@ use Rattle.std.proofs.lemmas.Bool.Decides.{nat_tests}
 use mathlib.Core.List.{IsPrefix}
 use prog.Atomic.{either}
 use Rattle.logbook.specs.Pages.{Cell, cell, keeps, adds, gives, no_nib, nib, may_write, step, Moves, Goes, Away}
-use Rattle.adr_board.specs.declared.diary.Entry.{Entry}
+use Rattle.adr_board.specs.declared.diary.DiaryEntry.{DiaryEntry}
 use Rattle.adr_board.specs.History.{IsKept, closed_cells, Begins, Ends}
 use Rattle.adr_board.proofs.Prefixes.{prefix_whole}
 
-abbrev pub hidden : List Entry → List Entry
+abbrev pub hidden : List DiaryEntry → List DiaryEntry
 hidden log = []
 
-abbrev pub moved : List Entry → List Entry → ℕ → Type 0
+abbrev pub moved : List DiaryEntry → List DiaryEntry → ℕ → Type 0
 moved xs ys n = Unit {0}
 
 closed_length : (k : ℕ) → length (closed_cells k) ≡ k
@@ -20,7 +20,7 @@ closed_length zero = refl
 closed_length (suc k) = ap suc (closed_length k)
 
 -- nothing changes where another count was found
-stays : (cells : List Cell) (log v : List Entry) (e : Entry) (old n : ℕ) → (n == old) ≡ false → IsKept ((n, true) ∷ cells) log
+stays : (cells : List Cell) (log v : List DiaryEntry) (e : DiaryEntry) (old n : ℕ) → (n == old) ≡ false → IsKept ((n, true) ∷ cells) log
     → Goes IsKept hidden moved 0 (v, (no_nib, None)) (λ n. either (n == old) (old + 1) n) (Begins (step 0 old (old + 1) e) (v, (no_nib, None))) ((n, true) ∷ cells) log
 stays cells log v e old n is kept =
     let other : n ≢ old = grind (arith, nat_tests) in (
@@ -33,7 +33,7 @@ stays cells log v e old n is kept =
       (λ same. absurd (other same)),
     )
 
-begins_ended : (k : ℕ) (log v : List Entry) (e : Entry) (old : ℕ) → length v ≡ old → length log ≡ 2 * k → IsPrefix v log → (b : Bool) → (2 * k == old) ≡ b
+begins_ended : (k : ℕ) (log v : List DiaryEntry) (e : DiaryEntry) (old : ℕ) → length v ≡ old → length log ≡ 2 * k → IsPrefix v log → (b : Bool) → (2 * k == old) ≡ b
     → Goes IsKept hidden moved 0 (v, (no_nib, None)) (λ n. either (n == old) (old + 1) n) (Begins (step 0 old (old + 1) e) (v, (no_nib, None))) ((2 * k, true) ∷ closed_cells (suc k)) log
 begins_ended k log v e old len long pre true is =
     let here : 2 * k ≡ old = grind (arith, nat_tests) in
@@ -45,11 +45,11 @@ begins_ended k log v e old len long pre true is =
       tt,
       rw is (inr (k, longer, ap (λ (n : ℕ). (n + 1, true) ∷ (closed_cells (suc k) ++ (0, false) ∷ [])) (sym here))),
       inl (refl, refl),
-      (λ _. (ap (λ (w : List Entry). w ++ e ∷ []) (sym same), refl, omega (arith, longer, closed_length k))),
+      (λ _. (ap (λ (w : List DiaryEntry). w ++ e ∷ []) (sym same), refl, omega (arith, longer, closed_length k))),
     )
 begins_ended k log v e old len long pre false is = stays (closed_cells (suc k)) log v e old (2 * k) is (inl (k, long, refl))
 
-pub begins : (v : List Entry) (e : Entry) (old m : ℕ) → length v ≡ old → old ≡ 2 * m
+pub begins : (v : List DiaryEntry) (e : DiaryEntry) (old m : ℕ) → length v ≡ old → old ≡ 2 * m
     → Moves IsKept hidden moved 0 (v, (no_nib, None)) (λ n. either (n == old) (old + 1) n) (Begins (step 0 old (old + 1) e) (v, (no_nib, None)))
 begins v e old m len even cs log (inl t) pre away =
     let P : List Cell → Type 0 = λ c. (0 < length c) × ((cell c 0).1 ≡ true) × Goes IsKept hidden moved 0 (v, (no_nib, None)) (λ n. either (n == old) (old + 1) n) (Begins (step 0 old (old + 1) e) (v, (no_nib, None))) c log in
@@ -79,7 +79,7 @@ open_is k m inside away =
     let least : ¬ (m < k) = λ below. absurd (cc (away, at_home k m ((0, false) ∷ []) below)) in
     omega (arith, most, least)
 
-ends_open : (k m : ℕ) (log v : List Entry) (e : Entry) → length v ≡ 2 * m + 1 → length log ≡ 2 * k + 1 → k ≡ m → IsPrefix v log
+ends_open : (k m : ℕ) (log v : List DiaryEntry) (e : DiaryEntry) → length v ≡ 2 * m + 1 → length log ≡ 2 * k + 1 → k ≡ m → IsPrefix v log
     → Goes IsKept hidden moved 0 (v, (nib may_write (suc (suc m)) 0, None)) (λ n. either (n == 2 * m + 1) (2 * m + 1 + 1) n) (Ends (step 0 (2 * m + 1) (2 * m + 1 + 1) e) (v, (nib may_write (suc (suc m)) 0, None))) ((2 * k + 1, true) ∷ (closed_cells (suc k) ++ (0, false) ∷ [])) log
 ends_open k m log v e len long same pre =
     let whole : v ≡ log = prefix_whole v log pre (omega arith) in
@@ -94,10 +94,10 @@ ends_open k m log v e len long same pre =
       refl,
       rw is (inl (suc k, longer, cells)),
       inl (refl, refl),
-      ap (λ (w : List Entry). w ++ e ∷ []) (sym whole),
+      ap (λ (w : List DiaryEntry). w ++ e ∷ []) (sym whole),
     )
 
-pub ends : (v : List Entry) (e : Entry) (m : ℕ) → length v ≡ 2 * m + 1
+pub ends : (v : List DiaryEntry) (e : DiaryEntry) (m : ℕ) → length v ≡ 2 * m + 1
     → Moves IsKept hidden moved 0 (v, (nib may_write (suc (suc m)) 0, None)) (λ n. either (n == 2 * m + 1) (2 * m + 1 + 1) n) (Ends (step 0 (2 * m + 1) (2 * m + 1 + 1) e) (v, (nib may_write (suc (suc m)) 0, None)))
 ends v e m len cs log (inl t) pre away =
     let own = subst (Away (nib may_write (suc (suc m)) 0)) t.2 away refl in

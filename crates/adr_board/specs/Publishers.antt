@@ -5,7 +5,7 @@ use Rattle.adr_value.specs.declared.limits.TheConstants.{MOST_PUBLICATIONS}
 use Rattle.adr_model.specs.declared.entry.Tie.{Tie}
 use Rattle.adr_book.specs.Ledger.{Ledger, sealed_of}
 use Rattle.adr_schedule.specs.Resolved.{Resolved}
-use Rattle.adr_board.specs.declared.diary.Entry.{Entry}
+use Rattle.adr_board.specs.declared.diary.DiaryEntry.{DiaryEntry}
 use Rattle.adr_board.specs.History.{HasLast, published_by}
 use Rattle.adr_board.specs.Publications.{opening_book, sealed}
 use Rattle.adr_board.specs.Published.{PublishedBook}
@@ -44,7 +44,7 @@ pub record FollowsLast (tie : Tie) (book : Ledger) (last : PublishedBook) : Type
 
 -- what an editor's publisher published last is what readers are shown, and the last of the publications that they know and the editor's history
 -- says, under the board's rule for ties; the last attempt that was shown had this place
-pub record IsShownAs (tie : Tie) (history : History) (p : Publishing) (shown : PublishedBook) (published : List Ledger) (noted : History) (log : List Entry) (attempt : ℕ) : Type 0 where
+pub record IsShownAs (tie : Tie) (history : History) (p : Publishing) (shown : PublishedBook) (published : List Ledger) (noted : History) (log : List DiaryEntry) (attempt : ℕ) : Type 0 where
   pub shown_is : p.last ≡ shown
   pub last : IsLast published p.last
   pub rule : p.tie ≡ tie

@@ -17,11 +17,11 @@ use Rattle.adr_refusal.specs.declared.refusal.Refusal.{Refusal}
 use Rattle.adr_model.specs.declared.entry.Tie.{Tie}
 use Rattle.adr_model.specs.Edits.{after_from}
 use Rattle.adr_book.specs.Ledger.{Ledger}
-use Rattle.adr_board.specs.declared.diary.Entry.{Entry}
+use Rattle.adr_board.specs.declared.diary.DiaryEntry.{DiaryEntry}
 use Rattle.adr_board.specs.History.{EndsInAttempt}
 use Rattle.adr_board.specs.Publications.{EndsWith}
 use Rattle.adr_board.specs.Published.{PublishedBook, last_batch}
-use Rattle.adr_board.specs.declared.shown.Shown.{Shown}
+use Rattle.adr_board.specs.declared.shown.ShownPublication.{ShownPublication}
 use Rattle.adr_board.specs.declared.shown.Showing.{Showing}
 
 -- the snapshot is that of the last of these publications: it stores the book that was published, with its base and its batches
@@ -37,22 +37,22 @@ abbrev pub IsCarried : History → List Ledger → Showing → Type 0
 IsCarried history published s = (s.page.book ≡ history) × EndsInAttempt published s.page.log s.snapshot.number s.attempt s.snapshot.book
 
 -- what one of the two copies shows
-abbrev pub showing : Shown → Showing
+abbrev pub showing : ShownPublication → Showing
 showing x = record { snapshot = arc_value x.snapshot; attempt = x.attempt; page = x.page }
 
 -- The rule: there is one list of publications, each of which follows from the one before. Its last is shown, under one rule for ties, with its
 -- history, and what each thread has seen begins it
-abbrev pub Keeps : Tie → History → Shown → List (List Ledger) → Type 0
+abbrev pub Keeps : Tie → History → ShownPublication → List (List Ledger) → Type 0
 Keeps tie history x views =
     (published : List Ledger) × IsLastBy tie published (showing x).snapshot × IsCarried history published (showing x)
     × ((seat : ℕ) (v : List Ledger) → get_elem? views seat ≡ some v → IsPrefix v published)
 
 -- A look: what is seen becomes a list whose last publication is the one shown. It begins with all that was seen
-abbrev pub Looks : Tie → History → List Ledger → Shown → Shown → List Ledger → Type 0
+abbrev pub Looks : Tie → History → List Ledger → ShownPublication → ShownPublication → List Ledger → Type 0
 Looks tie history v x y w = IsPrefix v w × IsLastBy tie w (showing y).snapshot × IsCarried history w (showing y)
 
 -- A publication: what was seen, which is the whole list, gets what is shown now
-abbrev pub Adds : List Ledger → Shown → Shown → List Ledger → Type 0
+abbrev pub Adds : List Ledger → ShownPublication → ShownPublication → List Ledger → Type 0
 Adds v x y w = w ≡ v ++ (showing y).snapshot.book ∷ []
 
 -- the list is that of all publications, of which s is the last, and t may be the next, under this rule for ties
@@ -63,7 +63,7 @@ MayFollow tie history published s t =
     × IsCarried history (published ++ t.snapshot.book ∷ []) t × (t.snapshot.tie ≡ tie)
 
 -- a look at the last of these publications: the history, the number and the place of its attempt
-abbrev pub IsSight : List Ledger → List Entry → ℕ → ℕ → Type 0
+abbrev pub IsSight : List Ledger → List DiaryEntry → ℕ → ℕ → Type 0
 IsSight published log number attempt = (p : Ledger) × EndsInAttempt published log number attempt p
 
 -- what a look takes is the last of these publications: the fresh copy of it, or where there is none the snapshot that its reader has

@@ -21,7 +21,7 @@ ghost use Rattle.adr_board.specs.Rules.{IsLast, IsLastBy, IsSight, IsTaken, MayF
 
 use crate::publisher::Publisher;
 use crate::rule::{Add, Look, Naming, RuledReader, RuledWriter};
-use crate::shown::Shown;
+use crate::shown::ShownPublication;
 use crate::snapshot::Snapshot;
 use crate::{Diary, Page};
 use adr_book::Book;
@@ -274,7 +274,7 @@ impl<J: Naming> Reader<J> {
 fn show<J: Naming, R: Wait>(
     writer: RuledWriter<J>,
     rt: &R,
-    shown: Shown,
+    shown: ShownPublication,
 ) -> (RuledWriter<J>, Result<(), Refusal>)
     requires { MayFollow J.tie J.history (known writer.desk.place) (showing writer.desk.shown.value) (showing shown) }
     ensures ok { IfOk result.1 (λ _. (showing result.0.desk.shown.value ≡ showing shown) × (known result.0.desk.place ≡ known writer.desk.place ++ (showing shown).snapshot.book ∷ [])) }
@@ -294,7 +294,7 @@ fn show<J: Naming, R: Wait>(
 fn show_next<J: Naming, R: Wait>(
     writer: &mut RuledWriter<J>,
     rt: &R,
-    shown: Shown,
+    shown: ShownPublication,
 ) -> Result<(), Refusal>
     requires { MayFollow J.tie J.history (known writer.old.desk.place) (showing writer.old.desk.shown.value) (showing shown) }
     ensures ok { IfOk result (λ _. (showing writer.new.desk.shown.value ≡ showing shown) × (known writer.new.desk.place ≡ known writer.old.desk.place ++ (showing shown).snapshot.book ∷ [])) }
@@ -333,7 +333,7 @@ fn attempt_to_show<J: Naming, R: Wait>(
     let Some(attempt) = diary.begin(book) else {
         return Err(Refusal::NoMemory);
     };
-    let shown = Shown::of(snapshot, diary.attempts, &attempt.page);
+    let shown = ShownPublication::of(snapshot, diary.attempts, &attempt.page);
     let outcome = show_next(writer, rt, shown);
     diary.end(attempt, book, outcome.is_ok());
     outcome
@@ -558,8 +558,8 @@ fn start<J: Naming>(
         return Err(Refusal::NoMemory);
     };
     let page = attempt.page.again();
-    let one = Shown::of(shown, place, &page);
-    let two = Shown::of(other, place, &page);
+    let one = ShownPublication::of(shown, place, &page);
+    let two = ShownPublication::of(other, place, &page);
     let Ok(writer) = RuledWriter::<J>::new(alloc, one, two, readers) else {
         return Err(Refusal::NoMemory);
     };

@@ -20,7 +20,7 @@ impl Model for Publication {
 }
 
 /// An entry of the history. No value of it is made.
-pub struct Entry {
+pub struct DiaryEntry {
     /// Whether readers were shown the publication. If not, an attempt begins, or one that was refused ends.
     pub shown: bool,
     /// The book that the attempt is to publish, where it begins as where it ends.
@@ -30,7 +30,7 @@ pub struct Entry {
 /// The rule of the history: attempts, each followed by its end. Whoever began an attempt ends it.
 pub struct Law;
 
-impl Rule<Entry, u64> for Law {
+impl Rule<DiaryEntry, u64> for Law {
     ghost use Rattle.std.specs.Prelude.{[]};
     ghost use base.Fml.{ftrue};
     ghost use Rattle.adr_board.specs.History.{IsKept};
@@ -51,7 +51,7 @@ impl Rule<Entry, u64> for Law {
 /// Callers trade nothing.
 struct Nothing;
 
-impl Gain<Entry, u64> for Nothing {
+impl Gain<DiaryEntry, u64> for Nothing {
     ghost use base.Fml.{ftrue};
 
     ghost after = { λ names about answer. ftrue };
@@ -60,23 +60,23 @@ impl Gain<Entry, u64> for Nothing {
 /// The step that begins an attempt.
 struct Begin;
 
-impl Play<Entry, u64> for Begin {
+impl Play<DiaryEntry, u64> for Begin {
     ghost use Rattle.adr_board.specs.History.{Begins};
 
     ghost then = { Begins };
 }
 
 /// The step that ends one.
-struct End;
+struct AttemptEnd;
 
-impl Play<Entry, u64> for End {
+impl Play<DiaryEntry, u64> for AttemptEnd {
     ghost use Rattle.adr_board.specs.History.{Ends};
 
     ghost then = { Ends };
 }
 
 /// The entry of an attempt.
-impl Plain<Book, Entry, u64> for Begin {
+impl Plain<Book, DiaryEntry, u64> for Begin {
     ghost use Rattle.std.specs.Prelude.{None};
     ghost use Rattle.adr_board.specs.History.{begun};
 
@@ -87,12 +87,12 @@ impl Plain<Book, Entry, u64> for Begin {
 
 /// How an attempt to publish the book ended.
 #[derive(Drop)]
-struct Ending<'a> {
+struct AttemptEnding<'a> {
     shown: bool,
     book: &'a Book,
 }
 
-impl Plain<Ending<'_>, Entry, u64> for End {
+impl Plain<AttemptEnding<'_>, DiaryEntry, u64> for AttemptEnd {
     ghost use Rattle.std.specs.Prelude.{None};
     ghost use Rattle.adr_board.specs.History.{ended};
 
@@ -102,7 +102,7 @@ impl Plain<Ending<'_>, Entry, u64> for End {
 }
 
 /// The history as far as it was seen. It has no bytes; of two such tokens of one history one begins the other.
-pub type Page = Seen<Entry, u64, Law>;
+pub type Page = Seen<DiaryEntry, u64, Law>;
 
 /// An attempt that has begun.
 #[derive(Drop)]
@@ -117,7 +117,7 @@ pub struct Attempt {
 /// The history of a board, as its editor keeps it.
 #[derive(Drop)]
 pub struct Diary {
-    counter: Word<Entry, u64, Law>,
+    counter: Word<DiaryEntry, u64, Law>,
     /// The whole history.
     pub page: Page,
     /// How many attempts have ended.
@@ -152,7 +152,9 @@ impl Diary {
         }
         let count = 2 * self.attempts;
         let mut page = self.page.again();
-        let mut offer: Offer<Entry, u64, Law, Nothing> = page.plain::<Nothing, Book, Begin>(book);
+        let mut offer: Offer<DiaryEntry, u64, Law, Nothing> = page.plain::<Nothing, Book, Begin>(
+            book,
+        );
         let mut pen = page.no_pen();
         let found = self
             .counter
@@ -160,7 +162,7 @@ impl Diary {
         if found != count {
             return None;
         }
-        let _word: Word<Entry, u64, Law> = Word::tracked(0, &mut pen);
+        let _word: Word<DiaryEntry, u64, Law> = Word::tracked(0, &mut pen);
         Some(Attempt { page, pen })
     }
 
@@ -173,12 +175,20 @@ impl Diary {
     {
         let Attempt { mut page, mut pen } = attempt;
         let count = 2 * self.attempts + 1;
-        let ending = Ending { shown, book };
-        let mut offer: Offer<Entry, u64, Law, Nothing> = page.plain::<Nothing, Ending<'_>, End>(
-            &ending,
-        );
+        let ending = AttemptEnding { shown, book };
+        let mut offer: Offer<DiaryEntry, u64, Law, Nothing> = page.plain::<
+            Nothing,
+            AttemptEnding<'_>,
+            AttemptEnd,
+        >(&ending);
         self.counter
-            .compare_exchange::<End, Nothing>(count, count + 1, &mut page, &mut offer, &mut pen);
+            .compare_exchange::<AttemptEnd, Nothing>(
+                count,
+                count + 1,
+                &mut page,
+                &mut offer,
+                &mut pen,
+            );
         self.page = page;
         self.attempts += 1;
     }

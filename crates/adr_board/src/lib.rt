@@ -18,7 +18,7 @@ mod snapshot;
 pub use adr_desk::{Desk, Gate, NoGate, Receipt};
 pub use adr_model::Published;
 pub use board::{Board, Editor, NewBoard, Reader, Told};
-pub use diary::{Attempt, Diary, Entry, Law, Page, Publication};
+pub use diary::{Attempt, Diary, DiaryEntry, Law, Page, Publication};
 pub use laws::replay_laws;
 pub use publisher::{Prepared, Publisher};
 pub use rule::Naming;

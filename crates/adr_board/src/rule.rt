@@ -1,6 +1,6 @@
 //! The rule under which readers and the editor share the last publication.
 use crate::Publication;
-use crate::shown::Shown;
+use crate::shown::ShownPublication;
 use crossbeam_utils::rule::{Outcome, Protocol};
 use left_right::reader::Reader;
 use left_right::writer::Writer;
@@ -34,7 +34,7 @@ pub struct OneList<J: Naming> {
     of: PhantomData<J>,
 }
 
-impl<J: Naming> Protocol<Shown, View> for OneList<J> {
+impl<J: Naming> Protocol<ShownPublication, View> for OneList<J> {
     ghost use Rattle.std.specs.Prelude.{[], ◌∷◌};
     ghost use Rattle.adr_board.specs.Publications.{opening_book};
     ghost use Rattle.adr_board.specs.Rules.{Keeps};
@@ -49,7 +49,7 @@ pub struct Look<J: Naming> {
     of: PhantomData<J>,
 }
 
-impl<J: Naming> Outcome<Shown, View> for Look<J> {
+impl<J: Naming> Outcome<ShownPublication, View> for Look<J> {
     ghost use Rattle.adr_board.specs.Rules.{Looks};
 
     ghost then = { Looks J.tie J.history };
@@ -58,14 +58,14 @@ impl<J: Naming> Outcome<Shown, View> for Look<J> {
 /// What a publication tells.
 pub struct Add;
 
-impl Outcome<Shown, View> for Add {
+impl Outcome<ShownPublication, View> for Add {
     ghost use Rattle.adr_board.specs.Rules.{Adds};
 
     ghost then = { Adds };
 }
 
 /// A reader of copies that are swapped (`left_right`), under the rule of a board.
-pub type RuledReader<J> = Reader<Shown, View, OneList<J>>;
+pub type RuledReader<J> = Reader<ShownPublication, View, OneList<J>>;
 
 /// The one writer of such copies.
-pub type RuledWriter<J> = Writer<Shown, Shown, View, OneList<J>>;
+pub type RuledWriter<J> = Writer<ShownPublication, ShownPublication, View, OneList<J>>;

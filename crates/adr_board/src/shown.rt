@@ -10,7 +10,7 @@ use std::sync::Arc;
 
 /// A share of the last publication's snapshot, with the place of its attempt and the history up to that.
 #[derive(Drop)]
-pub struct Shown {
+pub struct ShownPublication {
     /// The last publication, which readers take shares of.
     pub snapshot: Arc<Snapshot>,
     /// The place of its attempt among those of the history, from 0.
@@ -19,14 +19,14 @@ pub struct Shown {
     pub page: Page,
 }
 
-impl Shown {
+impl ShownPublication {
     /// A share of the snapshot, of the attempt at that place, with its own handle on the page.
-    pub(crate) fn of(snapshot: Arc<Snapshot>, attempt: u64, page: &Page) -> Shown
+    pub(crate) fn of(snapshot: Arc<Snapshot>, attempt: u64, page: &Page) -> ShownPublication
         ensures snapshot { result.snapshot ≡ snapshot }
         ensures attempt { result.attempt ≡ attempt }
         ensures page { result.page ≡ page.now }
     {
-        Shown {
+        ShownPublication {
             snapshot,
             attempt,
             page: page.again(),
@@ -45,21 +45,29 @@ pub struct Showing {
 }
 
 /// The one operation: this is shown now.
-impl Absorb<Shown> for Shown {
+impl Absorb<ShownPublication> for ShownPublication {
     type State = Showing;
 
     ghost state = { λ s. showing s };
 
     ghost applied = { λ _ operation. showing operation };
 
-    fn absorb_first(&mut self, operation: &Shown, _other: &Shown) -> Result<(), AllocError> {
+    fn absorb_first(
+        &mut self,
+        operation: &ShownPublication,
+        _other: &ShownPublication,
+    ) -> Result<(), AllocError> {
         self.snapshot = Arc::try_clone(&operation.snapshot)?;
         self.attempt = operation.attempt;
         self.page = operation.page.again();
         Ok(())
     }
 
-    fn absorb_second(&mut self, operation: Shown, _other: &Shown) -> Result<(), Shown> {
+    fn absorb_second(
+        &mut self,
+        operation: ShownPublication,
+        _other: &ShownPublication,
+    ) -> Result<(), ShownPublication> {
         *self = operation;
         Ok(())
     }

@@ -17,8 +17,8 @@ use Rattle.adr_embed.specs.contracts.reading.Reading as Reading
 use Rattle.adr_embed.proofs.Crossing.{editing_send, reading_send}
 use Rattle.adr_c.specs.contracts.editor.EditorBox as EditorBox
 use Rattle.adr_c.specs.contracts.reader.ReaderBox as ReaderBox
-use Rattle.adr_c.specs.contracts.editor.Editor as Editor
-use Rattle.adr_c.specs.contracts.reader.Reader as Reader
+use Rattle.adr_c.specs.contracts.editor.EditorHandle as EditorHandle
+use Rattle.adr_c.specs.contracts.reader.ReaderHandle as ReaderHandle
 
 pointer_send : IsSend RawPtr
 pointer_send = search sendable
@@ -32,7 +32,7 @@ editor_box_send =
     let O = EditorBox.the_type in owning_send O (pointer_send, tt) (λ d. owned_keyless Editing.the_row editing_send d.at d.held)
     (λ k. any.quiet (owning.to O) (exits_of k (owning.fields O)) ((struct_send (owning.shape O) (pointer_send, tt)).leaving k))
 
-pub editor_send : IsSend Editor.the_row
+pub editor_send : IsSend EditorHandle.the_row
 editor_send = search (sendable, std.crosses, editor_box_send) depth 60 fits 60000
 
 reader_box_send : IsSend ReaderBox.the_row
@@ -40,5 +40,5 @@ reader_box_send =
     let O = ReaderBox.the_type in owning_send O (pointer_send, tt) (λ d. owned_keyless Reading.the_row reading_send d.at d.held)
     (λ k. any.quiet (owning.to O) (exits_of k (owning.fields O)) ((struct_send (owning.shape O) (pointer_send, tt)).leaving k))
 
-pub reader_send : IsSend Reader.the_row
+pub reader_send : IsSend ReaderHandle.the_row
 reader_send = search (sendable, std.crosses, reader_box_send) depth 60 fits 60000

@@ -14,13 +14,13 @@ use Rattle.adr_model.specs.declared.entry.Tie.TheVariants.{Newest, LatestStart}
 use Rattle.adr_model.specs.declared.published.Published.{Published}
 use Rattle.adr_model.specs.Kept.{kept_start}
 use Rattle.adr_resolver.specs.Kept.{kept_next}
-use Rattle.adr_embed.specs.declared.governor.Source.{Source}
+use Rattle.adr_embed.specs.declared.governor.GovernorSource.{GovernorSource}
 use Rattle.adr_embed.specs.Answered.{asked_answer, line_answer}
 use Rattle.adr_embed.specs.Governor.{Told}
 use Rattle.adr_embed.specs.Held.{Edited, Seen}
 use Rattle.adr_embed.specs.Instants.{instant}
 use Rattle.adr_embed.specs.Steps.{IsCondensed, IsEdit, IsPublication}
-use Rattle.adr_c.specs.declared.state.State.{State}
+use Rattle.adr_c.specs.declared.state.GovernorState.{GovernorState}
 
 -- ---- numbers
 
@@ -148,17 +148,17 @@ AskCall old new line code =
     ⊎ (IsRefused (asked_answer old.tie old.book line) code × (new ≡ record old { reply = [] }))
 
 -- until when, in numbers
-abbrev pub IsEnd : End → State → Type 0
+abbrev pub IsEnd : End → GovernorState → Type 0
 IsEnd (At t) s = (s.is_endless ≡ 0) × (instant s.until_seconds s.until_nanoseconds ≡ t) × (s.until_nanoseconds < 1_000_000_000)
 IsEnd Endless s = (s.is_endless ≡ 1) × (s.until_seconds ≡ pos 0) × (s.until_nanoseconds ≡ 0)
 
 -- what governs, in numbers
-abbrev pub IsSource : Option Source → State → Type 0
+abbrev pub IsSource : Option GovernorSource → GovernorState → Type 0
 IsSource None s = (s.is_governed ≡ 0) × (s.interval ≡ pos 0) × (s.event_len ≡ 0) × (s.values_len ≡ 0)
 IsSource (Some source) s = (s.is_governed ≡ 1) × (s.interval ≡ source.interval) × (s.event_len ≡ source.event_len) × (s.values_len ≡ source.values_len)
 
 -- what governs is told, or the call is refused; the publication stays
-abbrev pub GovernorCall : Seen → Seen → Result Told Refusal → ℕ → State → State → Type 0
+abbrev pub GovernorCall : Seen → Seen → Result Told Refusal → ℕ → GovernorState → GovernorState → Type 0
 GovernorCall old new answer code before state =
     ((told : Told) × (answer ≡ Ok told) × (code ≡ 0) × (new ≡ record old { reply = told.bytes }) × IsSource told.governor.source state × IsEnd told.governor.until state)
     ⊎ (IsRefused answer code × (new ≡ record old { reply = [] }) × (state ≡ before))

@@ -5,7 +5,7 @@ ghost use Rattle.adr_embed.specs.Governor.{governor_told};
 ghost use Rattle.adr_embed.specs.Steps.{changed, created, removed};
 ghost use Rattle.adr_c.specs.Calls.{code_of, kind_numbered, number_or, tie_numbered, told_or, version_or, AskCall, CondenseCall, EditCall, GovernorCall, IsGiven, LineCall, PublishCall};
 
-use crate::state::{State, state_of};
+use crate::state::{GovernorState, state_of};
 use adr_embed::{Editing, Reading};
 use adr_model::Published;
 use adr_object::Kind;
@@ -171,7 +171,7 @@ pub(crate) fn governor(
     payload_type: &[u8],
     seconds: i64,
     nanoseconds: u32,
-    state: &mut State,
+    state: &mut GovernorState,
 ) -> u32
     ensures { GovernorCall reading.old reading.new (governor_told reading.old.tie reading.old.book resource.now payload_type.now seconds nanoseconds) result state.old state.new }
 {

@@ -62,24 +62,24 @@ impl EditorBox {
 
 /// An editor in C's hands. One of zeros is closed.
 #[repr(C)]
-pub struct Editor {
+pub struct EditorHandle {
     is_open: bool,
     inner: EditorBox,
     ghost agrees: { is_open ≡ is_some inner.held },
 }
 
-impl Editor {
+impl EditorHandle {
     /// What it holds, if it is open. It is closed from then on.
     pub(crate) fn take(&mut self, alloc: Global) -> Option<Box<Editing, Global>>
         ensures some { IfSome result (λ b. self.old.inner.held ≡ Some b.value) }
         ensures none { IfNone result (self.old.inner.held ≡ None) }
         ensures closed { self.new.inner.held ≡ None }
     {
-        let closed = Editor {
+        let closed = EditorHandle {
             is_open: false,
             inner: EditorBox::none(),
         };
-        let Editor { is_open, inner } = mem::replace(self, closed);
+        let EditorHandle { is_open, inner } = mem::replace(self, closed);
         if is_open {
             Some(inner.into_loose(alloc).into_box())
         } else {
@@ -93,11 +93,11 @@ impl Editor {
         requires { self.old.inner.held ≡ None }
         ensures { self.new.inner.held ≡ Some editing.value }
     {
-        let open = Editor {
+        let open = EditorHandle {
             is_open: true,
             inner: EditorBox::of(Loose::of(editing)),
         };
-        let Editor { is_open: _, inner } = mem::replace(self, open);
+        let EditorHandle { is_open: _, inner } = mem::replace(self, open);
         inner.end();
     }
 

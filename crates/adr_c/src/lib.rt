@@ -19,10 +19,10 @@ mod state;
 use adr_embed::{Editing, Reading};
 use adr_value::Refusal;
 use calls::{code, give, tie_numbered};
-pub use editor::{Editor, EditorBox};
+pub use editor::{EditorBox, EditorHandle};
 pub use laws::handles_cross;
-pub use reader::{Reader, ReaderBox};
-pub use state::State;
+pub use reader::{ReaderBox, ReaderHandle};
+pub use state::GovernorState;
 use std::alloc::Global;
 
 /// The handle is closed.
@@ -35,7 +35,7 @@ const BAD_TIE: u32 = 102;
 /// Opens an editor with no objects, published as number 0, in a closed handle. `tie` is 0 where the newest of two
 /// intervals of one priority governs, 1 where the one that starts latest does.
 #[unsafe(no_mangle)]
-pub extern "C" fn kuvteleg_open(alloc: Global, editor: &mut Editor, tie: u32) -> u32
+pub extern "C" fn kuvteleg_open(alloc: Global, editor: &mut EditorHandle, tie: u32) -> u32
     ensures { Opens editor.old.inner.held tie editor.new.inner.held result }
 {
     if editor.is_open() {
@@ -59,7 +59,7 @@ pub extern "C" fn kuvteleg_open(alloc: Global, editor: &mut Editor, tie: u32) ->
 #[unsafe(no_mangle)]
 pub extern "C" fn kuvteleg_create(
     alloc: Global,
-    editor: &mut Editor,
+    editor: &mut EditorHandle,
     seconds: i64,
     nanoseconds: u32,
     kind: u32,
@@ -81,7 +81,7 @@ pub extern "C" fn kuvteleg_create(
 #[unsafe(no_mangle)]
 pub extern "C" fn kuvteleg_change(
     alloc: Global,
-    editor: &mut Editor,
+    editor: &mut EditorHandle,
     seconds: i64,
     nanoseconds: u32,
     kind: u32,
@@ -103,7 +103,7 @@ pub extern "C" fn kuvteleg_change(
 #[unsafe(no_mangle)]
 pub extern "C" fn kuvteleg_delete(
     alloc: Global,
-    editor: &mut Editor,
+    editor: &mut EditorHandle,
     kind: u32,
     id: &[u8],
     version: &mut u64,
@@ -122,7 +122,7 @@ pub extern "C" fn kuvteleg_delete(
 #[unsafe(no_mangle)]
 pub extern "C" fn kuvteleg_publish(
     alloc: Global,
-    editor: &mut Editor,
+    editor: &mut EditorHandle,
     number: &mut u64,
     version: &mut u64,
 ) -> u32
@@ -139,7 +139,11 @@ pub extern "C" fn kuvteleg_publish(
 /// Counts the accepted edits from the last publication on, whose version is told, and lets go of what was kept of those
 /// before it.
 #[unsafe(no_mangle)]
-pub extern "C" fn kuvteleg_condense(alloc: Global, editor: &mut Editor, version: &mut u64) -> u32
+pub extern "C" fn kuvteleg_condense(
+    alloc: Global,
+    editor: &mut EditorHandle,
+    version: &mut u64,
+) -> u32
     ensures { OverOpen editor.old.inner.held editor.new.inner.held result (version.new ≡ version.old) (λ old new. CondenseCall old new result version.old version.new) }
 {
     let Some(mut editing) = editor.take(alloc) else {
@@ -155,7 +159,7 @@ pub extern "C" fn kuvteleg_condense(alloc: Global, editor: &mut Editor, version:
 #[unsafe(no_mangle)]
 pub extern "C" fn kuvteleg_line(
     alloc: Global,
-    editor: &mut Editor,
+    editor: &mut EditorHandle,
     line: &[u8],
     out: &mut [u8],
     len: &mut usize,
@@ -177,7 +181,7 @@ pub extern "C" fn kuvteleg_line(
 #[unsafe(no_mangle)]
 pub extern "C" fn kuvteleg_reply(
     alloc: Global,
-    editor: &mut Editor,
+    editor: &mut EditorHandle,
     out: &mut [u8],
     len: &mut usize,
 ) -> u32
@@ -195,7 +199,11 @@ pub extern "C" fn kuvteleg_reply(
 
 /// Has the reader see the editor's last publication. A reader that is open gives up the one that it has.
 #[unsafe(no_mangle)]
-pub extern "C" fn kuvteleg_look(alloc: Global, editor: &mut Editor, reader: &mut Reader) -> u32
+pub extern "C" fn kuvteleg_look(
+    alloc: Global,
+    editor: &mut EditorHandle,
+    reader: &mut ReaderHandle,
+) -> u32
     ensures same { editor.new.inner.held ≡ editor.old.inner.held }
     ensures sees { Sees (option_map last_of editor.old.inner.held) reader.old.inner.held reader.new.inner.held result }
 {
@@ -211,7 +219,7 @@ pub extern "C" fn kuvteleg_look(alloc: Global, editor: &mut Editor, reader: &mut
 }
 
 /// Puts what is seen into the reader.
-fn see(alloc: Global, reading: Reading, reader: &mut Reader) -> u32
+fn see(alloc: Global, reading: Reading, reader: &mut ReaderHandle) -> u32
     ensures { Sees (Some reading) reader.old.inner.held reader.new.inner.held result }
 {
     let Ok(reading) = Box::new(alloc, reading) else {
@@ -224,7 +232,11 @@ fn see(alloc: Global, reading: Reading, reader: &mut Reader) -> u32
 
 /// Has another reader see the same publication. The two readers are two handles.
 #[unsafe(no_mangle)]
-pub extern "C" fn kuvteleg_share(alloc: Global, from: &mut Reader, to: &mut Reader) -> u32
+pub extern "C" fn kuvteleg_share(
+    alloc: Global,
+    from: &mut ReaderHandle,
+    to: &mut ReaderHandle,
+) -> u32
     ensures same { from.new.inner.held ≡ from.old.inner.held }
     ensures sees { Sees (option_map anew from.old.inner.held) to.old.inner.held to.new.inner.held result }
 {
@@ -243,7 +255,7 @@ pub extern "C" fn kuvteleg_share(alloc: Global, from: &mut Reader, to: &mut Read
 #[unsafe(no_mangle)]
 pub extern "C" fn kuvteleg_seen(
     alloc: Global,
-    reader: &mut Reader,
+    reader: &mut ReaderHandle,
     number: &mut u64,
     version: &mut u64,
 ) -> u32
@@ -262,7 +274,7 @@ pub extern "C" fn kuvteleg_seen(
 #[unsafe(no_mangle)]
 pub extern "C" fn kuvteleg_ask(
     alloc: Global,
-    reader: &mut Reader,
+    reader: &mut ReaderHandle,
     line: &[u8],
     out: &mut [u8],
     len: &mut usize,
@@ -285,12 +297,12 @@ pub extern "C" fn kuvteleg_ask(
 #[unsafe(no_mangle)]
 pub extern "C" fn kuvteleg_governor(
     alloc: Global,
-    reader: &mut Reader,
+    reader: &mut ReaderHandle,
     resource: &[u8],
     payload_type: &[u8],
     seconds: i64,
     nanoseconds: u32,
-    state: &mut State,
+    state: &mut GovernorState,
     out: &mut [u8],
     len: &mut usize,
 ) -> u32
@@ -319,7 +331,7 @@ pub extern "C" fn kuvteleg_governor(
 #[unsafe(no_mangle)]
 pub extern "C" fn kuvteleg_answer(
     alloc: Global,
-    reader: &mut Reader,
+    reader: &mut ReaderHandle,
     out: &mut [u8],
     len: &mut usize,
 ) -> u32
@@ -337,7 +349,7 @@ pub extern "C" fn kuvteleg_answer(
 
 /// Closes the reader, which lets its publication go.
 #[unsafe(no_mangle)]
-pub extern "C" fn kuvteleg_leave(alloc: Global, reader: &mut Reader) -> u32
+pub extern "C" fn kuvteleg_leave(alloc: Global, reader: &mut ReaderHandle) -> u32
     ensures { Closes reader.old.inner.held reader.new.inner.held result }
 {
     match reader.take(alloc) {
@@ -351,7 +363,7 @@ pub extern "C" fn kuvteleg_leave(alloc: Global, reader: &mut Reader) -> u32
 
 /// Closes the editor. Readers keep their publications.
 #[unsafe(no_mangle)]
-pub extern "C" fn kuvteleg_close(alloc: Global, editor: &mut Editor) -> u32
+pub extern "C" fn kuvteleg_close(alloc: Global, editor: &mut EditorHandle) -> u32
     ensures { Closes editor.old.inner.held editor.new.inner.held result }
 {
     match editor.take(alloc) {

@@ -62,24 +62,24 @@ impl ReaderBox {
 
 /// A reader in C's hands. One of zeros is closed.
 #[repr(C)]
-pub struct Reader {
+pub struct ReaderHandle {
     is_open: bool,
     inner: ReaderBox,
     ghost agrees: { is_open ≡ is_some inner.held },
 }
 
-impl Reader {
+impl ReaderHandle {
     /// What it holds, if it is open. It is closed from then on.
     pub(crate) fn take(&mut self, alloc: Global) -> Option<Box<Reading, Global>>
         ensures some { IfSome result (λ b. self.old.inner.held ≡ Some b.value) }
         ensures none { IfNone result (self.old.inner.held ≡ None) }
         ensures closed { self.new.inner.held ≡ None }
     {
-        let closed = Reader {
+        let closed = ReaderHandle {
             is_open: false,
             inner: ReaderBox::none(),
         };
-        let Reader { is_open, inner } = mem::replace(self, closed);
+        let ReaderHandle { is_open, inner } = mem::replace(self, closed);
         if is_open {
             Some(inner.into_loose(alloc).into_box())
         } else {
@@ -93,11 +93,11 @@ impl Reader {
         requires { self.old.inner.held ≡ None }
         ensures { self.new.inner.held ≡ Some reading.value }
     {
-        let open = Reader {
+        let open = ReaderHandle {
             is_open: true,
             inner: ReaderBox::of(Loose::of(reading)),
         };
-        let Reader { is_open: _, inner } = mem::replace(self, open);
+        let ReaderHandle { is_open: _, inner } = mem::replace(self, open);
         inner.end();
     }
 

@@ -2,13 +2,13 @@
 ghost use Rattle.std.specs.Prelude.{None};
 ghost use Rattle.adr_c.specs.Calls.{IsEnd, IsSource};
 
-use adr_embed::{Governor, Source, seconds_of};
+use adr_embed::{Governor, GovernorSource, seconds_of};
 use adr_time::End;
 
 /// What governs a resource for a payload type at a moment, and until when it stays so.
 #[repr(C)]
 #[derive(Clone, Copy)]
-pub struct State {
+pub struct GovernorState {
     /// 0 where nothing governs, and then `interval`, `event_len` and `values_len` are 0; else 1.
     pub is_governed: u8,
     /// 1 where nothing changes later, and then both parts of `until` are 0; else 0.
@@ -25,11 +25,11 @@ pub struct State {
     pub values_len: usize,
 }
 
-fn until(end: End) -> State
+fn until(end: End) -> GovernorState
     ensures end { IsEnd end result }
     ensures source { IsSource None result }
 {
-    let nothing = State {
+    let nothing = GovernorState {
         is_governed: 0,
         is_endless: 1,
         until_nanoseconds: 0,
@@ -41,7 +41,7 @@ fn until(end: End) -> State
     match end {
         End::At(moment) => {
             let (until_seconds, until_nanoseconds) = seconds_of(moment);
-            State {
+            GovernorState {
                 is_endless: 0,
                 until_nanoseconds,
                 until_seconds,
@@ -53,19 +53,19 @@ fn until(end: End) -> State
 }
 
 /// What is told of what governs, in numbers.
-pub(crate) fn state_of(governor: Governor) -> State
+pub(crate) fn state_of(governor: Governor) -> GovernorState
     ensures source { IsSource governor.source result }
     ensures end { IsEnd governor.until result }
 {
     let state = until(governor.until);
     match governor.source {
         Some(
-            Source {
+            GovernorSource {
                 interval,
                 event_len,
                 values_len,
             },
-        ) => State {
+        ) => GovernorState {
             is_governed: 1,
             interval,
             event_len,

@@ -4,7 +4,7 @@ use Rattle.std.specs.Fmt.{signed_decimal}
 use Rattle.adr_model.specs.Answer.{Shown, values_text}
 use Rattle.adr_object.specs.declared.event.Event.{Event}
 use Rattle.adr_model.specs.declared.written.Written.{Written}
-use Rattle.adr_calendar.specs.declared.lines.Shown.{Shown as Borrowed}
+use Rattle.adr_calendar.specs.declared.lines.Signal.{Signal as Borrowed}
 
 abbrev pub shown_view : Borrowed → Shown
 shown_view s = record { event = s.event.now; interval = s.interval; values = s.values.now }

@@ -16,5 +16,5 @@ pub use answers::{at, governor, list, roll, types};
 pub use calendar::{Calendar, State};
 pub use json::put_json_array;
 pub use laws::list_laws;
-pub use lines::{Shown, cut};
+pub use lines::{Signal, cut};
 pub use shown::shown_by_winner;

@@ -16,7 +16,7 @@ use adr_value::{Datum, Refusal};
 
 /// What governs shows: the event's id, the interval's id, and the values of its first payload of the type.
 #[derive(Clone, Copy)]
-pub struct Shown<'a> {
+pub struct Signal<'a> {
     /// The id of the event whose interval governs.
     pub event: &'a Id,
     /// The id that the interval has in its event (OpenADR 3.0, interval).
@@ -39,7 +39,7 @@ pub fn put_version(out: &mut Vec<u8>, version: u64) -> Result<(), Refusal>
 }
 
 /// Appends `event e1 interval 0`.
-fn put_event(out: &mut Vec<u8>, shown: Shown<'_>) -> Result<(), Refusal>
+fn put_event(out: &mut Vec<u8>, shown: Signal<'_>) -> Result<(), Refusal>
     ensures ok { OnOk result (out.new.items ≡ out.old.items ++ event_text (shown_view shown.entry)) }
     ensures memory { OnlyNoMemory result }
 {
@@ -54,7 +54,7 @@ fn put_event(out: &mut Vec<u8>, shown: Shown<'_>) -> Result<(), Refusal>
 /// # Errors
 ///
 /// `NoMemory` where there is no room for it.
-pub fn put_state(out: &mut Vec<u8>, shown: Option<Shown<'_>>, end: End) -> Result<(), Refusal>
+pub fn put_state(out: &mut Vec<u8>, shown: Option<Signal<'_>>, end: End) -> Result<(), Refusal>
     ensures ok { OnOk result (out.new.items ≡ out.old.items ++ state_text (option_map shown_view shown.entry) end) }
     ensures memory { OnlyNoMemory result }
 {
@@ -98,7 +98,7 @@ pub(crate) fn put_naming(out: &mut Vec<u8>, event: &Id) -> Result<(), Refusal>
 }
 
 /// Appends what is shown behind a space, ` event e1 interval 0 values 10`, from how the lines of the event name it.
-fn put_shown(out: &mut Vec<u8>, shown: Shown<'_>, naming: &[u8]) -> Result<(), Refusal>
+fn put_shown(out: &mut Vec<u8>, shown: Signal<'_>, naming: &[u8]) -> Result<(), Refusal>
     requires { naming.now ≡ naming_text (shown_view shown).event }
     ensures ok { OnOk result (out.new.items ≡ out.old.items ++ shown_text (shown_view shown.entry)) }
     ensures memory { OnlyNoMemory result }
@@ -135,7 +135,7 @@ pub(crate) fn put_segment(
     last: &mut LastMoment,
     start: Moment,
     end: Moment,
-    shown: Shown<'_>,
+    shown: Signal<'_>,
     naming: &[u8],
 ) -> Result<(), Refusal>
     requires { naming.now ≡ naming_text (shown_view shown).event }

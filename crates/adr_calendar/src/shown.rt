@@ -4,7 +4,7 @@ ghost use Rattle.std.specs.Option.{option_and_then, option_copied, option_map};
 ghost use Rattle.adr_calendar.specs.Shown.{event_alone, shown_view};
 ghost use Rattle.adr_model.specs.Answer.{first_payload as first_of_type, shown_in as shown_at, shown_of as shown_by};
 
-use crate::lines::Shown;
+use crate::lines::Signal;
 use adr_book::Book;
 use adr_model::Winner;
 use adr_object::{Event, Payload};
@@ -23,13 +23,13 @@ pub(crate) fn shown_in<'a>(
     payload_type: &PayloadType,
     place: u32,
     event: &'a Event,
-) -> Option<Shown<'a>>
+) -> Option<Signal<'a>>
     ensures value { option_map shown_view result ≡ shown_at payload_type.now place (event_alone event.now) }
     ensures event { IfSome result (λ s. s.event.now ≡ event.now.id) }
 {
     let interval = event.intervals.as_slice().get(place as usize)?;
     let payload = first_payload(payload_type, interval.payloads.as_slice())?;
-    Some(Shown {
+    Some(Signal {
         event: &event.id,
         interval: interval.id,
         values: payload.values.as_slice(),
@@ -42,7 +42,7 @@ pub(crate) fn shown_of<'a>(
     book: &'a Book,
     payload_type: &PayloadType,
     winner: Winner,
-) -> Option<Shown<'a>>
+) -> Option<Signal<'a>>
     ensures { option_map shown_view result ≡ shown_by book.now.objects payload_type.now winner }
 {
     shown_in(payload_type, winner.place, book.event_by(winner.written)?)
@@ -53,7 +53,7 @@ pub fn shown_by_winner<'a>(
     book: &'a Book,
     payload_type: &PayloadType,
     winner: Option<Winner>,
-) -> Option<Shown<'a>>
+) -> Option<Signal<'a>>
     ensures { option_map shown_view result ≡ option_and_then (shown_by book.now.objects payload_type.now) winner }
 {
     shown_of(book, payload_type, winner?)

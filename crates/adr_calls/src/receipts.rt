@@ -15,7 +15,7 @@ pub(crate) const MOST_RESOURCES: usize = 16;
 
 /// What a receipt tells: a line for each touch, and how many ranks were compared.
 #[derive(Drop, PartialEq)]
-struct Told {
+struct ToldReceipt {
     touches: String,
     compares: u128,
 }
@@ -118,7 +118,7 @@ fn receipt_of<R: Threads + Sync>(
     desk: &mut Desk,
     workers: usize,
     line: &str,
-) -> Result<Told, Refusal> {
+) -> Result<ToldReceipt, Refusal> {
     let receipt = apply(rt, alloc, desk, workers, line)?;
     let touches = match workers {
         0 => text_of(alloc, &receipt.touched),
@@ -126,7 +126,7 @@ fn receipt_of<R: Threads + Sync>(
     };
     let compares = receipt.compares;
     drop(receipt);
-    Ok(Told {
+    Ok(ToldReceipt {
         touches: touches?,
         compares,
     })
@@ -139,7 +139,7 @@ fn told_beside<R: Threads + Sync>(
     desk: &Desk,
     workers: usize,
     line: &str,
-) -> Result<Told, Refusal> {
+) -> Result<ToldReceipt, Refusal> {
     let mut copy = desk.copy()?;
     let told = receipt_of(rt, alloc, &mut copy, workers, line);
     drop(copy);
@@ -152,7 +152,7 @@ fn is_told_by_all<R: Threads + Sync>(
     alloc: Global,
     desk: &Desk,
     line: &str,
-    told: &Told,
+    told: &ToldReceipt,
 ) -> Result<bool, Refusal> {
     for workers in [1, 2, 64] {
         if told_beside(rt, alloc, desk, workers, line)? != *told {
@@ -183,7 +183,7 @@ fn tell_compares<R: Print>(rt: &R, range: &str, number: u128) -> io::Result<()> 
 }
 
 /// What the receipt tells, and whether all workers tell the same.
-fn tell_told<R: Print>(rt: &R, range: &str, told: &Told, is_same: bool) -> io::Result<()> {
+fn tell_told<R: Print>(rt: &R, range: &str, told: &ToldReceipt, is_same: bool) -> io::Result<()> {
     print!(rt; "{}", told.touches)?;
     tell_compares(rt, range, told.compares)?;
     tell_same(rt, is_same)

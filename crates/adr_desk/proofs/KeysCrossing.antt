@@ -3,7 +3,7 @@ use denote.Param.Send.{IsSync, sendable}
 use Rattle.std.proofs.Crossing as std
 use Rattle.adr_keys.specs.contracts.key.Key as Key
 use Rattle.adr_keys.specs.contracts.row.Row as Row
-use Rattle.adr_keys.specs.contracts.index.Index as Index
+use Rattle.adr_keys.specs.contracts.index.KeyIndex as Index
 use Rattle.adr_audience.specs.contracts.audiences.Audiences as Audiences
 use Rattle.adr_value.proofs.Crossing.{name_sync, text_sync}
 

@@ -20,7 +20,7 @@ use crate::make::{Made, make};
 use crate::receipt::Receipt;
 use adr_audience::Audiences;
 use adr_book::{Book, Judged, judged};
-use adr_group::{Done, Gate, Job, NoGate, do_all, do_jobs};
+use adr_group::{Done, Gate, NoGate, RepairJob, do_all, do_jobs};
 use adr_lines::{Indexes, exchange_laws};
 use adr_model::Tie;
 use adr_object::{Edit, Id};
@@ -252,7 +252,7 @@ impl Desk {
     }
 
     /// Makes an edit that the book accepts: the crew repairs the timelines.
-    fn make<C: Fn(&Indexes, &[Job]) -> Result<Vec<Done>, Refusal>>(
+    fn make<C: Fn(&Indexes, &[RepairJob]) -> Result<Vec<Done>, Refusal>>(
         &mut self,
         crew: &C,
         edit: &Judged,
@@ -315,7 +315,7 @@ impl Desk {
         ensures { IsApplied edit self.old self.new result }
     {
         let alloc = self.alloc;
-        let alone = |indexes: &Indexes, jobs: &[Job]| -> Result<Vec<Done>, Refusal>
+        let alone = |indexes: &Indexes, jobs: &[RepairJob]| -> Result<Vec<Done>, Refusal>
             ensures done { IfOk result (λ done. AreDone indexes.now jobs.now done.items) }
             ensures refusal { OnlyNoMemory result }
         { do_jobs(alloc, indexes, &NoGate, 0, jobs) };
@@ -340,7 +340,7 @@ impl Desk {
         ensures { IsApplied edit self.old self.new result }
     {
         let alloc = self.alloc;
-        let crowd = |indexes: &Indexes, jobs: &[Job]| -> Result<Vec<Done>, Refusal>
+        let crowd = |indexes: &Indexes, jobs: &[RepairJob]| -> Result<Vec<Done>, Refusal>
             requires { IsSync R.row × IsSync G.row }
             ensures done { IfOk result (λ done. AreDone indexes.now jobs.now done.items) }
             ensures refusal { OnlyNoMemory result }
@@ -349,7 +349,7 @@ impl Desk {
     }
 
     /// Makes an edit as [`Desk::apply`] does, by a crew that does the jobs of its repair.
-    fn apply_by<C: Fn(&Indexes, &[Job]) -> Result<Vec<Done>, Refusal>>(
+    fn apply_by<C: Fn(&Indexes, &[RepairJob]) -> Result<Vec<Done>, Refusal>>(
         &mut self,
         crew: &C,
         edit: Edit,

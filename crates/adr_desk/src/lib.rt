@@ -3,12 +3,12 @@
 //! it touches.
 
 mod accepted;
+mod after_event;
 mod bulk;
 mod desk;
 mod events;
 mod kinds;
 mod make;
-mod making;
 mod ranks;
 mod receipt;
 mod side;

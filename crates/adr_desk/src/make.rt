@@ -15,12 +15,12 @@ ghost use Rattle.adr_regroup.specs.Kinds.{kind_of_edit};
 ghost use Rattle.adr_object.specs.declared.object.Kind.TheVariants.{Event as event_kind};
 
 use crate::accepted::Accepted;
+use crate::after_event::after_event;
 use crate::kinds::kind_of;
-use crate::making::after_event;
 use crate::receipt::Touched;
 use adr_audience::Audiences;
 use adr_book::{Book, Judged};
-use adr_group::{Done, Job};
+use adr_group::{Done, RepairJob};
 use adr_lines::Indexes;
 use adr_model::edit_laws;
 use adr_object::Kind;
@@ -55,7 +55,7 @@ fn committed(book: &Book, edit: &Judged) -> Result<Book, Refusal>
 }
 
 /// The groups after an accepted edit of a program, a ven or a resource.
-fn regrouped<C: Fn(&Indexes, &[Job]) -> Result<Vec<Done>, Refusal>>(
+fn regrouped<C: Fn(&Indexes, &[RepairJob]) -> Result<Vec<Done>, Refusal>>(
     alloc: Global,
     crew: &C,
     edited: &Edited<'_>,
@@ -79,7 +79,7 @@ fn regrouped<C: Fn(&Indexes, &[Job]) -> Result<Vec<Done>, Refusal>>(
 
 /// The groups after an accepted edit of a program, a ven or a resource, and then the keys. A refused call leaves the
 /// keys.
-fn followed<C: Fn(&Indexes, &[Job]) -> Result<Vec<Done>, Refusal>>(
+fn followed<C: Fn(&Indexes, &[RepairJob]) -> Result<Vec<Done>, Refusal>>(
     alloc: Global,
     crew: &C,
     accepted: &Accepted<'_>,
@@ -115,7 +115,7 @@ fn followed<C: Fn(&Indexes, &[Job]) -> Result<Vec<Done>, Refusal>>(
 
 /// Makes an accepted edit of a program, a ven or a resource to the keys, and answers the groups after it. A refused
 /// call leaves the keys.
-fn after_other<C: Fn(&Indexes, &[Job]) -> Result<Vec<Done>, Refusal>>(
+fn after_other<C: Fn(&Indexes, &[RepairJob]) -> Result<Vec<Done>, Refusal>>(
     alloc: Global,
     crew: &C,
     accepted: &Accepted<'_>,
@@ -139,7 +139,7 @@ fn after_other<C: Fn(&Indexes, &[Job]) -> Result<Vec<Done>, Refusal>>(
 
 /// Makes an accepted edit to the keys and the indexes, and answers the groups after it. A refused call leaves keys and
 /// indexes of the old book.
-fn grouped<C: Fn(&Indexes, &[Job]) -> Result<Vec<Done>, Refusal>>(
+fn grouped<C: Fn(&Indexes, &[RepairJob]) -> Result<Vec<Done>, Refusal>>(
     alloc: Global,
     crew: &C,
     accepted: &Accepted<'_>,
@@ -164,7 +164,7 @@ fn grouped<C: Fn(&Indexes, &[Job]) -> Result<Vec<Done>, Refusal>>(
 }
 
 /// Makes an accepted edit. A refused call leaves keys and indexes of the old book.
-pub(crate) fn make<C: Fn(&Indexes, &[Job]) -> Result<Vec<Done>, Refusal>>(
+pub(crate) fn make<C: Fn(&Indexes, &[RepairJob]) -> Result<Vec<Done>, Refusal>>(
     alloc: Global,
     crew: &C,
     old: &Resolution,

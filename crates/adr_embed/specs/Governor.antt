@@ -13,7 +13,7 @@ use Rattle.adr_calendar.specs.Governed.{state_at}
 use Rattle.adr_calendar.specs.Json.{json_array}
 use Rattle.adr_resolver.specs.Line.{type_word}
 use Rattle.adr_embed.specs.declared.governor.Governor.{Governor}
-use Rattle.adr_embed.specs.declared.governor.Source.{Source}
+use Rattle.adr_embed.specs.declared.governor.GovernorSource.{GovernorSource}
 use Rattle.adr_embed.specs.Instants.{moment_at}
 
 -- the event's id, and behind it the values as a JSON array
@@ -22,7 +22,7 @@ shown_bytes None = []
 shown_bytes (Some s) = s.event ++ json_array s.values
 
 -- where it comes from: the interval's id, and how many of the bytes are the event's id and how many the values
-abbrev pub source_of : Shown → Source
+abbrev pub source_of : Shown → GovernorSource
 source_of s = record { interval = s.interval; event_len = length s.event; values_len = length (json_array s.values) }
 
 -- what is told of what governs, beside the bytes

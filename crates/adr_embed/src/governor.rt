@@ -3,7 +3,7 @@ use adr_time::End;
 
 /// Where what governs comes from.
 #[derive(Clone, Copy)]
-pub struct Source {
+pub struct GovernorSource {
     /// The interval's own id.
     pub interval: i64,
     /// How many of the answer's bytes are the event's id.
@@ -16,7 +16,7 @@ pub struct Source {
 #[derive(Clone, Copy)]
 pub struct Governor {
     /// None where nothing governs; then the answer has no bytes.
-    pub source: Option<Source>,
+    pub source: Option<GovernorSource>,
     /// The next moment at which something else governs.
     pub until: End,
 }

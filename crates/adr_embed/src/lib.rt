@@ -12,7 +12,7 @@ mod steps;
 
 pub use adr_board::Publisher;
 pub use editing::Editing;
-pub use governor::{Governor, Source};
+pub use governor::{Governor, GovernorSource};
 pub use instants::seconds_of;
 pub use laws::{crossing_laws, governor_laws, publication_laws, script_laws};
 pub use reading::Reading;

@@ -5,11 +5,11 @@ ghost use Rattle.adr_calendar.specs.Shown.{shown_view};
 ghost use Rattle.adr_embed.specs.Answered.{asked_answer};
 ghost use Rattle.adr_embed.specs.Governor.{governor_told, shown_bytes, source_of, told_by};
 
-use crate::governor::{Governor, Source};
+use crate::governor::{Governor, GovernorSource};
 use crate::instants::moment_at;
 use crate::script::ask;
 use adr_board::Snapshot;
-use adr_calendar::{Shown, governor, put_json_array, shown_by_winner};
+use adr_calendar::{Signal, governor, put_json_array, shown_by_winner};
 use adr_object::IdText;
 use adr_resolver::type_word;
 use adr_value::Refusal;
@@ -35,7 +35,10 @@ impl Model for Reading {
 }
 
 /// Puts the bytes of what is shown into an empty reply.
-fn put_shown(reply: &mut Vec<u8>, shown: Option<Shown<'_>>) -> Result<Option<Source>, Refusal>
+fn put_shown(
+    reply: &mut Vec<u8>,
+    shown: Option<Signal<'_>>,
+) -> Result<Option<GovernorSource>, Refusal>
     requires empty { reply.old.items ≡ [] }
     ensures bytes { OnOk result (reply.new.items ≡ shown_bytes (option_map shown_view shown.entry)) }
     ensures source { IfOk result (λ source. source ≡ option_map source_of (option_map shown_view shown.entry)) }
@@ -47,7 +50,7 @@ fn put_shown(reply: &mut Vec<u8>, shown: Option<Shown<'_>>) -> Result<Option<Sou
     let event = shown.event.text().as_bytes();
     reply.extend_from_slice(event)?;
     put_json_array(reply, shown.values)?;
-    Ok(Some(Source {
+    Ok(Some(GovernorSource {
         interval: shown.interval,
         event_len: event.len(),
         values_len: reply.len() - event.len(),

@@ -7,7 +7,7 @@ use Rattle.std.proofs.lemmas.List.Sums.{sum_by-append}
 use Rattle.std.proofs.lemmas.Nat.{le-div, div-mul-add}
 use Rattle.adr_lines.specs.declared.indexes.Indexes.{Indexes}
 use Rattle.adr_group.specs.declared.job.Done.{Done}
-use Rattle.adr_group.specs.declared.job.Job.{Job}
+use Rattle.adr_group.specs.declared.job.RepairJob.{RepairJob}
 use Rattle.adr_group.specs.Jobs.{most_done, AreDone, IsDone}
 
 -- ---- where parts begin and end
@@ -39,7 +39,7 @@ both_done R (x ∷ xs) ys [] vs h k = absurd h
 both_done R (x ∷ xs) ys (u ∷ us) vs h k = (h.0, both_done R xs ys us vs h.1 k)
 
 -- what the last worker did, behind what the others did
-pub shared : (indexes : Indexes) (ours theirs all : List Done) (jobs part : List Job) (i j : ℕ)
+pub shared : (indexes : Indexes) (ours theirs all : List Done) (jobs part : List RepairJob) (i j : ℕ)
     → i ≤ j → all ≡ ours ++ theirs → AreDone indexes (take i jobs) ours → part ≡ take (j - i) (drop i jobs) → AreDone indexes part theirs
     → AreDone indexes (take j jobs) all
 shared indexes ours theirs all jobs part i j le is front cut back =

@@ -28,7 +28,7 @@ use Rattle.adr_lines.specs.declared.indexes.Indexes.{Indexes}
 use Rattle.adr_lines.specs.Indexes.{has_type, under}
 use Rattle.adr_lines.proofs.Groups.{none_under}
 use Rattle.adr_group.specs.declared.job.Done.{Done}
-use Rattle.adr_group.specs.declared.job.Job.{Job}
+use Rattle.adr_group.specs.declared.job.RepairJob.{RepairJob}
 use Rattle.adr_group.specs.Group.{shown_in, IsRightOf, Lines}
 use Rattle.adr_group.specs.Jobs.{indexed_of, most_done, tasks_for, IsDone, IsJobOf, IsOfType, IsTaskDone, ShowsOf, Task}
 use Rattle.adr_group.specs.Laid.{IsHeld}
@@ -38,7 +38,7 @@ use Rattle.adr_group.proofs.Turns.{one_name, wins}
 -- ---- from jobs to tasks
 
 -- what a job made of a task's line is what the task asks for
-task_done : (indexes : Indexes) (task : Task) (job : Job) (done : Done) → IsJobOf indexes task job → IsDone indexes job done → IsTaskDone indexes task done
+task_done : (indexes : Indexes) (task : Task) (job : RepairJob) (done : Done) → IsJobOf indexes task job → IsDone indexes job done → IsTaskDone indexes task done
 task_done indexes task job done of made right t = after t ∙ ap (λ (o : Option Winner). if any_covers_at task.windows.entries.items t then winner_at (written_in task.writes (indexed_of indexes task)) t else o) (of.line t)
   where
     made_of : (ws : List ℕ) (g : TypeEntries) → job.writes ≡ ws → job.windows ≡ g
@@ -49,7 +49,7 @@ task_done indexes task job done of made right t = after t ∙ ap (λ (o : Option
     after : IsRepaired task.writes (indexed_of indexes task) task.windows.entries.items (shows job.line) done.line
     after = made_of task.writes task.windows of.writes of.windows (of.held right)
 
-pub tasks_done : (indexes : Indexes) (tasks : List Task) (jobs : List Job) (done : List Done) → AllZip (IsJobOf indexes) tasks jobs → AllZip (IsDone indexes) jobs done → AllZip (IsTaskDone indexes) tasks done
+pub tasks_done : (indexes : Indexes) (tasks : List Task) (jobs : List RepairJob) (done : List Done) → AllZip (IsJobOf indexes) tasks jobs → AllZip (IsDone indexes) jobs done → AllZip (IsTaskDone indexes) tasks done
 tasks_done indexes [] [] [] a b = tt
 tasks_done indexes [] [] (d ∷ ds) a b = b
 tasks_done indexes [] (j ∷ js) ds a b = absurd a
@@ -61,7 +61,7 @@ tasks_done indexes (x ∷ xs) (j ∷ js) (d ∷ ds) a b = (task_done indexes x j
 abbrev pub most_asked : Indexes → Task → ℕ
 most_asked indexes task = most_inside task.writes (indexed_of indexes task) task.windows.entries.items
 
-pub jobs_compare : (indexes : Indexes) (tasks : List Task) (jobs : List Job) → AllZip (IsJobOf indexes) tasks jobs → sum_by (most_done indexes) jobs ≤ sum_by (most_asked indexes) tasks
+pub jobs_compare : (indexes : Indexes) (tasks : List Task) (jobs : List RepairJob) → AllZip (IsJobOf indexes) tasks jobs → sum_by (most_done indexes) jobs ≤ sum_by (most_asked indexes) tasks
 jobs_compare indexes [] [] a = omega arith
 jobs_compare indexes [] (j ∷ js) a = absurd a
 jobs_compare indexes (x ∷ xs) [] a = absurd a

@@ -18,26 +18,26 @@ use Rattle.adr_lines.specs.Right.{written_in}
 use Rattle.adr_lines.specs.declared.indexes.Indexes.{Indexes}
 use Rattle.adr_lines.specs.Indexes.{under}
 use Rattle.adr_group.specs.declared.job.Done.{Done}
-use Rattle.adr_group.specs.declared.job.Job.{Job}
+use Rattle.adr_group.specs.declared.job.RepairJob.{RepairJob}
 use Rattle.adr_group.specs.Group.{shown_in, Lines}
 use Rattle.adr_group.specs.Laid.{most_exchanged, IsHeld}
 use Rattle.adr_group.specs.Repair.{most_inside, most_repaired, IsRepaired}
 
 -- the indexed entries of the job's type
-abbrev pub indexed_for : Indexes → Job → List Entry
+abbrev pub indexed_for : Indexes → RepairJob → List Entry
 indexed_for indexes job = under indexes job.windows.payload_type
 
 -- the line is the job's, repaired inside its windows; where something is held of the line, if it is right
-abbrev pub IsAfter : Indexes → Job → List Segment → Type 0
+abbrev pub IsAfter : Indexes → RepairJob → List Segment → Type 0
 IsAfter indexes job after =
     IfSome job.held (λ h. IsHeld job.writes (indexed_for indexes job) job.windows.entries.items job.line h)
     → IsRepaired job.writes (indexed_for indexes job) job.windows.entries.items (shows job.line) after
 
-abbrev pub IsDone : Indexes → Job → Done → Type 0
+abbrev pub IsDone : Indexes → RepairJob → Done → Type 0
 IsDone indexes job done = IsAfter indexes job done.line
 
 -- to do the job compares at most so much
-abbrev pub most_done : Indexes → Job → ℕ
+abbrev pub most_done : Indexes → RepairJob → ℕ
 most_done indexes job =
     option_map_or (λ h. most_exchanged job.writes (indexed_for indexes job) job.windows.entries.items h) job.held
     (most_inside job.writes (indexed_for indexes job) job.windows.entries.items)
@@ -68,7 +68,7 @@ abbrev pub IsTaskDone : Indexes → Task → Done → Type 0
 IsTaskDone indexes task done = IsRightBefore indexes task → IsRepaired task.writes (indexed_of indexes task) task.windows.entries.items (shown_of task) done.line
 
 -- the job does the task, and compares no more than to build what wins inside the windows
-pub record IsJobOf (indexes : Indexes) (task : Task) (job : Job) : Type 0 where
+pub record IsJobOf (indexes : Indexes) (task : Task) (job : RepairJob) : Type 0 where
   pub writes : job.writes ≡ task.writes
   pub windows : job.windows ≡ task.windows
   pub line : (t : ℤ) → shows job.line t ≡ shown_of task t
@@ -97,13 +97,13 @@ pub record AreGathered (windows others : List TypeEntries) : Type 0 where
   pub cost : (writes : List ℕ) (indexes : Indexes) → most_repaired windows writes indexes ≡ most_repaired others writes indexes
 
 -- each job was done, in order, and no more was compared than all may
-pub record AreDone (indexes : Indexes) (jobs : List Job) (done : List Done) : Type 0 where
+pub record AreDone (indexes : Indexes) (jobs : List RepairJob) (done : List Done) : Type 0 where
   pub each : AllZip (IsDone indexes) jobs done
   pub compared : sum_by (λ d. d.compared) done ≤ sum_by (most_done indexes) jobs
 
 -- whoever is called so does jobs: it may be called with any, and answers what was done, or that
 -- there was no memory
-pub record IsCrew {V : Type 0} (items : V → List Done) (pre : Bor Indexes → Bor (List Job) → Type 0) (post : Bor Indexes → Bor (List Job) → Result V Refusal → Type 0) : Type 0 where
-  pub may : (i : Bor Indexes) (jobs : Bor (List Job)) → pre i jobs
-  pub does : (i : Bor Indexes) (jobs : Bor (List Job)) (r : Result V Refusal) → post i jobs r → IfOk r (λ v. AreDone i.now jobs.now (items v))
-  pub refuses : (i : Bor Indexes) (jobs : Bor (List Job)) (r : Result V Refusal) → post i jobs r → OnlyNoMemory r
+pub record IsCrew {V : Type 0} (items : V → List Done) (pre : Bor Indexes → Bor (List RepairJob) → Type 0) (post : Bor Indexes → Bor (List RepairJob) → Result V Refusal → Type 0) : Type 0 where
+  pub may : (i : Bor Indexes) (jobs : Bor (List RepairJob)) → pre i jobs
+  pub does : (i : Bor Indexes) (jobs : Bor (List RepairJob)) (r : Result V Refusal) → post i jobs r → IfOk r (λ v. AreDone i.now jobs.now (items v))
+  pub refuses : (i : Bor Indexes) (jobs : Bor (List RepairJob)) (r : Result V Refusal) → post i jobs r → OnlyNoMemory r

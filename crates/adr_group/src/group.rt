@@ -22,7 +22,7 @@ ghost use Rattle.adr_group.specs.Jobs.{tasks_for, IsTaskDone};
 ghost use Rattle.adr_group.specs.Repair.{most_repaired};
 
 use crate::exchange::held_of;
-use crate::job::{Done, Job};
+use crate::job::{Done, RepairJob};
 use crate::repair::{repaired, together};
 use crate::timelines::Timelines;
 use crate::writes::Writes;
@@ -184,7 +184,7 @@ impl Group {
         alloc: Global,
         writes: &Shared<Writes>,
         windows: &Shared<TypeEntries>,
-    ) -> Result<Job, Refusal>
+    ) -> Result<RepairJob, Refusal>
         ensures writes { IfOk result (λ job. job.writes ≡ writes.now) }
         ensures windows { IfOk result (λ job. job.windows ≡ windows.now) }
         ensures line { IfOk result (λ job. (t : ℤ) → shows job.line t ≡ shown_in self.now.lines windows.now.payload_type t) }
@@ -192,7 +192,7 @@ impl Group {
         ensures memory { OnlyNoMemory result }
     {
         let line = self.line_of(alloc, &windows.get().payload_type)?;
-        Ok(Job {
+        Ok(RepairJob {
             writes: writes.copy()?,
             windows: windows.copy()?,
             line,
@@ -220,7 +220,7 @@ impl Group {
         leaving: usize,
         gone: Option<u64>,
         ranks: &R,
-    ) -> Result<Job, Refusal>
+    ) -> Result<RepairJob, Refusal>
         ensures writes { IfOk result (λ job. job.writes ≡ writes.now) }
         ensures windows { IfOk result (λ job. job.windows ≡ windows.now) }
         ensures line { IfOk result (λ job. (t : ℤ) → shows job.line t ≡ shown_in self.now.lines windows.now.payload_type t) }
@@ -240,7 +240,7 @@ impl Group {
             gone,
             ranks,
         )?;
-        Ok(Job {
+        Ok(RepairJob {
             writes: writes.copy()?,
             windows: windows.copy()?,
             line,

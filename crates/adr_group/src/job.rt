@@ -44,7 +44,7 @@ impl Drop for Held {
 /// One payload type of a group: its timeline, the windows in which it changes, and the writes of the group after that.
 /// Where something is held, an event is laid over the timeline, or another goes, or both; else what the writes show is
 /// built inside the windows.
-pub struct Job {
+pub struct RepairJob {
     /// The writes of the group after the job.
     pub writes: Shared<Writes>,
     /// The payload type of the line, and the windows in which it changes.
@@ -56,9 +56,9 @@ pub struct Job {
 }
 
 // A function of its own, so that callers that let a value go need not look into it.
-impl Drop for Job {
+impl Drop for RepairJob {
     fn drop(self) {
-        let Job {
+        let RepairJob {
             writes,
             windows,
             line,
@@ -91,7 +91,7 @@ impl Drop for Done {
 fn line_after(
     alloc: Global,
     indexes: &Indexes,
-    job: &Job,
+    job: &RepairJob,
     meter: &mut Meter,
 ) -> Result<Timeline, Refusal>
     ensures after { IfOk result (IsAfter indexes.now job.now) }
@@ -118,7 +118,7 @@ fn line_after(
 }
 
 /// Does a job, with a count of its own.
-fn do_job(alloc: Global, indexes: &Indexes, job: &Job) -> Result<Done, Refusal>
+fn do_job(alloc: Global, indexes: &Indexes, job: &RepairJob) -> Result<Done, Refusal>
     ensures done { IfOk result (IsDone indexes.now job.now) }
     ensures compared { IfOk result (λ done. done.compared ≤ most_done indexes.now job.now) }
     ensures refusal { OnlyNoMemory result }
@@ -144,7 +144,7 @@ pub fn do_jobs<G: Gate>(
     indexes: &Indexes,
     gate: &G,
     worker: usize,
-    jobs: &[Job],
+    jobs: &[RepairJob],
 ) -> Result<Vec<Done>, Refusal>
     ensures done { IfOk result (λ done. AreDone indexes.now jobs.now done.items) }
     ensures refusal { OnlyNoMemory result }

@@ -20,7 +20,7 @@ mod writes;
 
 pub use gate::{Gate, NoGate};
 pub use group::Group;
-pub use job::{Done, Held, Job, do_jobs, shared_windows};
+pub use job::{Done, Held, RepairJob, do_jobs, shared_windows};
 pub use laws::right_moves;
 pub use share::do_all;
 pub use writes::Writes;

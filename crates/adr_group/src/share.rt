@@ -5,7 +5,7 @@ ghost use Rattle.adr_refusal.specs.Answer.{OnlyNoMemory};
 ghost use Rattle.adr_group.specs.Jobs.{AreDone};
 
 use crate::gate::Gate;
-use crate::job::{Done, Job, do_jobs};
+use crate::job::{Done, RepairJob, do_jobs};
 use adr_lines::Indexes;
 use adr_refusal::Refusal;
 use std::alloc::Global;
@@ -21,7 +21,7 @@ fn bound(count: usize, workers: usize, worker: usize) -> usize
 }
 
 /// The jobs of one worker.
-fn chunk(jobs: &[Job], workers: usize, worker: usize) -> &[Job]
+fn chunk(jobs: &[RepairJob], workers: usize, worker: usize) -> &[RepairJob]
     requires { (worker < workers) × (workers ≤ 64) }
     ensures part { result.now ≡ slice_range jobs.now (worker * length jobs.now / workers) ((worker + 1) * length jobs.now / workers) }
 {
@@ -38,7 +38,7 @@ fn do_first<R: Threads + Sync, G: Gate + Sync>(
     alloc: Global,
     indexes: &Indexes,
     gate: &G,
-    jobs: &[Job],
+    jobs: &[RepairJob],
     workers: usize,
     count: usize,
 ) -> Result<Vec<Done>, Refusal>
@@ -85,7 +85,7 @@ pub fn do_all<R: Threads + Sync, G: Gate + Sync>(
     indexes: &Indexes,
     workers: usize,
     gate: &G,
-    jobs: &[Job],
+    jobs: &[RepairJob],
 ) -> Result<Vec<Done>, Refusal>
     ensures done { IfOk result (λ done. AreDone indexes.now jobs.now done.items) }
     ensures refusal { OnlyNoMemory result }

@@ -6,7 +6,7 @@ ghost use Rattle.adr_refusal.specs.Copy.{IsCopyOf};
 ghost use Rattle.adr_value.specs.Payload.{name_of};
 ghost use Rattle.adr_shared.specs.Map.{lookup};
 
-use adr_shared::{Key, SharedMap};
+use adr_shared::{MapKey, SharedMap};
 use adr_value::{PayloadType, Refusal, TryClone};
 use std::cmp::Ordering;
 
@@ -33,7 +33,7 @@ impl TryClone for TypeName {
     }
 }
 
-impl Key for TypeName {
+impl MapKey for TypeName {
     ghost code = { λ k. name_of k.payload_type };
 
     ghost lead_of = { λ _. 0 };

@@ -4,7 +4,7 @@ use Rattle.std.proofs.lemmas.List.{length-set, length-take-le, length-drop, take
 use Rattle.std.proofs.Math.Seq.{take-set-lt}
 use Rattle.adr_time.specs.declared.span.End.{End}
 use Rattle.adr_model.specs.declared.entry.Entry.{Entry}
-use Rattle.adr_index.specs.declared.chunk.Chunk.{Chunk}
+use Rattle.adr_index.specs.declared.chunk.EntryChunk.{EntryChunk}
 use Rattle.adr_index.specs.declared.stretch.Stretch.{Stretch}
 use Rattle.adr_index.specs.Chunks.{listed}
 use Rattle.adr_index.specs.Tables.{HasTops, HasTopsBut, IsChangedAt}
@@ -86,14 +86,14 @@ module _ {A : Type 0} (f : A → List Entry) (few : ℕ) where
           ap (λ (j : ℕ). drop m (set xs j c)) parts ∙ drop-set-add m xs (k - m) c
 
 -- no chunk was changed
-pub tops_but : (from to : ℕ) (cs : List Chunk) (gs : List (Option End)) → to ≤ from → HasTops cs gs → HasTopsBut from to cs gs
+pub tops_but : (from to : ℕ) (cs : List EntryChunk) (gs : List (Option End)) → to ≤ from → HasTops cs gs → HasTopsBut from to cs gs
 tops_but from to cs gs le h = λ n. none_but listed 6 (omega arith) n from to cs gs le (tree_levels listed 6 h.levels n cs gs h.enough h.tree)
 
-pub inside_new : (r : Option ℕ) (old new : List Chunk) (count : ℕ) → count ≡ length new → IfSome r (λ place. IsChangedAt place old new) → IfSome r (λ place. place < count)
+pub inside_new : (r : Option ℕ) (old new : List EntryChunk) (count : ℕ) → count ≡ length new → IfSome r (λ place. IsChangedAt place old new) → IfSome r (λ place. place < count)
 inside_new None old new count all h = h
 inside_new (Some k) old new count all h = rw (all, h.is, length-set old k h.chunk) h.inside
 
 -- one more was, or all were
-pub stretched : (r : Option ℕ) (old new : List Chunk) (gs : List (Option End)) (s t : Stretch) (count : ℕ) → count ≡ length new → IfSome r (λ place. IsChangedAt place old new) → IfSome r (λ place. (t.from ≡ min s.from place) × (t.to ≡ max s.to (place + 1))) → IfNone r ((t.from ≡ 0) × (t.to ≡ count)) → HasTopsBut s.from s.to old gs → HasTopsBut t.from t.to new gs
+pub stretched : (r : Option ℕ) (old new : List EntryChunk) (gs : List (Option End)) (s t : Stretch) (count : ℕ) → count ≡ length new → IfSome r (λ place. IsChangedAt place old new) → IfSome r (λ place. (t.from ≡ min s.from place) × (t.to ≡ max s.to (place + 1))) → IfNone r ((t.from ≡ 0) × (t.to ≡ count)) → HasTopsBut s.from s.to old gs → HasTopsBut t.from t.to new gs
 stretched None old new gs s t count whole h one all tops = λ n. all_but listed 6 n t.from t.to new gs all.0 (omega (arith, all.1, whole))
 stretched (Some k) old new gs s t count whole h one all tops = λ n. rw h.is (one_but listed 6 n s.from s.to t.from t.to k old h.chunk gs (omega (arith, one.0)) (omega (arith, one.1)) (omega (arith, one.0)) (omega (arith, one.1)) (tops n))

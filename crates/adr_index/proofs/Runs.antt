@@ -4,7 +4,7 @@ use Rattle.std.specs.List.{AllByRecursion, remove}
 use Rattle.std.proofs.lemmas.List.{take-append-drop, length-append}
 use Rattle.adr_model.specs.declared.entry.Entry.{Entry}
 use Rattle.adr_model.specs.Entries.{is_listed_before}
-use Rattle.adr_index.specs.declared.chunk.Chunk.{Chunk}
+use Rattle.adr_index.specs.declared.chunk.EntryChunk.{EntryChunk}
 use Rattle.adr_index.specs.Chunks.{all_listed, listed, EndsBefore, GoTogether}
 use Rattle.adr_index.specs.Index.{inserted, inserted_all, others, others_all, AreNew, IsOrdered}
 use Rattle.adr_index.proofs.Ordered.{all_joined, all_left, all_more, inserted_between, length_inserted, listed_trans, ordered_first, ordered_inserted, ordered_middle, ordered_others, others_between, up_to_last}
@@ -44,21 +44,21 @@ take_fewer (suc n) zero xs le = absurd (omega (arith, le))
 take_fewer (suc n) (suc m) [] le = refl
 take_fewer (suc n) (suc m) (x ∷ xs) le = ap (λ (ys : List Entry). x ∷ ys) (take_fewer n m xs (omega (arith, le)))
 
-pub first_together : (c : Chunk) (n : ℕ) (es : List Entry) → GoTogether c es → GoTogether c (take n es)
+pub first_together : (c : EntryChunk) (n : ℕ) (es : List Entry) → GoTogether c es → GoTogether c (take n es)
 first_together c zero es h = tt
 first_together c (suc n) [] h = tt
 first_together c (suc n) (e ∷ es) h = (ordered_first (suc n) (e ∷ es) h.0, all_left (λ f. EndsBefore c f false) (take n es) (drop n es) (rw (take-append-drop n es) h.1))
 
-pub together_ordered : (c : Chunk) (es : List Entry) → GoTogether c es → IsOrdered es
+pub together_ordered : (c : EntryChunk) (es : List Entry) → GoTogether c es → IsOrdered es
 together_ordered c [] h = tt
 together_ordered c (e ∷ es) h = h.0
 
-pub together_one : (c : Chunk) (es : List Entry) → GoTogether c (take 1 es)
+pub together_one : (c : EntryChunk) (es : List Entry) → GoTogether c (take 1 es)
 together_one c [] = tt
 together_one c (e ∷ es) = ((tt, tt), tt)
 
 -- one more, behind the last
-pub together_more : (c : Chunk) (es : List Entry) (x e : Entry) → 0 < length es → x ≡ get_or es (length es - 1) x → GoTogether c es → is_listed_before x e ≡ true → EndsBefore c e false → GoTogether c (es ++ e ∷ [])
+pub together_more : (c : EntryChunk) (es : List Entry) (x e : Entry) → 0 < length es → x ≡ get_or es (length es - 1) x → GoTogether c es → is_listed_before x e ≡ true → EndsBefore c e false → GoTogether c (es ++ e ∷ [])
 together_more c [] x e some read h k ends = absurd (omega (arith, some))
 together_more c (f ∷ es) x e some read h k ends = (
   ordered_middle (f ∷ es) e [] h.0 (up_to_last (f ∷ es) (length (f ∷ es) - 1) x e h.0 (omega arith) read k) tt tt,
@@ -94,7 +94,7 @@ put_between front middle back (e ∷ run) h = rw (inserted_between front middle 
 
 -- ---- in a chunk
 
-module _ (cs : List Chunk) (k : ℕ) (c : Chunk) (inside : k < length cs) (read : c ≡ get_or cs k c) (some : 0 < length (listed c)) (order : IsOrdered (all_listed cs)) where
+module _ (cs : List EntryChunk) (k : ℕ) (c : EntryChunk) (inside : k < length cs) (read : c ≡ get_or cs k c) (some : 0 < length (listed c)) (order : IsOrdered (all_listed cs)) where
   -- those that go together with the first of them, which belongs to the chunk
   pub all_stand : (first : Entry) (es : List Entry) (n : ℕ) → first ≡ get_or es 0 first → AllByRecursion (λ x. is_listed_before x first ≡ true) (all_listed (take k cs)) → AllByRecursion (λ x. is_listed_before first x ≡ true) (all_listed (drop (k + 1) cs)) → GoTogether c (take n es) → AllByRecursion (Stands (all_listed (take k cs)) (all_listed (drop (k + 1) cs))) (take n es)
   all_stand first es zero is before after together = tt
@@ -114,7 +114,7 @@ module _ (cs : List Chunk) (k : ℕ) (c : Chunk) (inside : k < length cs) (read 
         each fs h.1 t.1,
       )
 
-module _ (cs : List Chunk) (k : ℕ) (c new : Chunk) (run : List Entry) (inside : k < length cs) (read : c ≡ get_or cs k c) (stand : AllByRecursion (Stands (all_listed (take k cs)) (all_listed (drop (k + 1) cs))) run) where
+module _ (cs : List EntryChunk) (k : ℕ) (c new : EntryChunk) (run : List Entry) (inside : k < length cs) (read : c ≡ get_or cs k c) (stand : AllByRecursion (Stands (all_listed (take k cs)) (all_listed (drop (k + 1) cs))) run) where
   pub put_run : listed new ≡ inserted_all run (listed c) → all_listed (set cs k new) ≡ inserted_all run (all_listed cs)
   put_run h = rw (all_set cs k new inside, around cs k c inside read, put_between (all_listed (take k cs)) (listed c) (all_listed (drop (k + 1) cs)) run stand, ← h) refl
 

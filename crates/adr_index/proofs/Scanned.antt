@@ -5,8 +5,8 @@ use Rattle.std.proofs.Math.Nat.{mul-le-mul_left}
 use Rattle.std.proofs.lemmas.List.{append_assoc, drop_more}
 use Rattle.adr_time.specs.declared.span.End.{End}
 use Rattle.adr_model.specs.declared.entry.Entry.{Entry}
-use Rattle.adr_index.specs.declared.chunk.Chunk.{Chunk}
-use Rattle.adr_index.specs.declared.query.Query.{Query}
+use Rattle.adr_index.specs.declared.chunk.EntryChunk.{EntryChunk}
+use Rattle.adr_index.specs.declared.query.IndexQuery.{IndexQuery}
 use Rattle.adr_index.specs.Chunks.{all_listed, listed}
 use Rattle.adr_index.specs.Query.{any_late, hits, looks, reached, wanted_of}
 use Rattle.adr_index.specs.Tree.{any_lasts, comes_after, greater_end, IsByStart}
@@ -14,33 +14,33 @@ use Rattle.adr_index.proofs.Grown.{lasts_append, later_after, parted}
 use Rattle.adr_index.proofs.Searched.{found_left, grows, late_append, looks_both, looks_left, reached_left, reached_parts, starts_left, starts_right, wanted_append}
 use Rattle.adr_index.proofs.Ordered.{or_grouped}
 
-pub each_taken : (P : Chunk → Type 0) (m : ℕ) (cs : List Chunk) → AllByRecursion P cs → AllByRecursion P (take m cs)
+pub each_taken : (P : EntryChunk → Type 0) (m : ℕ) (cs : List EntryChunk) → AllByRecursion P cs → AllByRecursion P (take m cs)
 each_taken P zero cs h = tt
 each_taken P (suc m) [] h = tt
 each_taken P (suc m) (c ∷ cs) h = (h.0, each_taken P m cs h.1)
 
-pub each_left : (P : Chunk → Type 0) (m : ℕ) (cs : List Chunk) → AllByRecursion P cs → AllByRecursion P (drop m cs)
+pub each_left : (P : EntryChunk → Type 0) (m : ℕ) (cs : List EntryChunk) → AllByRecursion P cs → AllByRecursion P (drop m cs)
 each_left P zero cs h = h
 each_left P (suc m) [] h = tt
 each_left P (suc m) (c ∷ cs) h = each_left P m cs h.1
 
-module _ (cs : List Chunk) (i : ℕ) (c : Chunk) (inside : i < length cs) (read : c ≡ get_or cs i c) where
+module _ (cs : List EntryChunk) (i : ℕ) (c : EntryChunk) (inside : i < length cs) (read : c ≡ get_or cs i c) where
   here : drop i cs ≡ c ∷ drop (i + 1) cs
-  here = drop_more cs i c inside ∙ ap (λ (d : Chunk). d ∷ drop (i + 1) cs) (sym read)
+  here = drop_more cs i c inside ∙ ap (λ (d : EntryChunk). d ∷ drop (i + 1) cs) (sym read)
 
   pub whole : all_listed (drop i cs) ≡ listed c ++ all_listed (drop (i + 1) cs)
   whole = ap all_listed here
 
-  pub each_here : (P : Chunk → Type 0) → AllByRecursion P (drop i cs) → P c
+  pub each_here : (P : EntryChunk → Type 0) → AllByRecursion P (drop i cs) → P c
   each_here P h = (rw here at h).0
 
-  pub each_rest : (P : Chunk → Type 0) → AllByRecursion P (drop i cs) → AllByRecursion P (drop (i + 1) cs)
+  pub each_rest : (P : EntryChunk → Type 0) → AllByRecursion P (drop i cs) → AllByRecursion P (drop (i + 1) cs)
   each_rest P h = (rw here at h).1
 
   pub length_here : length (drop i cs) ≡ 1 + length (drop (i + 1) cs)
   length_here = rw here (omega arith)
 
-  module _ (q : Query) where
+  module _ (q : IndexQuery) where
     pub order_here : IsByStart (all_listed (drop i cs)) → IsByStart (listed c)
     order_here o = starts_left (listed c) (all_listed (drop (i + 1) cs)) (rw whole at o)
 
@@ -84,11 +84,11 @@ few_chunks_paid n k c r some h = omega (arith, mul-le-mul_left (2 * n) some)
 
 -- ---- two halves
 
-pub both_halves : (cs left right : List Chunk) (m : ℕ) → left ≡ take m cs → right ≡ drop m cs → all_listed cs ≡ all_listed left ++ all_listed right
+pub both_halves : (cs left right : List EntryChunk) (m : ℕ) → left ≡ take m cs → right ≡ drop m cs → all_listed cs ≡ all_listed left ++ all_listed right
 both_halves cs left right m h k = rw (h, k) (parted listed m cs)
 
 -- what a search of two halves pays
-module _ (cs xs ys : List Chunk) (q : Query) (levels depth : ℕ) (whole : all_listed cs ≡ all_listed xs ++ all_listed ys) (level : 0 < levels) (last : any_lasts (all_listed cs) q.from ≡ true) where
+module _ (cs xs ys : List EntryChunk) (q : IndexQuery) (levels depth : ℕ) (whole : all_listed cs ≡ all_listed xs ++ all_listed ys) (level : 0 < levels) (last : any_lasts (all_listed cs) q.from ≡ true) where
   lower : levels + depth - 1 ≡ levels - 1 + depth
   lower = omega (arith, level)
 

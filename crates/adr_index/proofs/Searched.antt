@@ -8,7 +8,7 @@ use Rattle.std.proofs.lemmas.List.Elements.{filter-append}
 use Rattle.std.proofs.lemmas.Bool.{cases_Bool, or_parts, and_parts, false≢true, not-true}
 use Rattle.adr_time.specs.declared.span.End.TheVariants.{At, Endless}
 use Rattle.adr_model.specs.declared.entry.Entry.{Entry}
-use Rattle.adr_index.specs.declared.query.Query.{Query}
+use Rattle.adr_index.specs.declared.query.IndexQuery.{IndexQuery}
 use Rattle.adr_index.specs.declared.query.Latest.{Latest}
 use Rattle.adr_index.specs.declared.query.Latest.TheVariants.{Before, By}
 use Rattle.adr_index.specs.Query.{any_late, begins, lasts_past, is_hit, is_late, hits, if_hit, looks, reached, wanted_of}
@@ -17,26 +17,26 @@ use Rattle.adr_index.proofs.Ordered.{all_left, all_right, or_grouped}
 
 -- ---- what is found
 
-ended_missed : (e : Entry) (q : Query) → lasts_past e q.from ≡ false → is_hit q e ≡ false
+ended_missed : (e : Entry) (q : IndexQuery) → lasts_past e q.from ≡ false → is_hit q e ≡ false
 ended_missed e q h = rw h
 
-ended_early : (e : Entry) (q : Query) → lasts_past e q.from ≡ false → is_late q e ≡ false
+ended_early : (e : Entry) (q : IndexQuery) → lasts_past e q.from ≡ false → is_late q e ≡ false
 ended_early e q h = rw h
 
-late_missed : (e : Entry) (q : Query) → begins q.latest e.span.start ≡ false → is_hit q e ≡ false
+late_missed : (e : Entry) (q : IndexQuery) → begins q.latest e.span.start ≡ false → is_hit q e ≡ false
 late_missed e q h = rw h (neither (lasts_past e q.from))
   where
     neither : (x : Bool) → (x && false) ≡ false
     neither true = refl
     neither false = refl
 
-pub none_last : (es : List Entry) (q : Query) → any_lasts es q.from ≡ false → hits es q ≡ []
+pub none_last : (es : List Entry) (q : IndexQuery) → any_lasts es q.from ≡ false → hits es q ≡ []
 none_last [] q h = refl
 none_last (e ∷ es) q h =
     let parts = or_parts (lasts_past e q.from) (any_lasts es q.from) h in
     rw (ended_missed e q parts.0) (none_last es q parts.1)
 
-pub none_late_last : (es : List Entry) (q : Query) → any_lasts es q.from ≡ false → any_late es q ≡ false
+pub none_late_last : (es : List Entry) (q : IndexQuery) → any_lasts es q.from ≡ false → any_late es q ≡ false
 none_late_last [] q h = refl
 none_late_last (e ∷ es) q h =
     let parts = or_parts (lasts_past e q.from) (any_lasts es q.from) h in
@@ -47,7 +47,7 @@ still_late (Before (At v)) a b h k = grind (arith, ints)
 still_late (Before Endless) a b h k = k
 still_late (By u) a b h k = grind (arith, ints)
 
-none_begin : (es : List Entry) (a : ℤ) (q : Query) → AllByRecursion (λ f. a ≤ℤ f.span.start) es → begins q.latest a ≡ false → hits es q ≡ []
+none_begin : (es : List Entry) (a : ℤ) (q : IndexQuery) → AllByRecursion (λ f. a ≤ℤ f.span.start) es → begins q.latest a ≡ false → hits es q ≡ []
 none_begin [] a q h k = refl
 none_begin (e ∷ es) a q h k = rw (late_missed e q (still_late q.latest a e.span.start h.0 k)) (none_begin es a q h.1 k)
 
@@ -60,30 +60,30 @@ starts_right [] ys h = h
 starts_right (x ∷ xs) ys h = starts_right xs ys h.1
 
 -- after one that starts too late nothing is found
-pub late_rest : (xs ys : List Entry) (q : Query) → IsByStart (xs ++ ys) → any_late xs q ≡ true → hits ys q ≡ []
+pub late_rest : (xs ys : List Entry) (q : IndexQuery) → IsByStart (xs ++ ys) → any_late xs q ≡ true → hits ys q ≡ []
 late_rest [] ys q o h = absurd (false≢true h)
 late_rest (x ∷ xs) ys q o h = elim (cases_Bool (is_late q x)) [
   | inl late ↦ none_begin ys x.span.start q (all_right (λ f. x.span.start ≤ℤ f.span.start) xs ys o.0) (not-true (begins q.latest x.span.start) (and_parts (lasts_past x q.from) (not (begins q.latest x.span.start)) late).1)
   | inr early ↦ late_rest xs ys q o.1 (rw early at h)
 ]
 
-pub hits_append : (xs ys : List Entry) (q : Query) → hits (xs ++ ys) q ≡ hits xs q ++ hits ys q
+pub hits_append : (xs ys : List Entry) (q : IndexQuery) → hits (xs ++ ys) q ≡ hits xs q ++ hits ys q
 hits_append xs ys q = filter-append (λ (e : Entry). is_hit q e) xs ys
 
 pub all_wanted : (es : List Entry) → wanted_of (λ _. true) es ≡ es
 all_wanted [] = refl
 all_wanted (e ∷ es) = ap (λ (fs : List Entry). e ∷ fs) (all_wanted es)
 
-pub wanted_append : (w : ℕ → Bool) (xs ys : List Entry) (q : Query) → wanted_of w (hits (xs ++ ys) q) ≡ wanted_of w (hits xs q) ++ wanted_of w (hits ys q)
+pub wanted_append : (w : ℕ → Bool) (xs ys : List Entry) (q : IndexQuery) → wanted_of w (hits (xs ++ ys) q) ≡ wanted_of w (hits xs q) ++ wanted_of w (hits ys q)
 wanted_append w xs ys q = ap (wanted_of w) (hits_append xs ys q) ∙ filter-append (λ (e : Entry). w e.rank.written) (hits xs q) (hits ys q)
 
-pub late_append : (xs ys : List Entry) (q : Query) → any_late (xs ++ ys) q ≡ (any_late xs q || any_late ys q)
+pub late_append : (xs ys : List Entry) (q : IndexQuery) → any_late (xs ++ ys) q ≡ (any_late xs q || any_late ys q)
 late_append [] ys q = refl
 late_append (x ∷ xs) ys q = ap (λ (b : Bool). is_late q x || b) (late_append xs ys q) ∙ or_grouped (is_late q x) (any_late xs q) (any_late ys q)
 
 -- ---- how many a search comes to
 
-pub reached_some : (es : List Entry) (q : Query) → any_lasts es q.from ≡ true → 1 ≤ reached es q
+pub reached_some : (es : List Entry) (q : IndexQuery) → any_lasts es q.from ≡ true → 1 ≤ reached es q
 reached_some [] q h = absurd (false≢true h)
 reached_some (e ∷ es) q h = either (lasts_past e q.from) (begins q.latest e.span.start) h (reached_some es q)
   where
@@ -92,10 +92,10 @@ reached_some (e ∷ es) q h = either (lasts_past e q.from) (begins q.latest e.sp
     either true false h f = omega arith
     either false b h f = f h
 
-pub reached_parts : (xs ys : List Entry) (q : Query) → any_late xs q ≡ false → reached xs q + reached ys q ≤ reached (xs ++ ys) q
+pub reached_parts : (xs ys : List Entry) (q : IndexQuery) → any_late xs q ≡ false → reached xs q + reached ys q ≤ reached (xs ++ ys) q
 reached_parts xs ys q h = rw (late_append xs ys q, h, hits_append xs ys q, length-append (hits xs q) (hits ys q)) (omega arith)
 
-pub reached_left : (xs ys : List Entry) (q : Query) → reached xs q ≤ reached (xs ++ ys) q
+pub reached_left : (xs ys : List Entry) (q : IndexQuery) → reached xs q ≤ reached (xs ++ ys) q
 reached_left xs ys q = rw (late_append xs ys q, hits_append xs ys q, length-append (hits xs q) (hits ys q)) (more (any_late xs q) (any_late ys q))
   where
     more : (x y : Bool) → length (hits xs q) + (if x then 1 else 0) ≤ (length (hits xs q) + length (hits ys q)) + (if x || y then 1 else 0)
@@ -123,7 +123,7 @@ few_paid n c w k h = omega (arith, mul-le-mul_left (2 * n) k)
 
 -- ---- one visit to a list of two parts
 
-module _ (es xs ys : List Entry) (q : Query) (whole : es ≡ xs ++ ys) where
+module _ (es xs ys : List Entry) (q : IndexQuery) (whole : es ≡ xs ++ ys) where
   pub found_left : IsByStart es → any_late xs q ≡ true → hits es q ≡ hits xs q
   found_left o late = rw (whole, hits_append xs ys q, late_rest xs ys q (rw whole at o) late) (append-nil (hits xs q))
 
@@ -133,12 +133,12 @@ module _ (es xs ys : List Entry) (q : Query) (whole : es ≡ xs ++ ys) where
   pub looks_both : (n : ℕ) → 0 < n → any_lasts es q.from ≡ true → any_late xs q ≡ false → 1 + looks (n - 1) xs q + looks (n - 1) ys q ≤ looks n es q
   looks_both n level last early = both_paid n (reached xs q) (reached ys q) (reached es q) level (subst (λ (zs : List Entry). reached xs q + reached ys q ≤ reached zs q) (sym whole) (reached_parts xs ys q early)) (reached_some es q last)
 
-pub looks_few : (n c : ℕ) (es : List Entry) (q : Query) → any_lasts es q.from ≡ true → c ≤ 2 * n → 1 + c ≤ looks n es q
+pub looks_few : (n c : ℕ) (es : List Entry) (q : IndexQuery) → any_lasts es q.from ≡ true → c ≤ 2 * n → 1 + c ≤ looks n es q
 looks_few n c es q last h = few_paid n c (reached es q) (reached_some es q last) h
 
 -- ---- one step over a few
 
-module _ (es : List Entry) (i : ℕ) (x : Entry) (q : Query) (inside : i < length es) (read : x ≡ get_or es i x) where
+module _ (es : List Entry) (i : ℕ) (x : Entry) (q : IndexQuery) (inside : i < length es) (read : x ≡ get_or es i x) where
   here : drop i es ≡ x ∷ drop (i + 1) es
   here = drop_more es i x inside ∙ ap (λ (y : Entry). y ∷ drop (i + 1) es) (sym read)
 

@@ -10,7 +10,7 @@ use crate::by_end::{are_by_end, fits, last_of};
 use crate::order::{comes_before, place_of};
 use crate::reach::Reach;
 use crate::tree::{digits, rebuild, search};
-use crate::wanted::{Asked, Wanted};
+use crate::wanted::{Search, Wanted};
 use adr_model::Entry;
 use adr_rule::Meter;
 use adr_time::Moment;
@@ -22,7 +22,7 @@ const MOST: usize = 64;
 /// Some entries in order, whether that is the order of their ends too, else the tree of these, the greatest end, and when
 /// the last entry starts. Its room is taken at once.
 #[derive(Drop)]
-pub(crate) struct Chunk {
+pub(crate) struct EntryChunk {
     pub(crate) entries: Vec<Entry>,
     pub(crate) is_by_end: bool,
     pub(crate) greatest: Vec<Reach>,
@@ -129,14 +129,14 @@ fn insert_each(entries: &mut Vec<Entry>, run: &[Entry])
     }
 }
 
-impl Chunk {
+impl EntryChunk {
     /// Room for a chunk, and no entries.
-    pub(crate) fn empty(alloc: Global) -> Result<Chunk, AllocError>
+    pub(crate) fn empty(alloc: Global) -> Result<EntryChunk, AllocError>
         ensures { IfOk result IsPooled }
     {
         let entries = Vec::with_capacity(alloc, MOST + 1)?;
         let greatest = Vec::from_elem(alloc, Reach::nothing(), MOST)?;
-        Ok(Chunk {
+        Ok(EntryChunk {
             entries,
             is_by_end: true,
             greatest,
@@ -210,7 +210,7 @@ impl Chunk {
     }
 
     /// Hands its later half on.
-    fn move_half(&mut self, other: &mut Chunk)
+    fn move_half(&mut self, other: &mut EntryChunk)
         requires length { length self.old.entries.items ≡ 65 }
         requires room { IsRoomy self.old }
         requires other { IsPooled other.old }
@@ -227,7 +227,7 @@ impl Chunk {
     }
 
     /// Adds an entry in its place. A chunk that has too many then hands its later half on, into one of the pool.
-    pub(crate) fn put(&mut self, entry: Entry, pool: &mut Vec<Chunk>) -> Option<Chunk>
+    pub(crate) fn put(&mut self, entry: Entry, pool: &mut Vec<EntryChunk>) -> Option<EntryChunk>
         requires chunk { IsChunk self.old }
         requires order { IsOrdered self.old.entries.items }
         requires pool { ArePooled pool.old.items }
@@ -295,30 +295,30 @@ impl Chunk {
     }
 
     /// A chunk of the entries.
-    pub(crate) fn of(alloc: Global, entries: &[Entry]) -> Result<Chunk, AllocError>
+    pub(crate) fn of(alloc: Global, entries: &[Entry]) -> Result<EntryChunk, AllocError>
         requires some { 0 < length entries.now }
         requires few { length entries.now ≤ 64 }
         ensures { IfOk result (λ chunk. IsChunk chunk × (chunk.entries.items ≡ entries.now)) }
     {
-        let mut chunk = Chunk::empty(alloc)?;
+        let mut chunk = EntryChunk::empty(alloc)?;
         let _ = chunk.entries.extend_from_slice(entries);
         chunk.refresh();
         Ok(chunk)
     }
 
     /// A chunk of the same entries.
-    pub(crate) fn copy(&self) -> Result<Chunk, AllocError>
+    pub(crate) fn copy(&self) -> Result<EntryChunk, AllocError>
         requires { IsChunk self.now }
         ensures { IfOk result (λ chunk. IsChunk chunk × (chunk.entries.items ≡ self.now.entries.items)) }
     {
-        Chunk::of(*self.entries.allocator(), &self.entries)
+        EntryChunk::of(*self.entries.allocator(), &self.entries)
     }
 
     /// Searches its entries, as the search of their tree does.
     pub(crate) fn search<W: Wanted>(
         &self,
         depth: u32,
-        asked: &Asked<W>,
+        asked: &Search<W>,
         found: &mut Vec<Entry>,
         meter: &mut Meter,
     ) -> Result<bool, AllocError>

@@ -9,15 +9,15 @@ ghost use Rattle.adr_index.specs.Index.{inserted, inserted_all, is_entry, most_p
 ghost use Rattle.adr_index.specs.Query.{hits, wanted_of};
 ghost use Rattle.adr_index.specs.Tables.{HasTops, HasTopsBut, IsTable};
 
-use crate::chunk::Chunk;
+use crate::chunk::EntryChunk;
 use crate::order::sort;
-use crate::query::{Latest, Query};
+use crate::query::{IndexQuery, Latest};
 use crate::reach::Reach;
 use crate::stretch::Stretch;
-use crate::table::{Table, home};
+use crate::table::{EntryTable, home};
 use crate::tops::{rebuild_chunks, search_chunks};
 use crate::tree::digits;
-use crate::wanted::{Asked, Every, Wanted};
+use crate::wanted::{Every, Search, Wanted};
 use adr_model::Entry;
 use adr_refusal::Refusal;
 use adr_rule::Meter;
@@ -35,7 +35,7 @@ use std::marker::Model;
 /// parted or emptied, all of the tree is written anew, a step for each chunk: n/48 of them where an index of n entries
 /// is filled at once. A chunk that loses entries is not put together with others.
 pub struct Index {
-    table: Table,
+    table: EntryTable,
     tops: Vec<Reach>,
 }
 
@@ -67,7 +67,7 @@ const OFTEN: usize = 32;
 const APART: usize = 32;
 
 /// Writes the tree over the chunks anew.
-fn refresh(chunks: &[Chunk], tops: &mut [Reach])
+fn refresh(chunks: &[EntryChunk], tops: &mut [Reach])
     requires chunks { AreChunks chunks.now }
     requires lengths { length chunks.now ≤ length tops.old + 1 }
     ensures { HasTops chunks.now tops.new }
@@ -77,7 +77,7 @@ fn refresh(chunks: &[Chunk], tops: &mut [Reach])
 }
 
 /// Writes what the tree over the chunks has of the stretch anew.
-fn write(chunks: &[Chunk], tops: &mut [Reach], stretch: Stretch)
+fn write(chunks: &[EntryChunk], tops: &mut [Reach], stretch: Stretch)
     requires chunks { AreChunks chunks.now }
     requires lengths { length chunks.now ≤ length tops.old + 1 }
     requires tops { HasTopsBut stretch.from stretch.to chunks.now tops.old }
@@ -89,7 +89,7 @@ fn write(chunks: &[Chunk], tops: &mut [Reach], stretch: Stretch)
 
 /// Writes the tree over the one chunk of the stretch, where the next one lies far behind it, and answers what is left
 /// to be written.
-fn write_far(chunks: &[Chunk], tops: &mut [Reach], stretch: Stretch, is_far: bool) -> Stretch
+fn write_far(chunks: &[EntryChunk], tops: &mut [Reach], stretch: Stretch, is_far: bool) -> Stretch
     requires chunks { AreChunks chunks.now }
     requires lengths { length chunks.now ≤ length tops.old + 1 }
     requires tops { HasTopsBut stretch.from stretch.to chunks.now tops.old }
@@ -104,7 +104,7 @@ fn write_far(chunks: &[Chunk], tops: &mut [Reach], stretch: Stretch, is_far: boo
 
 /// Whether the entries lie so far apart, if they are in order, that the tree over the chunks is written sooner along
 /// the paths to theirs than from the first of these to the last.
-fn are_far(chunks: &[Chunk], entries: &[Entry]) -> bool
+fn are_far(chunks: &[EntryChunk], entries: &[Entry]) -> bool
     requires chunks { AreChunks chunks.now }
     requires order { IsOrdered (all_listed chunks.now) }
 {
@@ -121,7 +121,7 @@ fn are_far(chunks: &[Chunk], entries: &[Entry]) -> bool
 
 /// Takes out what stands in the places of the old entries, those of one chunk together, and answers of which chunks the
 /// tree is still to be written.
-fn take_all(table: &mut Table, tops: &mut [Reach], old: &[Entry]) -> Stretch
+fn take_all(table: &mut EntryTable, tops: &mut [Reach], old: &[Entry]) -> Stretch
     requires table { IsTable table.old }
     requires lengths { length table.old.chunks.items + length table.old.pool.items ≤ length tops.old }
     requires tops { HasTops table.old.chunks.items tops.old }
@@ -148,7 +148,7 @@ fn take_all(table: &mut Table, tops: &mut [Reach], old: &[Entry]) -> Stretch
 
 /// Adds the entries, those of one chunk together as far as it has room, and answers of which chunks the tree is still
 /// to be written, where it was so of some.
-fn put_all(table: &mut Table, tops: &mut [Reach], new: &[Entry], changed: Stretch) -> Stretch
+fn put_all(table: &mut EntryTable, tops: &mut [Reach], new: &[Entry], changed: Stretch) -> Stretch
     requires table { IsTable table.old }
     requires spare { length new.now ≤ table.old.spare }
     requires fresh { AreNew new.now (all_listed table.old.chunks.items) }
@@ -176,7 +176,7 @@ fn put_all(table: &mut Table, tops: &mut [Reach], new: &[Entry], changed: Stretc
 }
 
 /// Makes room for the ends of that many chunks, and at least twice as much as before, so that it is seldom done.
-fn widen(chunks: &[Chunk], tops: &mut Vec<Reach>, wanted: usize) -> Result<(), AllocError>
+fn widen(chunks: &[EntryChunk], tops: &mut Vec<Reach>, wanted: usize) -> Result<(), AllocError>
     requires chunks { AreChunks chunks.now }
     requires lengths { length chunks.now ≤ length tops.old.items }
     requires tops { HasTops chunks.now tops.old.items }
@@ -199,7 +199,7 @@ impl Index {
         ensures { result.entries ≡ [] }
     {
         Index {
-            table: Table::new(alloc),
+            table: EntryTable::new(alloc),
             tops: Vec::new(alloc),
         }
     }
@@ -209,7 +209,7 @@ impl Index {
         requires { IsOrdered entries.now }
         ensures { IfOk result (λ index. index.entries ≡ entries.now) }
     {
-        let table = Table::of(alloc, entries)?;
+        let table = EntryTable::of(alloc, entries)?;
         let mut tops = Vec::from_elem(alloc, Reach::nothing(), table.chunks.len())?;
         refresh(&table.chunks, &mut tops);
         Ok(Index { table, tops })
@@ -355,7 +355,7 @@ impl Index {
     /// The entries that are asked for, with a tick for each look.
     fn find_counted<W: Wanted>(
         &self,
-        asked: &Asked<W>,
+        asked: &Search<W>,
         meter: &mut Meter,
     ) -> Result<Vec<Entry>, AllocError>
         ensures found { IfOk result (λ found. found.items ≡ wanted_of (W.is_wanted asked.now.wanted.now) (hits self.now.entries asked.now.query)) }
@@ -376,11 +376,11 @@ impl Index {
     }
 
     /// The entries that are asked for, whatever write they are of, with a tick for each look.
-    fn find_all(&self, query: Query, meter: &mut Meter) -> Result<Vec<Entry>, AllocError>
+    fn find_all(&self, query: IndexQuery, meter: &mut Meter) -> Result<Vec<Entry>, AllocError>
         ensures found { IfOk result (λ found. found.items ≡ hits self.now.entries query) }
         ensures probes { meter.new ≤ meter.old + most_probes self.now.entries (length (hits self.now.entries query)) }
     {
-        let asked = Asked {
+        let asked = Search {
             query,
             wanted: &Every,
         };
@@ -428,7 +428,7 @@ impl Index {
         }
         let mut meter = Meter::new();
         let query = query_of(&window);
-        let found = self.find_counted(&Asked { query, wanted }, &mut meter)?;
+        let found = self.find_counted(&Search { query, wanted }, &mut meter)?;
         Ok(found)
     }
 
@@ -471,20 +471,20 @@ impl Index {
 }
 
 /// What covers the moment.
-fn query_at(at: Moment) -> Query
+fn query_at(at: Moment) -> IndexQuery
     ensures { result ≡ record { from = at; latest = Latest.By at } }
 {
-    Query {
+    IndexQuery {
         from: at,
         latest: Latest::By(at),
     }
 }
 
 /// What meets a window that covers some moment.
-fn query_of(window: &Span) -> Query
+fn query_of(window: &Span) -> IndexQuery
     ensures { result ≡ record { from = window.now.start; latest = Latest.Before window.now.end } }
 {
-    Query {
+    IndexQuery {
         from: window.start,
         latest: Latest::Before(window.end),
     }

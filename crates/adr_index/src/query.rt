@@ -16,13 +16,13 @@ pub(crate) enum Latest {
 
 /// Entries that cover some moment, end after `from`, and start in time.
 #[derive(Clone, Copy)]
-pub(crate) struct Query {
+pub(crate) struct IndexQuery {
     pub(crate) from: Moment,
     pub(crate) latest: Latest,
 }
 
 /// Whether the entry starts in time.
-fn starts_in_time(entry: &Entry, query: &Query) -> bool
+fn starts_in_time(entry: &Entry, query: &IndexQuery) -> bool
     ensures { result ≡ begins query.now.latest entry.now.span.start }
 {
     match &query.latest {
@@ -32,21 +32,21 @@ fn starts_in_time(entry: &Entry, query: &Query) -> bool
 }
 
 /// Whether the entry covers some moment, and ends after what is asked for begins.
-fn lasts_past(entry: &Entry, query: &Query) -> bool
+fn lasts_past(entry: &Entry, query: &IndexQuery) -> bool
     ensures { result ≡ is_past_end entry.now query.now.from }
 {
     entry.span.lasts() && query.from.is_before(entry.span.end)
 }
 
 /// Whether the entry is asked for.
-pub(crate) fn is_hit(entry: &Entry, query: &Query) -> bool
+pub(crate) fn is_hit(entry: &Entry, query: &IndexQuery) -> bool
     ensures { result ≡ is_a_hit query.now entry.now }
 {
     lasts_past(entry, query) && starts_in_time(entry, query)
 }
 
 /// Whether the entry lasts and starts too late.
-pub(crate) fn is_late(entry: &Entry, query: &Query) -> bool
+pub(crate) fn is_late(entry: &Entry, query: &IndexQuery) -> bool
     ensures { result ≡ is_too_late query.now entry.now }
 {
     lasts_past(entry, query) && !starts_in_time(entry, query)

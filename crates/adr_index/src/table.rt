@@ -3,17 +3,17 @@ ghost use Rattle.std.specs.Prelude.{◌≡◌, ◌⊎◌, ◌+◌, ◌-◌, ◌*
 ghost use Rattle.std.specs.List.{AllByRecursion, list_any};
 ghost use Rattle.adr_model.specs.Entries.{is_listed_before};
 ghost use Rattle.adr_index.specs.Chunks.{all_listed, AreChunks, ArePooled, EndsBefore, GoTogether, IsChunk, IsPooled};
-ghost use Rattle.adr_index.specs.declared.chunk.Chunk.{Chunk as AnyChunk};
+ghost use Rattle.adr_index.specs.declared.chunk.EntryChunk.{EntryChunk as AnyChunk};
 ghost use Rattle.adr_index.specs.Tables.{IsChangedAt, IsFound, IsSure, IsTable, Spends};
 ghost use Rattle.adr_index.specs.Index.{inserted, inserted_all, is_entry, others_all, without, AreNew, IsOrdered};
 
-use crate::chunk::Chunk;
+use crate::chunk::EntryChunk;
 use crate::order::{comes_before, is_entry};
 use adr_model::Entry;
 use std::alloc::{AllocError, Global};
 
 /// The place behind `near`, where the chunk at `near` ends before the entry and is not the last, else the first place.
-fn begin(chunks: &[Chunk], near: usize, entry: &Entry) -> usize
+fn begin(chunks: &[EntryChunk], near: usize, entry: &Entry) -> usize
     requires some { 0 < length chunks.now }
     requires chunks { AreChunks chunks.now }
     requires order { IsOrdered (all_listed chunks.now) }
@@ -33,7 +33,7 @@ const NEXT: usize = 16;
 
 /// The last place that needs to be looked at from `low` on: that itself, where its chunk does not end before the entry,
 /// or that of a chunk not far behind it.
-fn end(chunks: &[Chunk], low: usize, entry: &Entry) -> usize
+fn end(chunks: &[EntryChunk], low: usize, entry: &Entry) -> usize
     requires low { low < length chunks.now }
     requires chunks { AreChunks chunks.now }
     requires order { IsOrdered (all_listed chunks.now) }
@@ -52,7 +52,7 @@ fn end(chunks: &[Chunk], low: usize, entry: &Entry) -> usize
 
 /// The place of the chunk to which the entry belongs. The chunk behind that at `near` is tried first, which is mostly
 /// that of the next entry of an event.
-pub(crate) fn home(chunks: &[Chunk], near: usize, entry: &Entry) -> usize
+pub(crate) fn home(chunks: &[EntryChunk], near: usize, entry: &Entry) -> usize
     requires some { 0 < length chunks.now }
     requires chunks { AreChunks chunks.now }
     requires order { IsOrdered (all_listed chunks.now) }
@@ -74,7 +74,7 @@ pub(crate) fn home(chunks: &[Chunk], near: usize, entry: &Entry) -> usize
 }
 
 /// Whether the chunk's last entry comes before the entry.
-fn ends_before(chunk: &Chunk, entry: &Entry) -> bool
+fn ends_before(chunk: &EntryChunk, entry: &Entry) -> bool
     requires { IsChunk chunk.now }
     ensures { EndsBefore chunk.now entry.now result }
 {
@@ -85,7 +85,7 @@ fn ends_before(chunk: &Chunk, entry: &Entry) -> bool
 }
 
 /// Adds an entry to the first chunk.
-pub(crate) fn put_first(chunks: &mut Vec<Chunk>, pool: &mut Vec<Chunk>, entry: Entry)
+pub(crate) fn put_first(chunks: &mut Vec<EntryChunk>, pool: &mut Vec<EntryChunk>, entry: Entry)
     requires none { chunks.old.items ≡ [] }
     requires pool { ArePooled pool.old.items }
     requires some { 0 < length pool.old.items }
@@ -107,8 +107,8 @@ pub(crate) fn put_first(chunks: &mut Vec<Chunk>, pool: &mut Vec<Chunk>, entry: E
 /// Adds an entry to one of the chunks. It takes a chunk of the pool at most. Answers the place of that chunk, where no
 /// other was changed.
 pub(crate) fn put_among(
-    chunks: &mut Vec<Chunk>,
-    pool: &mut Vec<Chunk>,
+    chunks: &mut Vec<EntryChunk>,
+    pool: &mut Vec<EntryChunk>,
     entry: Entry,
 ) -> Option<usize>
     requires some { 0 < length chunks.old.items }
@@ -135,7 +135,7 @@ pub(crate) fn put_among(
 }
 
 /// Keeps the empty chunk for later.
-fn lay_by(pool: &mut Vec<Chunk>, chunk: Chunk)
+fn lay_by(pool: &mut Vec<EntryChunk>, chunk: EntryChunk)
     requires pool { ArePooled pool.old.items }
     requires chunk { IsPooled chunk }
     requires room { vec_len pool.old < vec_capacity pool.old }
@@ -155,7 +155,7 @@ pub(crate) struct Run {
 }
 
 /// How many of the entries, from the first on, are in order and belong to the chunk of the first.
-fn run_into(chunk: &Chunk, entries: &[Entry]) -> usize
+fn run_into(chunk: &EntryChunk, entries: &[Entry]) -> usize
     requires chunk { IsChunk chunk.now }
     requires some { 0 < length entries.now }
     ensures some { 0 < result }
@@ -176,8 +176,8 @@ fn run_into(chunk: &Chunk, entries: &[Entry]) -> usize
 /// answers how many entries of the chunk that were. A chunk that it leaves empty goes to the pool. The chunk is
 /// searched for behind that at `near` first.
 pub(crate) fn take_among(
-    chunks: &mut Vec<Chunk>,
-    pool: &mut Vec<Chunk>,
+    chunks: &mut Vec<EntryChunk>,
+    pool: &mut Vec<EntryChunk>,
     near: usize,
     entries: &[Entry],
 ) -> (usize, Run)
@@ -216,7 +216,11 @@ pub(crate) fn take_among(
 
 /// Adds the first entry and those behind it to the chunk to which they belong, as far as it has room, and answers how
 /// many, and its place; None where it has no room, and nothing is changed.
-fn put_behind(chunks: &mut Vec<Chunk>, near: usize, entries: &[Entry]) -> Option<(usize, usize)>
+fn put_behind(
+    chunks: &mut Vec<EntryChunk>,
+    near: usize,
+    entries: &[Entry],
+) -> Option<(usize, usize)>
     requires any { 0 < length entries.now }
     requires chunks { AreChunks chunks.old.items }
     requires order { IsOrdered (all_listed chunks.old.items) }
@@ -244,7 +248,7 @@ fn put_behind(chunks: &mut Vec<Chunk>, near: usize, entries: &[Entry]) -> Option
 }
 
 /// Adds an entry. It takes a chunk of the pool at most. Answers the place of its chunk, where no other was changed.
-fn put_any(chunks: &mut Vec<Chunk>, pool: &mut Vec<Chunk>, entry: Entry) -> Option<usize>
+fn put_any(chunks: &mut Vec<EntryChunk>, pool: &mut Vec<EntryChunk>, entry: Entry) -> Option<usize>
     requires chunks { AreChunks chunks.old.items }
     requires order { IsOrdered (all_listed chunks.old.items) }
     requires pool { ArePooled pool.old.items }
@@ -270,21 +274,21 @@ fn put_any(chunks: &mut Vec<Chunk>, pool: &mut Vec<Chunk>, entry: Entry) -> Opti
 /// A chunk parts once it has more than 64 entries, into halves of 32 and 33: so few empty chunks make sure of many
 /// entries. Either list has room for the chunks of both.
 #[derive(Drop)]
-pub(crate) struct Table {
-    pub(crate) chunks: Vec<Chunk>,
-    pub(crate) pool: Vec<Chunk>,
+pub(crate) struct EntryTable {
+    pub(crate) chunks: Vec<EntryChunk>,
+    pub(crate) pool: Vec<EntryChunk>,
     pub(crate) count: usize,
     pub(crate) spare: usize,
 }
 
-impl Table {
+impl EntryTable {
     /// No chunks.
-    pub(crate) fn new(alloc: Global) -> Table
+    pub(crate) fn new(alloc: Global) -> EntryTable
         ensures table { IsTable result }
         ensures chunks { result.chunks.items ≡ [] }
         ensures pool { result.pool.items ≡ [] }
     {
-        Table {
+        EntryTable {
             chunks: Vec::new(alloc),
             pool: Vec::new(alloc),
             count: 0,
@@ -293,7 +297,7 @@ impl Table {
     }
 
     /// A table of the entries.
-    pub(crate) fn of(alloc: Global, entries: &[Entry]) -> Result<Table, AllocError>
+    pub(crate) fn of(alloc: Global, entries: &[Entry]) -> Result<EntryTable, AllocError>
         requires { IsOrdered entries.now }
         ensures table { IfOk result IsTable }
         ensures entries { IfOk result (λ table. all_listed table.chunks.items ≡ entries.now) }
@@ -301,7 +305,7 @@ impl Table {
     {
         let chunks = cut(alloc, entries)?;
         let pool = Vec::with_capacity(alloc, chunks.len())?;
-        Ok(Table {
+        Ok(EntryTable {
             chunks,
             pool,
             count: entries.len(),
@@ -430,7 +434,7 @@ impl Table {
     }
 
     /// A table of the same entries.
-    pub(crate) fn copy(&self) -> Result<Table, AllocError>
+    pub(crate) fn copy(&self) -> Result<EntryTable, AllocError>
         requires { IsTable self.now }
         ensures table { IfOk result IsTable }
         ensures entries { IfOk result (λ table. all_listed table.chunks.items ≡ all_listed self.now.chunks.items) }
@@ -440,7 +444,7 @@ impl Table {
         let alloc = *self.chunks.allocator();
         let chunks = copy_chunks(alloc, &self.chunks)?;
         let pool = Vec::with_capacity(alloc, chunks.len())?;
-        Ok(Table {
+        Ok(EntryTable {
             chunks,
             pool,
             count: self.count,
@@ -458,7 +462,7 @@ fn chunks_for(more: usize, chunks: usize) -> usize
 }
 
 /// Fills the pool up to that many chunks.
-fn fill(pool: &mut Vec<Chunk>, alloc: Global, wanted: usize) -> Result<(), AllocError>
+fn fill(pool: &mut Vec<EntryChunk>, alloc: Global, wanted: usize) -> Result<(), AllocError>
     requires pool { ArePooled pool.old.items }
     requires most { length pool.old.items ≤ wanted }
     ensures pool { ArePooled pool.new.items }
@@ -468,14 +472,14 @@ fn fill(pool: &mut Vec<Chunk>, alloc: Global, wanted: usize) -> Result<(), Alloc
     ensures room { vec_capacity pool.old ≤ vec_capacity pool.new }
 {
     while pool.len() < wanted {
-        let chunk = Chunk::empty(alloc)?;
+        let chunk = EntryChunk::empty(alloc)?;
         pool.push(chunk)?;
     }
     Ok(())
 }
 
 /// Chunks of the same entries.
-fn copy_chunks(alloc: Global, chunks: &[Chunk]) -> Result<Vec<Chunk>, AllocError>
+fn copy_chunks(alloc: Global, chunks: &[EntryChunk]) -> Result<Vec<EntryChunk>, AllocError>
     requires { AreChunks chunks.now }
     ensures chunks { IfOk result (λ copy. AreChunks copy.items) }
     ensures entries { IfOk result (λ copy. all_listed copy.items ≡ all_listed chunks.now) }
@@ -493,7 +497,7 @@ fn copy_chunks(alloc: Global, chunks: &[Chunk]) -> Result<Vec<Chunk>, AllocError
 const FILLED: usize = 48;
 
 /// Chunks of the entries, each of as many but for the last.
-fn cut(alloc: Global, entries: &[Entry]) -> Result<Vec<Chunk>, AllocError>
+fn cut(alloc: Global, entries: &[Entry]) -> Result<Vec<EntryChunk>, AllocError>
     ensures chunks { IfOk result (λ chunks. AreChunks chunks.items) }
     ensures entries { IfOk result (λ chunks. all_listed chunks.items ≡ entries.now) }
 {
@@ -501,7 +505,7 @@ fn cut(alloc: Global, entries: &[Entry]) -> Result<Vec<Chunk>, AllocError>
     let mut left = entries;
     while !left.is_empty() {
         let (part, rest) = left.split_at(left.len().min(FILLED));
-        let chunk = Chunk::of(alloc, part)?;
+        let chunk = EntryChunk::of(alloc, part)?;
         chunks.push(chunk)?;
         left = rest;
     }
@@ -509,7 +513,7 @@ fn cut(alloc: Global, entries: &[Entry]) -> Result<Vec<Chunk>, AllocError>
 }
 
 /// An entry of that written number and place.
-fn find(chunks: &[Chunk], written: u64, place: u32) -> Option<Entry>
+fn find(chunks: &[EntryChunk], written: u64, place: u32) -> Option<Entry>
     ensures some { IfSome result (λ entry. IsFound written place entry (all_listed chunks.now)) }
     ensures none { IfNone result (list_any (is_entry written place) (all_listed chunks.now) ≡ false) }
 {

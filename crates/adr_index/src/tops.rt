@@ -6,10 +6,10 @@ ghost use Rattle.adr_index.specs.Query.{any_late, hits, looks, reached, wanted_o
 ghost use Rattle.adr_index.specs.Tables.{HasTops};
 ghost use Rattle.adr_index.specs.Tree.{any_lasts, IsByStart, IsGreatest, IsTree, IsTreeBut};
 
-use crate::chunk::Chunk;
-use crate::query::Query;
+use crate::chunk::EntryChunk;
+use crate::query::IndexQuery;
 use crate::reach::Reach;
-use crate::wanted::{Asked, Wanted};
+use crate::wanted::{Search, Wanted};
 use adr_model::Entry;
 use adr_rule::Meter;
 use std::alloc::AllocError;
@@ -20,8 +20,8 @@ const FEW: usize = 6;
 /// Searches the few chunks, up to an entry that lasts and starts too late, and answers whether it came to such a one.
 fn scan_chunks<W: Wanted>(
     depth: u32,
-    chunks: &[Chunk],
-    asked: &Asked<W>,
+    chunks: &[EntryChunk],
+    asked: &Search<W>,
     found: &mut Vec<Entry>,
     meter: &mut Meter,
 ) -> Result<bool, AllocError>
@@ -41,7 +41,7 @@ fn scan_chunks<W: Wanted>(
 }
 
 /// Whether an entry of the chunks ends after what is asked for begins, as their tree has it.
-fn any_chunk_reaches(chunks: &[Chunk], tops: &[Reach], query: &Query) -> bool
+fn any_chunk_reaches(chunks: &[EntryChunk], tops: &[Reach], query: &IndexQuery) -> bool
     requires some { 1 < length chunks.now }
     requires lengths { length chunks.now ≤ length tops.now + 1 }
     requires tops { HasTops chunks.now tops.now }
@@ -55,9 +55,9 @@ fn any_chunk_reaches(chunks: &[Chunk], tops: &[Reach], query: &Query) -> bool
 pub(crate) fn search_chunks<W: Wanted>(
     levels: u32,
     depth: u32,
-    chunks: &[Chunk],
+    chunks: &[EntryChunk],
     tops: &[Reach],
-    asked: &Asked<W>,
+    asked: &Search<W>,
     found: &mut Vec<Entry>,
     meter: &mut Meter,
 ) -> Result<bool, AllocError>
@@ -93,7 +93,7 @@ pub(crate) fn search_chunks<W: Wanted>(
 }
 
 /// The greatest end of the few chunks.
-fn greatest_of_chunks(chunks: &[Chunk]) -> Reach
+fn greatest_of_chunks(chunks: &[EntryChunk]) -> Reach
     requires { AreChunks chunks.now }
     ensures { IsGreatest result (all_listed chunks.now) }
 {
@@ -105,7 +105,7 @@ fn greatest_of_chunks(chunks: &[Chunk]) -> Reach
 }
 
 /// The greatest end of the chunks, as their tree has it.
-fn top_of(chunks: &[Chunk], tops: &[Reach]) -> Reach
+fn top_of(chunks: &[EntryChunk], tops: &[Reach]) -> Reach
     requires chunks { AreChunks chunks.now }
     requires lengths { length chunks.now ≤ length tops.now + 1 }
     requires tops { HasTops chunks.now tops.now }
@@ -124,7 +124,7 @@ pub(crate) fn rebuild_chunks(
     levels: u32,
     from: usize,
     to: usize,
-    chunks: &[Chunk],
+    chunks: &[EntryChunk],
     tops: &mut [Reach],
 ) -> Reach
     requires chunks { AreChunks chunks.now }

@@ -6,9 +6,9 @@ ghost use Rattle.adr_index.specs.Query.{any_late, hits, if_hit, looks, wanted_of
 ghost use Rattle.adr_index.specs.Tree.{any_lasts, only, AreSearched, HasEnds, IsByStart, IsGreatest, IsTree};
 
 use crate::by_end::last_of;
-use crate::query::{Query, is_hit, is_late};
+use crate::query::{IndexQuery, is_hit, is_late};
 use crate::reach::Reach;
-use crate::wanted::{Asked, Wanted};
+use crate::wanted::{Search, Wanted};
 use adr_model::Entry;
 use adr_rule::Meter;
 use adr_time::{End, Span};
@@ -29,7 +29,7 @@ pub(crate) fn digits(number: usize) -> u32
 /// Adds the entry, where it is asked for.
 fn keep_hit<W: Wanted>(
     entry: &Entry,
-    asked: &Asked<W>,
+    asked: &Search<W>,
     found: &mut Vec<Entry>,
 ) -> Result<(), AllocError>
     ensures { OnOk result (found.new.items ≡ found.old.items ++ wanted_of (W.is_wanted asked.now.wanted.now) (if_hit entry.now asked.now.query)) }
@@ -53,7 +53,7 @@ fn keep_hit<W: Wanted>(
 /// came to such a one. Each look at an entry is a tick.
 fn scan<W: Wanted>(
     entries: &[Entry],
-    asked: &Asked<W>,
+    asked: &Search<W>,
     found: &mut Vec<Entry>,
     meter: &mut Meter,
 ) -> Result<bool, AllocError>
@@ -73,7 +73,7 @@ fn scan<W: Wanted>(
 }
 
 /// Whether an entry ends after what is asked for begins, as the last one does or as their tree has it.
-fn any_reaches(is_by_end: bool, entries: &[Entry], greatest: &[Reach], query: &Query) -> bool
+fn any_reaches(is_by_end: bool, entries: &[Entry], greatest: &[Reach], query: &IndexQuery) -> bool
     requires some { 1 < length entries.now }
     requires lengths { length entries.now ≤ length greatest.now + 1 }
     requires ends { HasEnds is_by_end entries.now greatest.now }
@@ -93,7 +93,7 @@ pub(crate) fn search<W: Wanted>(
     is_by_end: bool,
     entries: &[Entry],
     greatest: &[Reach],
-    asked: &Asked<W>,
+    asked: &Search<W>,
     found: &mut Vec<Entry>,
     meter: &mut Meter,
 ) -> Result<bool, AllocError>

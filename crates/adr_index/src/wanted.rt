@@ -1,7 +1,7 @@
 //! Of which writes a search keeps the entries.
 ghost use Rattle.std.specs.Prelude.{◌≡◌};
 
-use crate::query::Query;
+use crate::query::IndexQuery;
 
 /// Writes of which a search keeps the entries.
 pub trait Wanted {
@@ -30,7 +30,7 @@ impl Wanted for Every {
 
 /// What entries are asked for, and of which writes.
 #[derive(Clone, Copy)]
-pub(crate) struct Asked<'a, W: Wanted> {
-    pub(crate) query: Query,
+pub(crate) struct Search<'a, W: Wanted> {
+    pub(crate) query: IndexQuery,
     pub(crate) wanted: &'a W,
 }

@@ -18,16 +18,16 @@ use std::mem;
 
 /// Rows of keys, each at its place, with an index from each key to the places that have it. Contracts see the list of
 /// the rows.
-pub struct Index {
+pub struct KeyIndex {
     rows: Vec<Row>,
     sets: Sets,
     alloc: Global,
 }
 
 // A function of its own, so that callers that let a value go need not look into it.
-impl Drop for Index {
+impl Drop for KeyIndex {
     fn drop(self) {
-        let Index {
+        let KeyIndex {
             rows,
             sets,
             alloc: _,
@@ -37,7 +37,7 @@ impl Drop for Index {
     }
 }
 
-impl Model for Index {
+impl Model for KeyIndex {
     ghost use Rattle.std.specs.Prelude.{List};
     ghost use Rattle.adr_keys.specs.Sets.{IsIndexOf};
     ghost use Rattle.adr_keys.specs.declared.key.Key.{Key};
@@ -49,12 +49,12 @@ impl Model for Index {
     ghost invariant = { λ i. IsIndexOf i.sets.places i.rows.items };
 }
 
-impl Index {
+impl KeyIndex {
     /// No rows.
-    pub fn new(alloc: Global) -> Index
+    pub fn new(alloc: Global) -> KeyIndex
         ensures { result ≡ [] }
     {
-        Index {
+        KeyIndex {
             rows: Vec::new(alloc),
             sets: Sets::new(alloc),
             alloc,

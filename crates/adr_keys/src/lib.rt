@@ -9,7 +9,7 @@ mod row;
 mod sets;
 mod word;
 
-pub use index::Index;
+pub use index::KeyIndex;
 pub use key::Key;
 pub use places::Places;
 pub use row::Row;

@@ -8,7 +8,7 @@ ghost use Rattle.adr_refusal.specs.Copy.{IsCopyOf};
 ghost use Rattle.adr_shared.specs.Lead.{lead_of_text};
 ghost use Rattle.adr_object.specs.Id.{is_id_byte, is_id, id_named};
 
-use adr_shared::{Key, Sought, text_lead, text_lead_laws};
+use adr_shared::{MapKey, Sought, text_lead, text_lead_laws};
 use adr_value::{Refusal, Text, TryClone};
 use std::alloc::Global;
 use std::cmp::Ordering;
@@ -138,7 +138,7 @@ impl TryClone for Id {
     }
 }
 
-impl Key for Id {
+impl MapKey for Id {
     ghost code = { λ id. id };
 
     ghost lead_of = { lead_of_text };

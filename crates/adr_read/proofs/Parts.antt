@@ -8,7 +8,7 @@ use Rattle.adr_refusal.proofs.Judged.{number_of_le}
 use Rattle.adr_refusal.specs.Faults.{least, none, IsRefusedFor}
 use Rattle.adr_refusal.specs.declared.refusal.Refusal.{Refusal}
 use Rattle.adr_refusal.specs.declared.refusal.Refusal.TheVariants.{NoMemory, NotObject}
-use Rattle.adr_read.specs.declared.element.Context.{Context}
+use Rattle.adr_read.specs.declared.from_value.Context.{Context}
 use Rattle.adr_read.specs.Body.{object_or}
 use Rattle.adr_read.specs.Looking.{text_of}
 use Rattle.adr_read.specs.Sets.{of_kind, optional, unless}

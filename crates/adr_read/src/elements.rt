@@ -9,7 +9,7 @@ ghost use Rattle.adr_read.specs.Listed.{AreOf};
 ghost use Rattle.adr_read.specs.Sets.{list_faults, list_in};
 ghost use Rattle.adr_read.specs.Tokens.{token_of, IsSound};
 
-use crate::element::{Context, Read};
+use crate::from_value::{Context, Read};
 use crate::tokens::{Token, Tokens};
 use adr_time::Moment;
 use adr_value::{BoundedVec, Faults, Refusal};

@@ -2,20 +2,20 @@
 #![tactic(auto)]
 
 mod body;
-mod element;
+mod body_reader;
 mod elements;
 mod event;
+mod from_value;
 mod lists;
 mod members;
 mod name;
 mod object;
 mod period;
 mod read;
-mod reader;
 mod skip;
 mod text;
 mod tokens;
 mod values;
 
+pub use body_reader::BodyReader;
 pub use read::{limit_laws, read_event, read_program, read_resource, read_ven};
-pub use reader::BodyReader;

@@ -8,8 +8,8 @@ ghost use Rattle.adr_read.specs.Sets.{of_object, required, list_faults, list_in}
 ghost use Rattle.adr_read.specs.Tokens.{token_of, IsSound};
 ghost use Rattle.adr_read.specs.Values.{datum_faults, type_in, map_faults, values_in, target_in, payload_faults, payload_in};
 
-use crate::element::{Context, Read, Reading};
 use crate::elements::{Elements, next_context, next_element};
+use crate::from_value::{Context, Read, ReadResult};
 use crate::members::{Member, read_members};
 use crate::name::MemberName;
 use crate::skip::skip;
@@ -31,7 +31,7 @@ impl<T: Read, const LIMIT: usize> Read for BoundedVec<T, LIMIT> {
         depth: usize,
         reader: &mut Tokens<'_>,
         token: Token<'_>,
-    ) -> Reading<BoundedVec<T, LIMIT>> {
+    ) -> ReadResult<BoundedVec<T, LIMIT>> {
         let Token::BeginArray = token else {
             skip(alloc, depth, reader, token)?;
             return Ok(Err(Refusal::WrongType));
@@ -57,7 +57,7 @@ fn typed_values<K: Read>(
     depth: usize,
     reader: &mut Tokens<'_>,
     token: Token<'_>,
-) -> Reading<(K, Values)>
+) -> ReadResult<(K, Values)>
     requires sound { IsSound token }
     ensures { Tells (coming depth (token_of token.entry ∷ reader.old)) reader.new (λ d r. Gives r
         (of_object d (required K.faults (member_at (codes "type") d)
@@ -83,7 +83,7 @@ impl Read for Target {
         depth: usize,
         reader: &mut Tokens<'_>,
         token: Token<'_>,
-    ) -> Reading<Target> {
+    ) -> ReadResult<Target> {
         match typed_values::<Name>(alloc, context, depth, reader, token)? {
             Ok((kind, values)) => Ok(Ok(Target { kind, values })),
             Err(refusal) => Ok(Err(refusal)),
@@ -112,7 +112,7 @@ impl Read for Payload {
         depth: usize,
         reader: &mut Tokens<'_>,
         token: Token<'_>,
-    ) -> Reading<Payload> {
+    ) -> ReadResult<Payload> {
         Ok(payload_of(typed_values::<PayloadType>(alloc, context, depth, reader, token)?))
     }
 }

@@ -12,9 +12,9 @@ ghost use Rattle.adr_read.specs.Sets.{required, optional};
 ghost use Rattle.adr_read.specs.Names.{member_text};
 ghost use Rattle.adr_read.specs.Tokens.{token_of, IsSound};
 ghost use Rattle.adr_read.specs.Members.{Holds, is_among, are_apart};
-ghost use Rattle.adr_read.specs.declared.element.Context.{Context};
+ghost use Rattle.adr_read.specs.declared.from_value.Context.{Context};
 
-use crate::element::{Context, Read};
+use crate::from_value::{Context, Read};
 use crate::name::MemberName;
 use crate::skip::skip;
 use crate::tokens::{Token, Tokens};

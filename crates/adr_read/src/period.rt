@@ -8,7 +8,7 @@ ghost use Rattle.adr_read.specs.Sets.{required, optional, list_faults, list_in};
 ghost use Rattle.adr_read.specs.Values.{interval_id_faults, interval_id_in, payload_faults, payload_in};
 ghost use Rattle.adr_read.specs.Periods.{start_faults, start_in, length_faults, length_in, period_faults, period_in, interval_faults, interval_in};
 
-use crate::element::{Context, Read, Reading};
+use crate::from_value::{Context, Read, ReadResult};
 use crate::members::{Member, read_members};
 use crate::name::MemberName;
 use crate::text::text_of;
@@ -32,7 +32,7 @@ impl Read for Moment {
         depth: usize,
         reader: &mut Tokens<'_>,
         token: Token<'_>,
-    ) -> Reading<Moment> {
+    ) -> ReadResult<Moment> {
         match text_of(alloc, depth, reader, token)? {
             Some(text) => Ok(read_start(text, context.moment)),
             None => Ok(Err(Refusal::WrongType)),
@@ -52,7 +52,7 @@ impl Read for Length {
         depth: usize,
         reader: &mut Tokens<'_>,
         token: Token<'_>,
-    ) -> Reading<Length> {
+    ) -> ReadResult<Length> {
         match text_of(alloc, depth, reader, token)? {
             Some(text) => Ok(read_length(text)),
             None => Ok(Err(Refusal::WrongType)),
@@ -93,7 +93,7 @@ impl Read for Period {
         depth: usize,
         reader: &mut Tokens<'_>,
         token: Token<'_>,
-    ) -> Reading<Period> {
+    ) -> ReadResult<Period> {
         let start = Member::named(MemberName::Start);
         let duration = Member::named(MemberName::Duration);
         let randomize = Member::named(MemberName::RandomizeStart);
@@ -158,7 +158,7 @@ impl Read for Interval {
         depth: usize,
         reader: &mut Tokens<'_>,
         token: Token<'_>,
-    ) -> Reading<Interval> {
+    ) -> ReadResult<Interval> {
         let id = Member::named(MemberName::Id);
         let period = Member::named(MemberName::IntervalPeriod);
         let payloads = Member::named(MemberName::Payloads);

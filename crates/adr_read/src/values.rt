@@ -8,7 +8,7 @@ ghost use Rattle.adr_read.specs.Members.{Holds};
 ghost use Rattle.adr_read.specs.Sets.{required};
 ghost use Rattle.adr_read.specs.Values.{text_faults, name_faults, id_faults, text_in, type_in, number_faults, number_in, is_priority, priority_faults, priority_in, is_interval_id, interval_id_faults, interval_id_in, datum_faults, datum_in};
 
-use crate::element::{Context, Read, Reading};
+use crate::from_value::{Context, Read, ReadResult};
 use crate::members::{Member, read_members};
 use crate::name::MemberName;
 use crate::skip::decimal;
@@ -29,7 +29,7 @@ impl Read for Text {
         depth: usize,
         reader: &mut Tokens<'_>,
         token: Token<'_>,
-    ) -> Reading<Text> {
+    ) -> ReadResult<Text> {
         match text_of(alloc, depth, reader, token)? {
             Some(text) => Ok(Text::new(alloc, text)),
             None => Ok(Err(Refusal::WrongType)),
@@ -48,7 +48,7 @@ impl Read for Name {
         depth: usize,
         reader: &mut Tokens<'_>,
         token: Token<'_>,
-    ) -> Reading<Name> {
+    ) -> ReadResult<Name> {
         match text_of(alloc, depth, reader, token)? {
             Some(text) if Name::fits(text) => Ok(Name::new(alloc, text)),
             Some(_) => Ok(Err(Refusal::BadText)),
@@ -68,7 +68,7 @@ impl Read for Id {
         depth: usize,
         reader: &mut Tokens<'_>,
         token: Token<'_>,
-    ) -> Reading<Id> {
+    ) -> ReadResult<Id> {
         match text_of(alloc, depth, reader, token)? {
             Some(text) if Id::fits(text) => Ok(Id::new(alloc, text)),
             Some(_) => Ok(Err(Refusal::BadText)),
@@ -88,7 +88,7 @@ impl Read for PayloadType {
         depth: usize,
         reader: &mut Tokens<'_>,
         token: Token<'_>,
-    ) -> Reading<PayloadType> {
+    ) -> ReadResult<PayloadType> {
         match text_of(alloc, depth, reader, token)? {
             Some(text) => Ok(PayloadType::type_of(alloc, text)),
             None => Ok(Err(Refusal::WrongType)),
@@ -107,7 +107,7 @@ impl Read for Decimal {
         depth: usize,
         reader: &mut Tokens<'_>,
         token: Token<'_>,
-    ) -> Reading<Decimal> {
+    ) -> ReadResult<Decimal> {
         match decimal_of(alloc, depth, reader, token)? {
             Some(number) => Ok(Ok(number)),
             None => Ok(Err(Refusal::WrongType)),
@@ -138,7 +138,7 @@ impl Read for u32 {
         depth: usize,
         reader: &mut Tokens<'_>,
         token: Token<'_>,
-    ) -> Reading<u32> {
+    ) -> ReadResult<u32> {
         let Some(number) = decimal_of(alloc, depth, reader, token)? else {
             return Ok(Err(Refusal::WrongType));
         };
@@ -169,7 +169,7 @@ impl Read for i64 {
         depth: usize,
         reader: &mut Tokens<'_>,
         token: Token<'_>,
-    ) -> Reading<i64> {
+    ) -> ReadResult<i64> {
         let Some(number) = decimal_of(alloc, depth, reader, token)? else {
             return Ok(Err(Refusal::WrongType));
         };
@@ -210,7 +210,7 @@ impl Read for Datum {
         depth: usize,
         reader: &mut Tokens<'_>,
         token: Token<'_>,
-    ) -> Reading<Datum> {
+    ) -> ReadResult<Datum> {
         match token {
             Token::Truth(truth) => return Ok(Ok(Datum::Truth(truth))),
             Token::String(text) => return Ok(text_datum(alloc, text)),

@@ -4,14 +4,14 @@
 
 mod basis;
 mod edited;
-mod parties;
-mod party;
 mod places;
 mod program;
 mod reseat;
+mod spot;
+mod ven_or_resource;
 mod writes;
 
 pub use edited::Edited;
-pub use parties::{after_resource, after_ven};
 pub use program::after_program;
+pub use ven_or_resource::{after_resource, after_ven};
 pub use writes::writes_of;

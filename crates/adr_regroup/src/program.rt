@@ -24,7 +24,7 @@ use crate::edited::Edited;
 use crate::reseat::reseated_all;
 use adr_audience::Audiences;
 use adr_book::Book;
-use adr_group::{Done, Job};
+use adr_group::{Done, RepairJob};
 use adr_lines::Indexes;
 use adr_object::{Edit, Event, Kind, Object, Program};
 use adr_rule::Meter;
@@ -189,7 +189,7 @@ fn marked(alloc: Global, marks: &[bool]) -> Result<Vec<usize>, Refusal>
 
 /// The schedule where each of the places has the writes of the events that apply to its resource, and the keys that
 /// tell them are made anew; with no places it is the same.
-fn reseated<C: Fn(&Indexes, &[Job]) -> Result<Vec<Done>, Refusal>>(
+fn reseated<C: Fn(&Indexes, &[RepairJob]) -> Result<Vec<Done>, Refusal>>(
     alloc: Global,
     crew: &C,
     edited: &Edited<'_>,
@@ -223,7 +223,7 @@ fn reseated<C: Fn(&Indexes, &[Job]) -> Result<Vec<Done>, Refusal>>(
 }
 
 /// The schedule after the program is changed to this one.
-fn after_change<C: Fn(&Indexes, &[Job]) -> Result<Vec<Done>, Refusal>>(
+fn after_change<C: Fn(&Indexes, &[RepairJob]) -> Result<Vec<Done>, Refusal>>(
     alloc: Global,
     crew: &C,
     edited: &Edited<'_>,
@@ -251,7 +251,7 @@ fn after_change<C: Fn(&Indexes, &[Job]) -> Result<Vec<Done>, Refusal>>(
 }
 
 /// The schedule after the object, which is a program, is changed to this one.
-fn after_object<C: Fn(&Indexes, &[Job]) -> Result<Vec<Done>, Refusal>>(
+fn after_object<C: Fn(&Indexes, &[RepairJob]) -> Result<Vec<Done>, Refusal>>(
     alloc: Global,
     crew: &C,
     edited: &Edited<'_>,
@@ -286,7 +286,7 @@ fn after_object<C: Fn(&Indexes, &[Job]) -> Result<Vec<Done>, Refusal>>(
 /// # Errors
 ///
 /// `NoMemory` where there is no room.
-pub fn after_program<C: Fn(&Indexes, &[Job]) -> Result<Vec<Done>, Refusal>>(
+pub fn after_program<C: Fn(&Indexes, &[RepairJob]) -> Result<Vec<Done>, Refusal>>(
     alloc: Global,
     crew: &C,
     edited: &Edited<'_>,

@@ -13,9 +13,9 @@ ghost use Rattle.adr_regroup.specs.Edited.{IsBasis};
 ghost use Rattle.adr_regroup.specs.Party.{AreSeatedBut, AreWritesAt, IsSeen};
 
 use crate::basis::Basis;
-use crate::party::{Spot, with_writes, writes_for};
+use crate::spot::{Spot, with_writes, writes_for};
 use adr_audience::Asked;
-use adr_group::{Done, Job, Writes};
+use adr_group::{Done, RepairJob, Writes};
 use adr_lines::Indexes;
 use adr_object::{Resource, Ven};
 use adr_rule::Meter;
@@ -123,7 +123,7 @@ fn place_like(schedule: &Schedule, spot: Spot, writes: &Writes) -> Option<usize>
 
 /// The schedule where the place has these writes, those of the events that apply to its resource, which leaves the
 /// others to be seen to.
-fn reseated<C: Fn(&Indexes, &[Job]) -> Result<Vec<Done>, Refusal>>(
+fn reseated<C: Fn(&Indexes, &[RepairJob]) -> Result<Vec<Done>, Refusal>>(
     alloc: Global,
     crew: &C,
     basis: &Basis<'_>,
@@ -157,7 +157,7 @@ fn reseated<C: Fn(&Indexes, &[Job]) -> Result<Vec<Done>, Refusal>>(
 /// The schedule where each of the places has the writes of the events that apply to its resource. A place shares the
 /// group of the last one that was seen to, or of one near it, where that has the same writes; and its writes are not
 /// asked for where its resource offers the same of what events ask for.
-pub(crate) fn reseated_all<C: Fn(&Indexes, &[Job]) -> Result<Vec<Done>, Refusal>>(
+pub(crate) fn reseated_all<C: Fn(&Indexes, &[RepairJob]) -> Result<Vec<Done>, Refusal>>(
     alloc: Global,
     crew: &C,
     basis: &Basis<'_>,

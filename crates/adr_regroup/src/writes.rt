@@ -4,7 +4,7 @@ ghost use Rattle.adr_refusal.specs.Answer.{OnlyNoMemory};
 ghost use Rattle.adr_audience.specs.Keys.{AreKeysOf};
 ghost use Rattle.adr_regroup.specs.Party.{AreWritesAt};
 
-use crate::party::writes_for;
+use crate::spot::writes_for;
 use adr_audience::Audiences;
 use adr_book::Book;
 use adr_group::Writes;

@@ -12,13 +12,13 @@ use std::sync::Wait;
 
 /// The editor of a board: edits repair its timelines, and queries are answered from its last publication. It is not
 /// `Drop`: end it by `close`.
-pub(crate) struct Edited<J: Naming, C: Hands> {
+pub(crate) struct EditedBoard<J: Naming, C: Hands> {
     editor: Editor<J>,
     hands: C,
     alloc: Global,
 }
 
-impl<J: Naming, C: Hands> Model for Edited<J, C> {
+impl<J: Naming, C: Hands> Model for EditedBoard<J, C> {
     ghost use Rattle.adr_model.specs.Kept.{Kept};
     ghost use Rattle.adr_resolver.specs.Shown.{kept_of};
 
@@ -29,7 +29,7 @@ impl<J: Naming, C: Hands> Model for Edited<J, C> {
     ghost invariant = { λ e. C.ready };
 }
 
-impl<J: Naming, C: Hands> Edited<J, C> {
+impl<J: Naming, C: Hands> EditedBoard<J, C> {
     ghost use Rattle.std.specs.Prelude.{◌≡◌, IfOk};
     ghost use Rattle.adr_model.specs.Kept.{kept_start};
 
@@ -41,7 +41,7 @@ impl<J: Naming, C: Hands> Edited<J, C> {
         hands: C,
         board: NewBoard,
         tie: Tie,
-    ) -> Result<Edited<J, C>, Refusal>
+    ) -> Result<EditedBoard<J, C>, Refusal>
         requires ready { C.ready }
         requires history { board.diary.page.book ≡ J.history }
         requires tie { tie ≡ J.tie }
@@ -49,7 +49,7 @@ impl<J: Naming, C: Hands> Edited<J, C> {
     {
         let (editor, readers) = Board::open::<J, H>(rt, alloc, board, 1, tie)?;
         drop(readers);
-        Ok(Edited {
+        Ok(EditedBoard {
             editor,
             hands,
             alloc,
@@ -57,7 +57,7 @@ impl<J: Naming, C: Hands> Edited<J, C> {
     }
 }
 
-impl<J: Naming, C: Hands> Resolver for Edited<J, C> {
+impl<J: Naming, C: Hands> Resolver for EditedBoard<J, C> {
     ghost kept = { λ e. e };
 
     fn edit(&mut self, edit: Edit) -> Result<u64, Refusal> {
@@ -105,7 +105,7 @@ impl<J: Naming, C: Hands> Resolver for Edited<J, C> {
     }
 
     fn close<H: Wait>(self, rt: &H) {
-        let Edited {
+        let EditedBoard {
             editor,
             hands,
             alloc: _,

@@ -5,7 +5,7 @@ ghost use Rattle.adr_resolver.specs.Kept.{kept_reply, kept_next};
 ghost use Rattle.adr_resolver.specs.Outcome.{AreNew, IsCaused, IsRun};
 ghost use Rattle.adr_resolver.specs.Text.{script_reply, script_next, script_start};
 
-use crate::edited::Edited;
+use crate::edited::EditedBoard;
 use crate::hands::{Hands, Workers};
 use crate::machine::ScriptOf;
 use crate::resolver::Resolver;
@@ -67,7 +67,7 @@ fn run_on<J: Naming, C: Hands, H: AllocGlobal + Threads + Wait, R: Read, W: Writ
     ensures cause { IsCaused logs.new.reads logs.new.writes result }
     ensures read_ends { has_read_failed logs.new.reads ≡ true → result ≡ Err Fault.Reading }
 {
-    let Ok(edited) = Edited::<J, C>::open(rt, rt.alloc(), hands, board, tie) else {
+    let Ok(edited) = EditedBoard::<J, C>::open(rt, rt.alloc(), hands, board, tie) else {
         return Err(Fault::Runtime);
     };
     run_by(rt, edited, reader, writer, logs)

@@ -7,7 +7,7 @@ use Rattle.std.proofs.lemmas.List.Sums.{sum_by-cons, sum_by_push}
 use Rattle.adr_shared.specs.Map.{put}
 use Rattle.adr_seats.specs.Law.{has_slot, AllOfASlot, AreDistinct, NoMoreThanAll}
 use Rattle.adr_seats.specs.Seats.{members_of}
-use Rattle.adr_schedule.specs.declared.tally.Tally.{Tally}
+use Rattle.adr_schedule.specs.declared.tally.SlotTally.{SlotTally}
 use Rattle.adr_schedule.specs.Moves.{is_among}
 use Rattle.adr_schedule.specs.Slots.{in_slot, is_taken}
 use Rattle.adr_schedule.specs.Tally.{AreAllOf, AreRising, HasSeen, IsBelowFirst, IsTallied}
@@ -69,9 +69,9 @@ distinct_last (t ∷ slots) slot once new = by (t == slot) refl new (λ h. disti
 
 -- ---- one place after the other
 
-module _ (places more seats : List ℕ) (place : ℕ) (seen : List (List ℕ × ℕ)) (tally : Tally) (known : HasSeen seen tally) (before : IsTallied places (place ∷ more) seats tally) where
+module _ (places more seats : List ℕ) (place : ℕ) (seen : List (List ℕ × ℕ)) (tally : SlotTally) (known : HasSeen seen tally) (before : IsTallied places (place ∷ more) seats tally) where
   -- a place without a slot
-  pub lost : (after : Tally) → after.slots.items ≡ tally.slots.items → after.left ≡ None → IsTallied places more seats after
+  pub lost : (after : SlotTally) → after.slots.items ≡ tally.slots.items → after.left ≡ None → IsTallied places more seats after
   lost after same none = record {
     once = subst (λ l. AreDistinct l) (sym same) before.once;
     taken = λ s m. before.taken s (subst (λ l. is_among l s ≡ true) same m);
@@ -99,7 +99,7 @@ module _ (places more seats : List ℕ) (place : ℕ) (seen : List (List ℕ × 
   }
 
   -- a slot that is new
-  module _ (slot : ℕ) (at : slice_get seats place ≡ Some slot) (new : in_slot seen slot ≡ None) (after : Tally) (pushed : after.slots.items ≡ tally.slots.items ++ slot ∷ [])
+  module _ (slot : ℕ) (at : slice_get seats place ≡ Some slot) (new : in_slot seen slot ≡ None) (after : SlotTally) (pushed : after.slots.items ≡ tally.slots.items ++ slot ∷ [])
       (less : IfSome after.left (λ left. tally.left ≡ Some (left + members_of slot seats))) where
     grows : (s : ℕ) → is_among tally.slots.items s ≡ true → is_among after.slots.items s ≡ true
     grows s m = ap (λ l. is_among l s) pushed ∙ among_last tally.slots.items slot s ∙ or_left (is_among tally.slots.items s) (slot == s) m
@@ -136,7 +136,7 @@ or_none true = refl
 or_none false = refl
 
 -- the slots that were seen stay those of the tally
-pub seen_then : (seen later : List (List ℕ × ℕ)) (tally after : Tally) (slot : ℕ) → later ≡ put (slot ∷ []) slot seen → after.slots.items ≡ tally.slots.items ++ slot ∷ []
+pub seen_then : (seen later : List (List ℕ × ℕ)) (tally after : SlotTally) (slot : ℕ) → later ≡ put (slot ∷ []) slot seen → after.slots.items ≡ tally.slots.items ++ slot ∷ []
     → HasSeen seen tally → HasSeen later after
 seen_then seen later tally after slot added pushed known s =
     ap (λ l. is_among l s) pushed ∙ among_last tally.slots.items slot s ∙ by (one_or_other s slot) ∙ ap (λ m. is_some (in_slot m s)) (sym added)
@@ -252,7 +252,7 @@ module _ (seats slots : List ℕ) (once : AreDistinct slots) where
           by false e = rw e (omega arith)
 
 -- where no place is left beyond all that have the slots, the places are those
-pub all_of : AllOfASlot → NoMoreThanAll → (seats places : List ℕ) (tally : Tally) → AreDistinct places → IsTallied places [] seats tally → tally.left ≡ Some 0 → AreAllOf seats places tally.slots.items
+pub all_of : AllOfASlot → NoMoreThanAll → (seats places : List ℕ) (tally : SlotTally) → AreDistinct places → IsTallied places [] seats tally → tally.left ≡ Some 0 → AreAllOf seats places tally.slots.items
 all_of all bound seats places tally distinct t none = record {
   each = λ p s at. same p s at;
   taken = t.taken;

@@ -13,7 +13,7 @@ use Rattle.adr_lines.specs.Grouped.{any_covers_at, entries_under}
 use Rattle.adr_lines.specs.Right.{has_number}
 use Rattle.adr_lines.specs.declared.indexes.Indexes.{Indexes}
 use Rattle.adr_lines.specs.Exchange.{IsIndexOf}
-use Rattle.adr_group.specs.declared.job.Job.{Job}
+use Rattle.adr_group.specs.declared.job.RepairJob.{RepairJob}
 use Rattle.adr_group.specs.Group.{AreWindowsOf, IsRightOf, Lines}
 use Rattle.adr_group.specs.Jobs.{most_done, AreGathered, IsJobOf}
 use Rattle.adr_group.specs.Repair.{most_repaired}
@@ -76,14 +76,14 @@ all_compare indexes (d ∷ drafts) =
     omega (arith, parts, own, rest, first)
 
 -- so their jobs compare no more
-pub jobs_compare_all : (indexes : Indexes) (drafts : List Draft) (slice jobs : List Job) → slice ≡ jobs → AllZip (IsJobOf indexes) (flat_map tasks_of drafts) jobs → sum_by (most_done indexes) slice ≤ most_drafted indexes drafts
+pub jobs_compare_all : (indexes : Indexes) (drafts : List Draft) (slice jobs : List RepairJob) → slice ≡ jobs → AllZip (IsJobOf indexes) (flat_map tasks_of drafts) jobs → sum_by (most_done indexes) slice ≤ most_drafted indexes drafts
 jobs_compare_all indexes drafts slice jobs same fit =
     let least = jobs_compare indexes (flat_map tasks_of drafts) jobs fit in
     let whole = all_compare indexes drafts in
     let sliced = ap (sum_by (most_done indexes)) same in
     omega (arith, least, whole, sliced)
 
-pub jobs_compare_one : (indexes : Indexes) (draft : Draft) (slice jobs : List Job) → slice ≡ jobs → AllZip (IsJobOf indexes) (tasks_of draft) jobs → sum_by (most_done indexes) slice ≤ most_repaired draft.windows.items draft.writes indexes
+pub jobs_compare_one : (indexes : Indexes) (draft : Draft) (slice jobs : List RepairJob) → slice ≡ jobs → AllZip (IsJobOf indexes) (tasks_of draft) jobs → sum_by (most_done indexes) slice ≤ most_repaired draft.windows.items draft.writes indexes
 jobs_compare_one indexes draft slice jobs same fit =
     let least = jobs_compare indexes (tasks_of draft) jobs fit in
     let whole = tasks_compare indexes draft.group draft.writes draft.windows.items in

@@ -24,7 +24,7 @@ use Rattle.adr_lines.specs.Right.{has_number, written_in}
 use Rattle.adr_lines.specs.declared.indexes.Indexes.{Indexes}
 use Rattle.adr_lines.specs.Indexes.{under}
 use Rattle.adr_group.specs.declared.job.Held.{Held}
-use Rattle.adr_group.specs.declared.job.Job.{Job}
+use Rattle.adr_group.specs.declared.job.RepairJob.{RepairJob}
 use Rattle.adr_group.specs.Group.{shown_in}
 use Rattle.adr_group.specs.Jobs.{IsJobOf, IsRightBefore, Task}
 use Rattle.adr_group.specs.Laid.{most_exchanged, AreOwnOf, IsComing, IsHeld, IsMet}
@@ -247,7 +247,7 @@ module _ (rank : Winner → Rank) (indexes : Indexes) (change : Change) (laid : 
   pub whole : w.entries.items ≡ left ++ coming
   whole = sym (own_whole d.windows.items w of.windows.own m) ∙ (of.windows.under k ∙ under_both (entries_in gone) (entries_in come) k)
 
-  module _ (job : Job) (n : ℕ) (writes : job.writes ≡ d.writes) (windows : job.windows ≡ w) (line : (t : ℤ) → shows job.line t ≡ shown_in d.group.lines k t) (count : n ≡ length left)
+  module _ (job : RepairJob) (n : ℕ) (writes : job.writes ≡ d.writes) (windows : job.windows ≡ w) (line : (t : ℤ) → shows job.line t ≡ shown_in d.group.lines k t) (count : n ≡ length left)
       (first : IfSome job.held (λ h. h.leaving ≡ n)) (number : IfSome job.held (λ h. h.gone ≡ number_in gone)) (met : IfSome job.held (λ h. IsMet rank d.writes (under indexes k) job.line (drop n w.entries.items) h.shown.items)) where
     abbrev task : Task
     task = record { group = d.group; writes = d.writes; windows = w }
@@ -323,7 +323,7 @@ all_ok (Ok x) A B C D F G H a b c d f g by = by x a b c d f g
 all_ok (Err e) A B C D F G H a b c d f g by = tt
 
 -- where nothing is held, the job builds
-pub job_builds : (indexes : Indexes) (task : Task) (job : Job) → job.writes ≡ task.writes → job.windows ≡ task.windows → ((t : ℤ) → shows job.line t ≡ shown_in task.group.lines task.windows.payload_type t) → job.held ≡ None
+pub job_builds : (indexes : Indexes) (task : Task) (job : RepairJob) → job.writes ≡ task.writes → job.windows ≡ task.windows → ((t : ℤ) → shows job.line t ≡ shown_in task.group.lines task.windows.payload_type t) → job.held ≡ None
     → IsJobOf indexes task job
 job_builds indexes task job writes windows line none = record {
   writes = writes;

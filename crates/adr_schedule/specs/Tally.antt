@@ -2,7 +2,7 @@
 use Rattle.std.specs.Prelude.{◌≡◌, ◌⊎◌, ◌+◌, ◌<◌, ℕ, true, List, [], ◌∷◌, length, slice_get, sum_by, is_some, Some, ⊤}
 use Rattle.adr_seats.specs.Law.{AreDistinct}
 use Rattle.adr_seats.specs.Seats.{members_of}
-use Rattle.adr_schedule.specs.declared.tally.Tally.{Tally}
+use Rattle.adr_schedule.specs.declared.tally.SlotTally.{SlotTally}
 use Rattle.adr_schedule.specs.Moves.{is_among}
 use Rattle.adr_schedule.specs.Slots.{in_slot, is_taken}
 
@@ -12,7 +12,7 @@ pub record AreAllOf (seats places slots : List ℕ) : Type 0 where
   pub taken : (slot : ℕ) → is_among slots slot ≡ true → is_taken seats slot ≡ true
 
 -- each place but for the rest has a slot that is there once; and so many places are left beyond all that have one of those
-pub record IsTallied (places rest seats : List ℕ) (tally : Tally) : Type 0 where
+pub record IsTallied (places rest seats : List ℕ) (tally : SlotTally) : Type 0 where
   pub once : AreDistinct tally.slots.items
   pub taken : (slot : ℕ) → is_among tally.slots.items slot ≡ true → is_taken seats slot ≡ true
   pub count : (left : ℕ) → tally.left ≡ Some left → left + sum_by (λ s. members_of s seats) tally.slots.items ≡ length places
@@ -20,7 +20,7 @@ pub record IsTallied (places rest seats : List ℕ) (tally : Tally) : Type 0 whe
       → (is_among rest place ≡ true) ⊎ ((slot : ℕ) × (slice_get seats place ≡ Some slot) × (is_among tally.slots.items slot ≡ true))
 
 -- the slots of the tally are those that were seen
-abbrev pub HasSeen : List (List ℕ × ℕ) → Tally → Type 0
+abbrev pub HasSeen : List (List ℕ × ℕ) → SlotTally → Type 0
 HasSeen seen tally = (slot : ℕ) → is_among tally.slots.items slot ≡ is_some (in_slot seen slot)
 
 -- the first of the places, if there is one, is above this

@@ -14,7 +14,7 @@ ghost use Rattle.adr_schedule.specs.Slots.{in_slot, HasSlot};
 ghost use Rattle.adr_schedule.specs.Tally.{AreAllOf, HasSeen, IsTallied};
 
 use crate::change::{Change, Side};
-use crate::tally::Tally;
+use crate::tally::SlotTally;
 use adr_group::{Group, Writes, shared_windows};
 use adr_lines::TypeEntries;
 use adr_seats::Seats;
@@ -218,7 +218,7 @@ struct Drafts {
     list: Vec<Draft>,
     seen: SharedMap<u64, u64>,
     last: Option<u64>,
-    tally: Tally,
+    tally: SlotTally,
     windows: Windows,
 }
 
@@ -325,7 +325,7 @@ pub(crate) fn drafts_of(
         list: Vec::new(alloc),
         seen: SharedMap::new(),
         last: None,
-        tally: Tally::new(alloc, places.len()),
+        tally: SlotTally::new(alloc, places.len()),
         windows: Windows::none(),
     };
     let mut rest = places;

@@ -16,7 +16,7 @@ ghost use Rattle.adr_schedule.specs.Shift.{entries_in, IsLaidBy};
 
 use crate::change::{Change, Side};
 use crate::draft::{Draft, leaving, number};
-use adr_group::{Done, Group, Job};
+use adr_group::{Done, Group, RepairJob};
 use adr_lines::{Indexes, TypeEntries};
 use adr_rule::Meter;
 use adr_shared::{Shared, SharedMap};
@@ -67,7 +67,7 @@ fn exchange_job<R: Ranks>(
     windows: &Shared<TypeEntries>,
     change: &Change,
     ranks: &R,
-) -> Result<Job, Refusal>
+) -> Result<RepairJob, Refusal>
     requires draft { IsDraftOf change.now draft.now.group draft.now }
     requires own { In windows.now draft.now.windows.items }
     ensures job { IfOk result (λ job. IsLaidBy (Some (R.rank ranks.now)) indexes.now change.now → IsJobOf indexes.now (record { group = draft.now.group; writes = draft.now.writes; windows = windows.now }) job) }
@@ -87,7 +87,7 @@ fn exchange_job<R: Ranks>(
 }
 
 /// The jobs of a draft that build what its writes show inside its windows.
-fn built_jobs(alloc: Global, draft: &Draft) -> Result<Vec<Job>, Refusal>
+fn built_jobs(alloc: Global, draft: &Draft) -> Result<Vec<RepairJob>, Refusal>
     ensures jobs { IfOk result (λ jobs. (indexes : AllIndexes) → AllZip (IsJobOf indexes) (tasks_of draft.now) jobs.items) }
     ensures refusal { OnlyNoMemory result }
 {
@@ -108,7 +108,7 @@ fn exchange_jobs<R: Ranks>(
     draft: &Draft,
     change: &Change,
     ranks: &R,
-) -> Result<Vec<Job>, Refusal>
+) -> Result<Vec<RepairJob>, Refusal>
     requires draft { IsDraftOf change.now draft.now.group draft.now }
     ensures jobs { IfOk result (λ jobs. IsLaidBy (Some (R.rank ranks.now)) indexes.now change.now → AllZip (IsJobOf indexes.now) (tasks_of draft.now) jobs.items) }
     ensures refusal { OnlyNoMemory result }
@@ -130,7 +130,7 @@ fn jobs_of<R: Ranks>(
     draft: &Draft,
     change: &Change,
     ranks: Option<&R>,
-) -> Result<Vec<Job>, Refusal>
+) -> Result<Vec<RepairJob>, Refusal>
     requires draft { IsDraftOf change.now draft.now.group draft.now }
     ensures jobs { IfOk result (λ jobs. IsLaidBy (option_map R.rank (option_copied ranks.entry)) indexes.now change.now → AllZip (IsJobOf indexes.now) (tasks_of draft.now) jobs.items) }
     ensures refusal { OnlyNoMemory result }
@@ -148,7 +148,7 @@ fn all_jobs<R: Ranks>(
     drafts: &[Draft],
     change: &Change,
     ranks: Option<&R>,
-) -> Result<Vec<Job>, Refusal>
+) -> Result<Vec<RepairJob>, Refusal>
     requires drafts { AreDraftsOf change.now drafts.now }
     ensures jobs { IfOk result (λ jobs. IsLaidBy (option_map R.rank (option_copied ranks.entry)) indexes.now change.now → AllZip (IsJobOf indexes.now) (flat_map tasks_of drafts.now) jobs.items) }
     ensures refusal { OnlyNoMemory result }
@@ -175,35 +175,35 @@ fn count(meter: &mut Meter, done: &[Done])
 }
 
 /// Groups that were made, each in its slot.
-pub(crate) struct Made {
+pub(crate) struct MadeGroups {
     pub(crate) groups: SharedMap<u64, Group>,
 }
 
 // A function of its own, so that callers that let a value go need not look into it.
-impl Drop for Made {
+impl Drop for MadeGroups {
     fn drop(self) {
-        let Made { groups } = self;
+        let MadeGroups { groups } = self;
         drop(groups);
     }
 }
 
-impl Made {
+impl MadeGroups {
     /// No group.
-    pub(crate) fn new() -> Made
+    pub(crate) fn new() -> MadeGroups
         ensures { result.groups ≡ [] }
     {
-        Made {
+        MadeGroups {
             groups: SharedMap::new(),
         }
     }
 
     /// These groups with this one in the slot.
-    pub(crate) fn with(&self, alloc: Global, slot: u64, group: Group) -> Result<Made, Refusal>
+    pub(crate) fn with(&self, alloc: Global, slot: u64, group: Group) -> Result<MadeGroups, Refusal>
         ensures groups { IfOk result (λ made. made.groups ≡ put (slot ∷ []) group self.now.groups) }
         ensures refusal { OnlyNoMemory result }
     {
         let groups = self.groups.put(alloc, slot, group)?;
-        Ok(Made { groups })
+        Ok(MadeGroups { groups })
     }
 }
 
@@ -219,12 +219,12 @@ fn made_of(alloc: Global, draft: &Draft, done: &[Done]) -> Result<Group, Refusal
 }
 
 /// The groups of the drafts, each in its slot, of what was done for them.
-fn made_each(alloc: Global, drafts: &[Draft], done: &[Done]) -> Result<Made, Refusal>
+fn made_each(alloc: Global, drafts: &[Draft], done: &[Done]) -> Result<MadeGroups, Refusal>
     requires own { (d : AnyDraft) → In d drafts.now → HaveOwnTypes d.windows.items }
     ensures made { IfOk result (λ made. (indexes : AllIndexes) → AllZip (IsTaskDone indexes) (flat_map tasks_of drafts.now) done.now → AreMadeOf indexes drafts.now made.groups) }
     ensures refusal { OnlyNoMemory result }
 {
-    let mut made = Made::new();
+    let mut made = MadeGroups::new();
     let mut left = done;
     let mut rest = drafts;
     'rest: while let Some((draft, more)) = rest.split_first() {
@@ -243,10 +243,10 @@ fn made_each(alloc: Global, drafts: &[Draft], done: &[Done]) -> Result<Made, Ref
 }
 
 /// Has the crew do the jobs.
-fn done_by<C: Fn(&Indexes, &[Job]) -> Result<Vec<Done>, Refusal>>(
+fn done_by<C: Fn(&Indexes, &[RepairJob]) -> Result<Vec<Done>, Refusal>>(
     indexes: &Indexes,
     crew: &C,
-    jobs: &[Job],
+    jobs: &[RepairJob],
 ) -> Result<Vec<Done>, Refusal>
     requires crew { IsCrew (λ v. v.items) (C.pre crew.now) (C.post crew.now) }
     ensures done { IfOk result (λ done. AreDone indexes.now jobs.now done.items) }
@@ -257,7 +257,7 @@ fn done_by<C: Fn(&Indexes, &[Job]) -> Result<Vec<Done>, Refusal>>(
 
 /// The group of one draft: the crew builds what its writes show inside its windows, one job for each payload type.
 /// `NoMemory` where there is no room.
-pub(crate) fn one_made_by<C: Fn(&Indexes, &[Job]) -> Result<Vec<Done>, Refusal>>(
+pub(crate) fn one_made_by<C: Fn(&Indexes, &[RepairJob]) -> Result<Vec<Done>, Refusal>>(
     alloc: Global,
     indexes: &Indexes,
     crew: &C,
@@ -279,7 +279,7 @@ pub(crate) fn one_made_by<C: Fn(&Indexes, &[Job]) -> Result<Vec<Done>, Refusal>>
 
 /// The groups of all drafts of the change, each in its slot: the crew does their jobs, which exchange events where there
 /// are ranks. `NoMemory` where there is no room.
-pub(crate) fn made_by<C: Fn(&Indexes, &[Job]) -> Result<Vec<Done>, Refusal>, R: Ranks>(
+pub(crate) fn made_by<C: Fn(&Indexes, &[RepairJob]) -> Result<Vec<Done>, Refusal>, R: Ranks>(
     alloc: Global,
     indexes: &Indexes,
     crew: &C,

@@ -17,7 +17,7 @@ use crate::draft::draft_with;
 use crate::made::one_made_by;
 use crate::moves::{Moves, sit};
 use crate::schedule::Schedule;
-use adr_group::{Done, Group, Job, Writes};
+use adr_group::{Done, Group, RepairJob, Writes};
 use adr_lines::{Indexes, TypeEntries};
 use adr_rule::Meter;
 use adr_seats::Seats;
@@ -46,7 +46,7 @@ fn without_unused(
 }
 
 /// The group of those writes, made of the old one, which is in the slot: the crew does its jobs.
-fn remade<C: Fn(&Indexes, &[Job]) -> Result<Vec<Done>, Refusal>>(
+fn remade<C: Fn(&Indexes, &[RepairJob]) -> Result<Vec<Done>, Refusal>>(
     alloc: Global,
     indexes: &Indexes,
     crew: &C,
@@ -251,7 +251,7 @@ impl Schedule {
     /// # Errors
     ///
     /// `NoMemory` where there is no room.
-    pub fn rewritten<C: Fn(&Indexes, &[Job]) -> Result<Vec<Done>, Refusal>>(
+    pub fn rewritten<C: Fn(&Indexes, &[RepairJob]) -> Result<Vec<Done>, Refusal>>(
         &self,
         alloc: Global,
         indexes: &Indexes,

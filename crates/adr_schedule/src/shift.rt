@@ -22,7 +22,7 @@ use crate::exchange::exchanged;
 use crate::made::made_by;
 use crate::moves::{Moves, sit};
 use crate::schedule::Schedule;
-use adr_group::{Done, Group, Job};
+use adr_group::{Done, Group, RepairJob};
 use adr_lines::Indexes;
 use adr_rule::Meter;
 use adr_seats::Seats;
@@ -146,7 +146,7 @@ struct Remade {
 
 impl Schedule {
     /// What becomes of the groups of the places that the change touches, each in its slot: the crew does their jobs.
-    fn made_for<C: Fn(&Indexes, &[Job]) -> Result<Vec<Done>, Refusal>, R: Ranks>(
+    fn made_for<C: Fn(&Indexes, &[RepairJob]) -> Result<Vec<Done>, Refusal>, R: Ranks>(
         &self,
         alloc: Global,
         indexes: &Indexes,
@@ -203,7 +203,7 @@ impl Schedule {
     /// # Errors
     ///
     /// `NoMemory` where there is no room.
-    pub fn shifted<C: Fn(&Indexes, &[Job]) -> Result<Vec<Done>, Refusal>, R: Ranks>(
+    pub fn shifted<C: Fn(&Indexes, &[RepairJob]) -> Result<Vec<Done>, Refusal>, R: Ranks>(
         &self,
         alloc: Global,
         indexes: &Indexes,

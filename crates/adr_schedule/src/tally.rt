@@ -12,7 +12,7 @@ use std::alloc::Global;
 /// The slots of some places, each once, and how many places are left beyond all that have one of those slots; None where
 /// there are too few.
 #[derive(Drop)]
-pub(crate) struct Tally {
+pub(crate) struct SlotTally {
     pub(crate) slots: Vec<u64>,
     pub(crate) left: Option<usize>,
 }
@@ -43,13 +43,13 @@ fn ascend(places: &[usize]) -> bool
     true
 }
 
-impl Tally {
+impl SlotTally {
     /// No slot yet, and so many places.
-    pub(crate) fn new(alloc: Global, places: usize) -> Tally
+    pub(crate) fn new(alloc: Global, places: usize) -> SlotTally
         ensures slots { result.slots.items ≡ [] }
         ensures left { result.left ≡ Some places }
     {
-        Tally {
+        SlotTally {
             slots: Vec::new(alloc),
             left: Some(places),
         }
@@ -72,7 +72,7 @@ impl Tally {
         ensures { IfSome result (λ slots. AreAllOf seats.now places.now slots.items) }
     {
         all_of_a_slot();
-        let Tally { slots, left } = self;
+        let SlotTally { slots, left } = self;
         if left == Some(0) && ascend(places) {
             Some(slots)
         } else {

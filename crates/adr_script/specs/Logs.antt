@@ -3,8 +3,8 @@ use Rattle.std.specs.Prelude.{◌≡◌, ◌≤◌, ℕ, Bool, true, List, lengt
 use Rattle.std.specs.Io.KnownBytes.{Consumes, Keeps, IsAtEnd}
 use Rattle.adr_script.specs.declared.fault.Fault.{Fault}
 use Rattle.adr_script.specs.declared.fault.Fault.TheVariants.{Reading, Reads, Writing, Runtime}
-use Rattle.adr_script.specs.declared.log.Given.{Given}
-use Rattle.adr_script.specs.declared.log.Given.TheVariants.{Bytes, End, Nothing}
+use Rattle.adr_script.specs.declared.log.ReadGiven.{ReadGiven}
+use Rattle.adr_script.specs.declared.log.ReadGiven.TheVariants.{Bytes, End, Nothing}
 use Rattle.adr_script.specs.declared.log.ReadLog.{ReadLog}
 use Rattle.adr_script.specs.declared.log.WriteLog.{WriteLog}
 
@@ -24,7 +24,7 @@ abbrev pub has_write_failed : WriteLog → Bool
 has_write_failed log = log.failed
 
 -- one read took from what was left the bytes that it gave; an interrupted one took none
-abbrev pub Gives : Option (List ℕ) → Option (List ℕ) → List ℕ → ReadLog → Given → Type 0
+abbrev pub Gives : Option (List ℕ) → Option (List ℕ) → List ℕ → ReadLog → ReadGiven → Type 0
 Gives left_old left_new piece log (Bytes count) = (count ≤ length piece) × Consumes left_old left_new (take count piece)
 Gives left_old left_new piece log End = Keeps left_old left_new × IsAtEnd left_new × (has_ended log ≡ true)
 Gives left_old left_new piece log Nothing = Keeps left_old left_new

@@ -14,7 +14,7 @@ const MAX_TRIES: u64 = 4_294_967_296;
 
 /// What one read gave.
 #[derive(Clone, Copy, PartialEq, Eq)]
-pub(crate) enum Given {
+pub(crate) enum ReadGiven {
     /// So many bytes, at least one, at the start of the piece.
     Bytes(usize),
     /// The end of the input.
@@ -73,7 +73,11 @@ impl ReadLog {
     /// # Errors
     ///
     /// `Reading` where it failed, which is noted.
-    pub(crate) fn read<R: Read>(&mut self, reader: &mut R, piece: &mut [u8]) -> Result<Given, Fault>
+    pub(crate) fn read<R: Read>(
+        &mut self,
+        reader: &mut R,
+        piece: &mut [u8],
+    ) -> Result<ReadGiven, Fault>
         requires made { reads_made self.old < 2 ^ 32 }
         requires piece { 0 < length piece.old }
         ensures made { reads_made self.new ≡ reads_made self.old + 1 }
@@ -90,21 +94,21 @@ impl ReadLog {
     }
 
     /// What a read gave. An error that is no interruption is a fault.
-    fn note(&mut self, outcome: &io::Result<usize>) -> Result<Given, Fault>
+    fn note(&mut self, outcome: &io::Result<usize>) -> Result<ReadGiven, Fault>
         ensures made { reads_made self.new ≡ reads_made self.old }
-        ensures end { outcome.now ≡ Ok 0 → (result ≡ Ok Given.End) × (has_ended self.new ≡ true) }
-        ensures bytes { IfOk outcome.now (λ n. 0 < n → result ≡ Ok (Given.Bytes n)) }
-        ensures interrupted { IfErr outcome.now (λ e. error_kind e ≡ ErrorKind.Interrupted → result ≡ Ok Given.Nothing) }
+        ensures end { outcome.now ≡ Ok 0 → (result ≡ Ok ReadGiven.End) × (has_ended self.new ≡ true) }
+        ensures bytes { IfOk outcome.now (λ n. 0 < n → result ≡ Ok (ReadGiven.Bytes n)) }
+        ensures interrupted { IfErr outcome.now (λ e. error_kind e ≡ ErrorKind.Interrupted → result ≡ Ok ReadGiven.Nothing) }
         ensures failed { IfErr outcome.now (λ e. error_kind e ≢ ErrorKind.Interrupted → (result ≡ Err Fault.Reading) × (has_read_failed self.new ≡ true)) }
         ensures unfailed { OnOk result (has_read_failed self.new ≡ has_read_failed self.old) }
     {
         match outcome {
             Ok(0) => {
                 self.ended = true;
-                Ok(Given::End)
+                Ok(ReadGiven::End)
             }
-            Ok(count) => Ok(Given::Bytes(*count)),
-            Err(error) if error.kind() == ErrorKind::Interrupted => Ok(Given::Nothing),
+            Ok(count) => Ok(ReadGiven::Bytes(*count)),
+            Err(error) if error.kind() == ErrorKind::Interrupted => Ok(ReadGiven::Nothing),
             Err(_) => {
                 self.failed = true;
                 Err(Fault::Reading)

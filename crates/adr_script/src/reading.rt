@@ -9,7 +9,7 @@ ghost use Rattle.adr_script.specs.Ending.{Ends};
 ghost use Rattle.adr_script.specs.Waiting.{IsFresh};
 
 use crate::answering::{Session, answer_line};
-use crate::log::Given;
+use crate::log::ReadGiven;
 use crate::{Fault, Logs, Machine, WriteLog};
 use memchr::memchr;
 use std::alloc::{AllocError, Global};
@@ -128,11 +128,11 @@ fn serve_reads<H: AllocGlobal + Threads + Wait, R: Read, W: Write, M: Machine>(
     let session = &mut buffers.session;
     for _ in 0..MAX_READS {
         match reads.read(reader, piece)? {
-            Given::Bytes(count) => {
+            ReadGiven::Bytes(count) => {
                 serve_piece(rt, &piece[..count], writer, writes, machine, session)?
             }
-            Given::End => return finish(rt, writer, writes, machine, session),
-            Given::Nothing => {}
+            ReadGiven::End => return finish(rt, writer, writes, machine, session),
+            ReadGiven::Nothing => {}
         }
     }
     Err(Fault::Reads)

@@ -10,21 +10,21 @@ use std::marker::Model;
 use std::sync::Arc;
 
 /// Numbers that may be written, or that are shared with other chunks. Contracts see which, and their list.
-pub(crate) struct Chunk {
+pub(crate) struct SlotChunk {
     own: Vec<u32>,
     shared: Option<Arc<Vec<u32>>>,
 }
 
 // A function of its own, so that callers that let a value go need not look into it.
-impl Drop for Chunk {
+impl Drop for SlotChunk {
     fn drop(self) {
-        let Chunk { own, shared } = self;
+        let SlotChunk { own, shared } = self;
         drop(own);
         drop(shared);
     }
 }
 
-impl Model for Chunk {
+impl Model for SlotChunk {
     ghost use Rattle.std.specs.Prelude.{Bool, List, ℕ, option_map};
     ghost use Rattle.std.specs.Arc.{arc_value};
     ghost use Rattle.std.specs.Vec.{vec_items};
@@ -35,16 +35,16 @@ impl Model for Chunk {
     ghost view = { λ c. shown c.own.items (option_map vec_items (option_map arc_value c.shared)) };
 }
 
-impl Chunk {
+impl SlotChunk {
     /// A chunk of these numbers, which may be written.
     ///
     /// # Errors
     ///
     /// `NoMemory` where there is no room for them.
-    pub(crate) fn own(alloc: Global, numbers: &[u32]) -> Result<Chunk, Refusal>
+    pub(crate) fn own(alloc: Global, numbers: &[u32]) -> Result<SlotChunk, Refusal>
         ensures { IsCopyOf result (true, numbers.now) }
     {
-        Ok(Chunk {
+        Ok(SlotChunk {
             own: Vec::from_slice(alloc, numbers)?,
             shared: None,
         })
@@ -82,7 +82,7 @@ impl Chunk {
     /// # Errors
     ///
     /// `NoMemory` where there is no room for the copy, or the count of the sharers is full.
-    pub(crate) fn share(&self) -> Result<Chunk, Refusal>
+    pub(crate) fn share(&self) -> Result<SlotChunk, Refusal>
         ensures { IsCopyOf result (false, self.now.1) }
     {
         let alloc = *self.own.allocator();
@@ -90,7 +90,7 @@ impl Chunk {
             None => Arc::new(alloc, Vec::from_slice(alloc, &self.own)?)?,
             Some(shared) => shared.clone()?,
         };
-        Ok(Chunk {
+        Ok(SlotChunk {
             own: Vec::new(alloc),
             shared: Some(shared),
         })

@@ -3,7 +3,7 @@ ghost use Rattle.std.specs.Prelude.{◌≡◌, ℕ, ◌+◌, ◌^◌, ◌<◌, �
 ghost use Rattle.adr_refusal.specs.Answer.{OnlyNoMemory};
 ghost use Rattle.adr_seats.specs.Table.{numbers, is_own};
 
-use crate::table::Table;
+use crate::table::SlotTable;
 use crate::unused::Unused;
 use adr_refusal::Refusal;
 use std::alloc::Global;
@@ -15,7 +15,7 @@ const MOST: usize = 1 << 31;
 /// How many places have each slot, and slots that none has. Contracts see the table of the numbers; a slot past its end
 /// has no place.
 pub(crate) struct Counts {
-    members: Table,
+    members: SlotTable,
     unused: Unused,
 }
 
@@ -42,7 +42,7 @@ impl Counts {
         ensures { numbers result ≡ [] }
     {
         Counts {
-            members: Table::new(alloc),
+            members: SlotTable::new(alloc),
             unused: Unused::new(alloc),
         }
     }

@@ -7,7 +7,7 @@ ghost use Rattle.adr_seats.specs.Seats.{members_of, IsCountOf};
 ghost use Rattle.adr_seats.specs.Table.{numbers};
 
 use crate::counts::Counts;
-use crate::table::Table;
+use crate::table::SlotTable;
 use adr_refusal::Refusal;
 use std::alloc::Global;
 use std::marker::Model;
@@ -17,7 +17,7 @@ use std::marker::Model;
 /// A slot is a number below 2^31, and there are as many places at most. The numbers of all slots up to the greatest
 /// that was ever named stay in memory, so name those that `free_slot` answers.
 pub struct Seats {
-    slots: Table,
+    slots: SlotTable,
     counts: Counts,
 }
 
@@ -48,7 +48,7 @@ impl Seats {
         ensures { result ≡ [] }
     {
         Seats {
-            slots: Table::new(alloc),
+            slots: SlotTable::new(alloc),
             counts: Counts::new(alloc),
         }
     }
@@ -177,7 +177,7 @@ fn narrow(slot: u64) -> Result<u32, Refusal>
 }
 
 /// Adds a place last, with the slot.
-fn push_slot(slots: &mut Table, counts: &mut Counts, slot: u32) -> Result<(), Refusal>
+fn push_slot(slots: &mut SlotTable, counts: &mut Counts, slot: u32) -> Result<(), Refusal>
     requires { IsCountOf (numbers counts.old) (numbers slots.old) }
     ensures ok { OnOk result (numbers slots.new ≡ numbers slots.old ++ slot ∷ []) }
     ensures err { OnErr result (numbers slots.new ≡ numbers slots.old) }
@@ -191,7 +191,12 @@ fn push_slot(slots: &mut Table, counts: &mut Counts, slot: u32) -> Result<(), Re
 }
 
 /// Gives the place another slot.
-fn set_slot(slots: &mut Table, counts: &mut Counts, place: usize, slot: u32) -> Result<(), Refusal>
+fn set_slot(
+    slots: &mut SlotTable,
+    counts: &mut Counts,
+    place: usize,
+    slot: u32,
+) -> Result<(), Refusal>
     requires within { place < length (numbers slots.old) }
     requires counts { IsCountOf (numbers counts.old) (numbers slots.old) }
     ensures ok { OnOk result (numbers slots.new ≡ set (numbers slots.old) place slot) }

@@ -4,7 +4,7 @@ ghost use Rattle.std.specs.List.{slice_get};
 ghost use Rattle.adr_refusal.specs.Answer.{OnlyNoMemory};
 ghost use Rattle.adr_seats.specs.Table.{joined, numbers, is_own, AreFull};
 
-use crate::chunk::Chunk;
+use crate::chunk::SlotChunk;
 use adr_refusal::Refusal;
 use std::alloc::Global;
 use std::marker::Model;
@@ -17,21 +17,21 @@ const MOST: usize = 1 << 31;
 
 /// A list of numbers: chunks that are full, which copies share, and a last one. What is written first becomes the
 /// table's own. Contracts see the chunks.
-pub(crate) struct Table {
-    full: Vec<Chunk>,
+pub(crate) struct SlotTable {
+    full: Vec<SlotChunk>,
     last: Vec<u32>,
 }
 
 // A function of its own, so that callers that let a value go need not look into it.
-impl Drop for Table {
+impl Drop for SlotTable {
     fn drop(self) {
-        let Table { full, last } = self;
+        let SlotTable { full, last } = self;
         drop(full);
         drop(last);
     }
 }
 
-impl Model for Table {
+impl Model for SlotTable {
     ghost use Rattle.adr_seats.specs.Table.{Chunks, IsTable};
 
     ghost Value = { Chunks };
@@ -41,12 +41,12 @@ impl Model for Table {
     ghost invariant = { λ t. IsTable (record { full = t.full.items; last = t.last.items }) };
 }
 
-impl Table {
+impl SlotTable {
     /// No numbers.
-    pub(crate) fn new(alloc: Global) -> Table
+    pub(crate) fn new(alloc: Global) -> SlotTable
         ensures { numbers result ≡ [] }
     {
-        Table {
+        SlotTable {
             full: Vec::new(alloc),
             last: Vec::new(alloc),
         }
@@ -108,7 +108,7 @@ impl Table {
         ensures refusal { OnlyNoMemory result }
     {
         let alloc = *self.last.allocator();
-        self.full.push(Chunk::own(alloc, &self.last)?)?;
+        self.full.push(SlotChunk::own(alloc, &self.last)?)?;
         self.last.clear();
         Ok(())
     }
@@ -135,7 +135,7 @@ impl Table {
     {
         let index = place / WIDTH;
         let alloc = *self.last.allocator();
-        self.full[index] = Chunk::own(alloc, self.full[index].numbers())?;
+        self.full[index] = SlotChunk::own(alloc, self.full[index].numbers())?;
         Ok(())
     }
 
@@ -177,14 +177,14 @@ impl Table {
     /// # Errors
     ///
     /// `NoMemory` where there is no room for it, or the count of a chunk's sharers is full.
-    pub(crate) fn copy(&self) -> Result<Table, Refusal>
+    pub(crate) fn copy(&self) -> Result<SlotTable, Refusal>
         ensures same { IfOk result (λ copy. numbers copy ≡ numbers self.now) }
         ensures refusal { OnlyNoMemory result }
     {
         let alloc = *self.last.allocator();
         let mut last = Vec::with_capacity(alloc, WIDTH)?;
         last.extend_from_slice(&self.last)?;
-        Ok(Table {
+        Ok(SlotTable {
             full: shared(alloc, &self.full)?,
             last,
         })
@@ -205,7 +205,7 @@ impl Table {
     /// # Errors
     ///
     /// `NoMemory` where there is no room for them.
-    pub(crate) fn without(&self, place: usize) -> Result<Table, Refusal>
+    pub(crate) fn without(&self, place: usize) -> Result<SlotTable, Refusal>
         requires { place < length (numbers self.now) }
         ensures numbers { IfOk result (λ table. numbers table ≡ remove (numbers self.now) place) }
         ensures refusal { OnlyNoMemory result }
@@ -217,7 +217,7 @@ impl Table {
 }
 
 /// Copies of the chunks, which share their numbers.
-fn shared(alloc: Global, chunks: &[Chunk]) -> Result<Vec<Chunk>, Refusal>
+fn shared(alloc: Global, chunks: &[SlotChunk]) -> Result<Vec<SlotChunk>, Refusal>
     ensures same { IfOk result (λ copies. joined copies.items ≡ joined chunks.now) }
     ensures full { AreFull chunks.now → IfOk result (λ copies. AreFull copies.items) }
     ensures refusal { OnlyNoMemory result }
@@ -239,7 +239,7 @@ fn number_at(numbers: &[u32], place: usize) -> Option<u32>
 }
 
 /// The numbers of the chunks.
-fn gathered(alloc: Global, chunks: &[Chunk]) -> Result<Vec<u32>, Refusal>
+fn gathered(alloc: Global, chunks: &[SlotChunk]) -> Result<Vec<u32>, Refusal>
     ensures all { IfOk result (λ all. all.items ≡ joined chunks.now) }
     ensures refusal { OnlyNoMemory result }
 {
@@ -253,7 +253,7 @@ fn gathered(alloc: Global, chunks: &[Chunk]) -> Result<Vec<u32>, Refusal>
 }
 
 /// The table of the numbers.
-fn divided(alloc: Global, all: &[u32]) -> Result<Table, Refusal>
+fn divided(alloc: Global, all: &[u32]) -> Result<SlotTable, Refusal>
     requires { length all.now ≤ 2 ^ 31 }
     ensures numbers { IfOk result (λ table. numbers table ≡ all.now) }
     ensures refusal { OnlyNoMemory result }
@@ -262,10 +262,10 @@ fn divided(alloc: Global, all: &[u32]) -> Result<Table, Refusal>
     let mut rest = all;
     'rest: while rest.len() >= WIDTH {
         let (front, back) = rest.split_at(WIDTH);
-        full.push(Chunk::own(alloc, front)?)?;
+        full.push(SlotChunk::own(alloc, front)?)?;
         rest = back;
     }
-    Ok(Table {
+    Ok(SlotTable {
         full,
         last: Vec::from_slice(alloc, rest)?,
     })

@@ -2,4 +2,4 @@
 
 /// The version, the first digits of the checksum of the sources, and the toolchain that they are proved with.
 pub(crate) const RELEASE: &str =
-    "1.5.4 (sources 299a0bdbe32e, rattle-kit-13f logic dac8208d650f15bf)";
+    "1.5.5 (sources 399ad1beed61, rattle-kit-13f logic dac8208d650f15bf)";

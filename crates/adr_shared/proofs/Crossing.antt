@@ -2,7 +2,7 @@
 use denote.RattleType.{RattleType}
 use denote.Param.Send.{IsSend, IsSync, sendable}
 use Rattle.std.proofs.Crossing as std
-use Rattle.adr_shared.specs.declared.key.Key.{Ghosts}
+use Rattle.adr_shared.specs.declared.key.MapKey.{Ghosts}
 use Rattle.adr_shared.specs.contracts.list.SharedList as SharedList
 use Rattle.adr_shared.specs.contracts.map.SharedMap as SharedMap
 use Rattle.adr_shared.specs.contracts.shared.Shared as Shared

@@ -3,22 +3,22 @@ ghost use Rattle.std.specs.Prelude.{◌≡◌};
 ghost use Rattle.adr_refusal.specs.Copy.{IsCopyOf};
 ghost use Rattle.adr_shared.specs.Map.{code_cmp};
 
-use crate::key::{Key, Sought};
+use crate::key::{MapKey, Sought};
 use adr_refusal::{Refusal, TryClone};
 use std::cmp::Ordering;
 use std::marker::Model;
 
 /// A key and its value, and the key's lead beside them. Contracts see the key's code and the value.
-pub struct Entry<K: Key, V: TryClone> {
+pub struct MapEntry<K: MapKey, V: TryClone> {
     lead: u64,
     key: K,
     value: V,
 }
 
 // A function of its own, so that callers that let a value go need not look into it.
-impl<K: Key, V: TryClone> Drop for Entry<K, V> {
+impl<K: MapKey, V: TryClone> Drop for MapEntry<K, V> {
     fn drop(self) {
-        let Entry {
+        let MapEntry {
             lead: _,
             key,
             value,
@@ -28,7 +28,7 @@ impl<K: Key, V: TryClone> Drop for Entry<K, V> {
     }
 }
 
-impl<K: Key, V: TryClone> Model for Entry<K, V> {
+impl<K: MapKey, V: TryClone> Model for MapEntry<K, V> {
     ghost use Rattle.std.specs.Prelude.{◌≡◌, ℕ, List};
 
     ghost Value = { List ℕ × V };
@@ -38,12 +38,12 @@ impl<K: Key, V: TryClone> Model for Entry<K, V> {
     ghost invariant = { λ e. e.lead ≡ K.lead_of e.key };
 }
 
-impl<K: Key, V: TryClone> Entry<K, V> {
+impl<K: MapKey, V: TryClone> MapEntry<K, V> {
     /// The entry of a key and a value.
-    pub fn new(key: K, value: V) -> Entry<K, V>
+    pub fn new(key: K, value: V) -> MapEntry<K, V>
         ensures { result ≡ (K.code key, value) }
     {
-        Entry {
+        MapEntry {
             lead: key.lead(),
             key,
             value,
@@ -75,7 +75,7 @@ impl<K: Key, V: TryClone> Entry<K, V> {
     }
 
     /// The order of another entry's key and this one's.
-    pub fn order_of_entry(&self, other: &Entry<K, V>) -> Ordering
+    pub fn order_of_entry(&self, other: &MapEntry<K, V>) -> Ordering
         ensures { result ≡ code_cmp other.now.0 self.now.0 }
     {
         other.key.compare_led(other.lead, &self.key, self.lead)
@@ -86,10 +86,10 @@ impl<K: Key, V: TryClone> Entry<K, V> {
     /// # Errors
     ///
     /// `NoMemory` where there is no room for what the key's or the value's copy takes.
-    pub fn copy(&self) -> Result<Entry<K, V>, Refusal>
+    pub fn copy(&self) -> Result<MapEntry<K, V>, Refusal>
         ensures { IsCopyOf result self.now }
     {
-        Ok(Entry {
+        Ok(MapEntry {
             lead: self.lead,
             key: self.key.try_clone()?,
             value: self.value.try_clone()?,

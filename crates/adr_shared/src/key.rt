@@ -14,7 +14,7 @@ use std::cmp::Ordering;
 /// A lead is a number kept beside a key, so that most comparisons need not follow the key to its memory: the key with
 /// the smaller lead is the smaller key, and only keys with one lead have to be compared themselves. A good lead is made
 /// of the code's beginning.
-pub trait Key: TryClone {
+pub trait MapKey: TryClone {
     ghost code: { Self → List ℕ };
 
     ghost lead_of: { Self → ℕ };
@@ -37,7 +37,7 @@ pub trait Key: TryClone {
 /// What a key is sought by: the key itself, or a form of it that owns nothing, as a text is of an id.
 ///
 /// It has a code and a lead as keys have, and is found where a key with its code is.
-pub trait Sought<K: Key> {
+pub trait Sought<K: MapKey> {
     ghost code: { Self → List ℕ };
 
     ghost lead_of: { Self → ℕ };
@@ -56,11 +56,11 @@ pub trait Sought<K: Key> {
 
 /// A key that is sought by itself.
 #[derive(Drop)]
-pub(crate) struct Itself<'a, K: Key> {
+pub(crate) struct Itself<'a, K: MapKey> {
     pub(crate) key: &'a K,
 }
 
-impl<K: Key> Sought<K> for Itself<'_, K> {
+impl<K: MapKey> Sought<K> for Itself<'_, K> {
     ghost code = { λ s. K.code s.key.now };
 
     ghost lead_of = { λ s. K.lead_of s.key.now };
@@ -76,7 +76,7 @@ impl<K: Key> Sought<K> for Itself<'_, K> {
     }
 }
 
-impl Key for u64 {
+impl MapKey for u64 {
     ghost code = { λ n. n ∷ [] };
 
     ghost lead_of = { λ n. n };

@@ -9,7 +9,7 @@ mod map;
 mod shared;
 mod tree;
 
-pub use key::{Key, Sought};
+pub use key::{MapKey, Sought};
 pub use lead::{text_lead, text_lead_laws};
 pub use list::SharedList;
 pub use map::{SharedMap, look_up_laws};

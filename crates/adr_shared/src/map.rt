@@ -5,7 +5,7 @@ ghost use Rattle.adr_refusal.specs.Copy.{IsCopyOf};
 ghost use Rattle.adr_shared.specs.Map.{IsAscending, lookup, put, without, place_of};
 ghost use Rattle.adr_shared.specs.Laws.{PutIsFound, TakenIsGone};
 
-use crate::key::{Itself, Key, Sought};
+use crate::key::{Itself, MapKey, Sought};
 use crate::tree::Tree;
 use adr_refusal::{Refusal, TryClone};
 use std::alloc::Global;
@@ -17,19 +17,19 @@ use std::marker::Model;
 /// Contracts see it as its entries, each the code of its key and its value, in the order of the codes. With `n`
 /// entries a path has at most `2 log2 (n + 1) + 1` nodes, 29 at 16,384: see `height`. There are at most 4,294,967,295
 /// entries.
-pub struct SharedMap<K: Key, V: TryClone> {
+pub struct SharedMap<K: MapKey, V: TryClone> {
     tree: Tree<K, V>,
 }
 
 // A function of its own, so that callers that let a value go need not look into it.
-impl<K: Key, V: TryClone> Drop for SharedMap<K, V> {
+impl<K: MapKey, V: TryClone> Drop for SharedMap<K, V> {
     fn drop(self) {
         let SharedMap { tree } = self;
         drop(tree);
     }
 }
 
-impl<K: Key, V: TryClone> Model for SharedMap<K, V> {
+impl<K: MapKey, V: TryClone> Model for SharedMap<K, V> {
     ghost use Rattle.std.specs.Prelude.{List, ℕ};
     ghost use Rattle.adr_shared.specs.Map.{IsAscending};
 
@@ -40,7 +40,7 @@ impl<K: Key, V: TryClone> Model for SharedMap<K, V> {
     ghost invariant = { λ m. IsAscending m.tree.0 };
 }
 
-impl<K: Key, V: TryClone> SharedMap<K, V> {
+impl<K: MapKey, V: TryClone> SharedMap<K, V> {
     /// The map without entries. It takes no memory.
     pub fn new() -> SharedMap<K, V>
         ensures { result ≡ [] }
@@ -151,7 +151,7 @@ impl<K: Key, V: TryClone> SharedMap<K, V> {
     }
 }
 
-impl<K: Key, V: TryClone> TryClone for SharedMap<K, V> {
+impl<K: MapKey, V: TryClone> TryClone for SharedMap<K, V> {
     fn try_clone(&self) -> Result<SharedMap<K, V>, Refusal> {
         self.copy()
     }

@@ -8,8 +8,8 @@ ghost use Rattle.adr_shared.specs.Map.{IsAscending, lookup, put, without, place_
 ghost use Rattle.adr_shared.specs.Tree.{IsEdited, IsBalanced, IsSplit};
 ghost use Rattle.adr_shared.specs.Sides.{DifferByAtMost};
 
-use crate::entry::Entry;
-use crate::key::{Itself, Key, Sought};
+use crate::entry::MapEntry;
+use crate::key::{Itself, MapKey, Sought};
 use adr_refusal::{Refusal, TryClone};
 use std::alloc::Global;
 use std::cmp::Ordering;
@@ -19,7 +19,7 @@ use std::sync::Arc;
 /// A balanced tree, seen as its entries in order and its height. An empty one takes no memory.
 #[cycle(tree)]
 #[derive(Drop)]
-pub struct Tree<K: Key, V: TryClone> {
+pub struct Tree<K: MapKey, V: TryClone> {
     root: Root<K, V>,
 }
 
@@ -27,7 +27,7 @@ pub struct Tree<K: Key, V: TryClone> {
 // a look at the node; before the pointer they take no room of their own.
 #[cycle(tree)]
 #[derive(Drop)]
-enum Root<K: Key, V: TryClone> {
+enum Root<K: MapKey, V: TryClone> {
     Empty,
     Fork {
         height: u8,
@@ -40,13 +40,13 @@ enum Root<K: Key, V: TryClone> {
 // entry's lead.
 #[cycle(tree)]
 #[derive(Drop)]
-struct Node<K: Key, V: TryClone> {
+struct Node<K: MapKey, V: TryClone> {
     left: Tree<K, V>,
     right: Tree<K, V>,
-    entry: Entry<K, V>,
+    entry: MapEntry<K, V>,
 }
 
-impl<K: Key, V: TryClone> Model for Tree<K, V> {
+impl<K: MapKey, V: TryClone> Model for Tree<K, V> {
     ghost use Rattle.std.specs.Prelude.{ℕ, List, length};
 
     ghost Value = { List (List ℕ × V) × ℕ };
@@ -64,7 +64,7 @@ impl<K: Key, V: TryClone> Model for Tree<K, V> {
     ghost size_decreases = { λ a h. Prim.grind (arith, length-append) };
 }
 
-impl<K: Key, V: TryClone> Tree<K, V> {
+impl<K: MapKey, V: TryClone> Tree<K, V> {
     /// The tree without entries.
     pub fn new() -> Tree<K, V>
         ensures { result ≡ ([], 0) }
@@ -155,7 +155,7 @@ impl<K: Key, V: TryClone> Tree<K, V> {
 
     // The entry at a place.
     #[inline(always)]
-    fn entry_at(&self, place: usize) -> Option<&Entry<K, V>>
+    fn entry_at(&self, place: usize) -> Option<&MapEntry<K, V>>
         ensures { option_copied result ≡ slice_get self.now.0 place }
     {
         let mut rest = self;
@@ -208,11 +208,11 @@ impl<K: Key, V: TryClone> Tree<K, V> {
         requires { IsAscending self.now.0 }
         ensures { IsEdited result (put (K.code key) value self.now.0) self.now.1 (self.now.1 + 1) }
     {
-        self.put_entry(alloc, Entry::new(key, value))
+        self.put_entry(alloc, MapEntry::new(key, value))
     }
 
     // As `put`, of an entry.
-    fn put_entry(&self, alloc: Global, entry: Entry<K, V>) -> Result<Tree<K, V>, Refusal>
+    fn put_entry(&self, alloc: Global, entry: MapEntry<K, V>) -> Result<Tree<K, V>, Refusal>
         requires { IsAscending self.now.0 }
         ensures { IsEdited result (put entry.0 entry.1 self.now.0) self.now.1 (self.now.1 + 1) }
     {
@@ -290,12 +290,12 @@ impl<K: Key, V: TryClone> Tree<K, V> {
 
 // A tree's least entry, and the tree of the others.
 #[derive(Drop)]
-struct First<K: Key, V: TryClone> {
-    entry: Entry<K, V>,
+struct First<K: MapKey, V: TryClone> {
+    entry: MapEntry<K, V>,
     rest: Tree<K, V>,
 }
 
-impl<K: Key, V: TryClone> Node<K, V> {
+impl<K: MapKey, V: TryClone> Node<K, V> {
     // The tree with this node's entry and right side, and another left side.
     fn with_left(&self, alloc: Global, left: Tree<K, V>) -> Result<Tree<K, V>, Refusal>
         requires { DifferByAtMost 2 left.1 self.now.right.1 }
@@ -348,7 +348,7 @@ impl<K: Key, V: TryClone> Node<K, V> {
         &self,
         alloc: Global,
         left: Tree<K, V>,
-        entry: Entry<K, V>,
+        entry: MapEntry<K, V>,
     ) -> Result<Tree<K, V>, Refusal>
         requires { DifferByAtMost 1 left.1 self.now.left.1 }
         ensures { IsCopyOf result (left.0 ++ entry ∷ self.now.left.0, max left.1 self.now.left.1 + 1) }
@@ -360,7 +360,7 @@ impl<K: Key, V: TryClone> Node<K, V> {
     fn fork_after(
         &self,
         alloc: Global,
-        entry: Entry<K, V>,
+        entry: MapEntry<K, V>,
         right: Tree<K, V>,
     ) -> Result<Tree<K, V>, Refusal>
         requires { DifferByAtMost 1 self.now.right.1 right.1 }
@@ -371,10 +371,10 @@ impl<K: Key, V: TryClone> Node<K, V> {
 }
 
 // The tree with a node's sides and another entry. The node may have other owners, so it stays as it is.
-fn with_entry<K: Key, V: TryClone>(
+fn with_entry<K: MapKey, V: TryClone>(
     alloc: Global,
     node: &Arc<Node<K, V>>,
-    entry: Entry<K, V>,
+    entry: MapEntry<K, V>,
 ) -> Result<Tree<K, V>, Refusal>
     requires { DifferByAtMost 1 (arc_value node.now).left.1 (arc_value node.now).right.1 }
     ensures { IsCopyOf result ((arc_value node.now).left.0 ++ entry ∷ (arc_value node.now).right.0, max (arc_value node.now).left.1 (arc_value node.now).right.1 + 1) }
@@ -383,10 +383,10 @@ fn with_entry<K: Key, V: TryClone>(
 }
 
 // The tree of an entry between two sides whose heights differ by at most one.
-fn fork<K: Key, V: TryClone>(
+fn fork<K: MapKey, V: TryClone>(
     alloc: Global,
     left: Tree<K, V>,
-    entry: Entry<K, V>,
+    entry: MapEntry<K, V>,
     right: Tree<K, V>,
 ) -> Result<Tree<K, V>, Refusal>
     requires { DifferByAtMost 1 left.1 right.1 }
@@ -410,10 +410,10 @@ fn fork<K: Key, V: TryClone>(
 }
 
 // The tree of an entry between two sides whose heights differ by at most two.
-fn balance<K: Key, V: TryClone>(
+fn balance<K: MapKey, V: TryClone>(
     alloc: Global,
     left: Tree<K, V>,
-    entry: Entry<K, V>,
+    entry: MapEntry<K, V>,
     right: Tree<K, V>,
 ) -> Result<Tree<K, V>, Refusal>
     requires { DifferByAtMost 2 left.1 right.1 }
@@ -429,10 +429,10 @@ fn balance<K: Key, V: TryClone>(
 }
 
 // The tree of an entry between two sides, the left of which is two higher.
-fn lean_left<K: Key, V: TryClone>(
+fn lean_left<K: MapKey, V: TryClone>(
     alloc: Global,
     left: &Tree<K, V>,
-    entry: Entry<K, V>,
+    entry: MapEntry<K, V>,
     right: Tree<K, V>,
 ) -> Result<Tree<K, V>, Refusal>
     requires { left.now.1 ≡ right.1 + 2 }
@@ -456,10 +456,10 @@ fn lean_left<K: Key, V: TryClone>(
 }
 
 // The tree of an entry between two sides, the right of which is two higher.
-fn lean_right<K: Key, V: TryClone>(
+fn lean_right<K: MapKey, V: TryClone>(
     alloc: Global,
     left: Tree<K, V>,
-    entry: Entry<K, V>,
+    entry: MapEntry<K, V>,
     right: &Tree<K, V>,
 ) -> Result<Tree<K, V>, Refusal>
     requires { right.now.1 ≡ left.1 + 2 }
@@ -483,7 +483,7 @@ fn lean_right<K: Key, V: TryClone>(
 }
 
 // The tree of the entries of two sides whose heights differ by at most one.
-fn join<K: Key, V: TryClone>(
+fn join<K: MapKey, V: TryClone>(
     alloc: Global,
     left: &Tree<K, V>,
     right: &Tree<K, V>,

@@ -1,5 +1,5 @@
 //! Decimals, as they are spelled and as they are printed.
-use crate::rows::{Asked, check};
+use crate::rows::{Spelled, check};
 use adr_value::{Decimal, Refusal, decimal_laws};
 use std::alloc::Global;
 use std::test::Fail;
@@ -69,5 +69,5 @@ pub(crate) fn spells(alloc: Global, text: &str, wanted: &str) -> Result<bool, Re
 #[test]
 fn spellings_are_read_and_printed(rt: HostRuntime) -> Result<(), Fail> {
     decimal_laws();
-    check(rt.alloc(), Asked::Decimal, SPELLINGS)
+    check(rt.alloc(), Spelled::Decimal, SPELLINGS)
 }

@@ -35,7 +35,7 @@ const TURNS: u32 = 10_000;
 /// What has happened: each of two readers has a query, and the edit behind it has its reply. Each reader waits at its
 /// first query for all of it. Where turns ran out, `missed` is set.
 #[derive(Drop)]
-struct Meeting<R> {
+struct FanMeeting<R> {
     rt: R,
     first: AtomicBool,
     second: AtomicBool,
@@ -43,9 +43,9 @@ struct Meeting<R> {
     missed: AtomicBool,
 }
 
-impl<R: Clock> Meeting<R> {
-    fn new(rt: R) -> Meeting<R> {
-        Meeting {
+impl<R: Clock> FanMeeting<R> {
+    fn new(rt: R) -> FanMeeting<R> {
+        FanMeeting {
             rt,
             first: AtomicBool::new(false),
             second: AtomicBool::new(false),
@@ -69,7 +69,7 @@ impl<R: Clock> Meeting<R> {
     }
 }
 
-impl<R: Clock> Gate for Meeting<R> {
+impl<R: Clock> Gate for FanMeeting<R> {
     fn pass(&self, worker: usize) {
         let mine = if worker == 0 {
             &self.first
@@ -86,7 +86,7 @@ impl<R: Clock> Gate for Meeting<R> {
 struct Late<'a, R> {
     first: Pieces<'a>,
     second: Pieces<'a>,
-    meeting: &'a Meeting<R>,
+    meeting: &'a FanMeeting<R>,
 }
 
 impl<R: Clock> Read for Late<'_, R> {
@@ -104,7 +104,7 @@ impl<R: Clock> Read for Late<'_, R> {
 #[derive(Drop)]
 struct Noting<'a, R> {
     sink: Sink,
-    meeting: &'a Meeting<R>,
+    meeting: &'a FanMeeting<R>,
 }
 
 impl<R> Write for Noting<'_, R> {
@@ -123,7 +123,7 @@ impl<R> Write for Noting<'_, R> {
 
 #[test]
 fn the_editor_goes_on_while_readers_answer(rt: HostRuntime) -> Result<(), Fail> {
-    let gate = Arc::new(rt.alloc(), Meeting::new(rt.clone()?))?;
+    let gate = Arc::new(rt.alloc(), FanMeeting::new(rt.clone()?))?;
     let mut reader = Late {
         first: Pieces::new(MEETING, 65_536),
         second: Pieces::new(LATE_QUERY, 65_536),

@@ -1,5 +1,5 @@
 //! Jobs that the words of a command line ask for.
-use crate::rows::{Asked, check};
+use crate::rows::{Spelled, check};
 use adr_model::Tie;
 use adr_server::{Job, job};
 use adr_value::Refusal;
@@ -56,5 +56,5 @@ pub(crate) fn is_asked(alloc: Global, text: &str, wanted: &str) -> Result<bool, 
 
 #[test]
 fn jobs_are_asked_for(rt: HostRuntime) -> Result<(), Fail> {
-    check(rt.alloc(), Asked::Job, JOBS)
+    check(rt.alloc(), Spelled::Job, JOBS)
 }

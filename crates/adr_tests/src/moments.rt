@@ -1,5 +1,5 @@
 //! Moments, as they are read and as they are printed.
-use crate::rows::{Asked, check};
+use crate::rows::{Spelled, check};
 use adr_time::{Moment, print_moment};
 use adr_value::Refusal;
 use std::alloc::Global;
@@ -59,10 +59,10 @@ pub(crate) fn is_told(alloc: Global, moment: Moment, wanted: &str) -> Result<boo
 
 #[test]
 fn moments_are_read_and_printed(rt: HostRuntime) -> Result<(), Fail> {
-    check(rt.alloc(), Asked::Moment, MOMENTS)
+    check(rt.alloc(), Spelled::Moment, MOMENTS)
 }
 
 #[test]
 fn starts_are_read(rt: HostRuntime) -> Result<(), Fail> {
-    check(rt.alloc(), Asked::Start, STARTS)
+    check(rt.alloc(), Spelled::Start, STARTS)
 }

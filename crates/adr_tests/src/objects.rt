@@ -1,5 +1,5 @@
 //! Objects and edits, and copies of them.
-use crate::rows::{Asked, check};
+use crate::rows::{Spelled, check};
 use adr_object::Object;
 use adr_test_values::bodies::{edit, kind_of, object, word};
 use adr_test_values::same::Same;
@@ -49,7 +49,7 @@ resource r1 {"resourceName":"R","venID":"v1","targets":[{"type":"GROUP","values"
 
 #[test]
 fn objects_are_copied(rt: HostRuntime) -> Result<(), Fail> {
-    check(rt.alloc(), Asked::Object, OBJECTS)
+    check(rt.alloc(), Spelled::Object, OBJECTS)
 }
 
 /// Whether a copy of the edit of a line is equal.
@@ -70,5 +70,5 @@ delete resource r1 {}"#;
 
 #[test]
 fn edits_are_copied(rt: HostRuntime) -> Result<(), Fail> {
-    check(rt.alloc(), Asked::Edit, EDITS)
+    check(rt.alloc(), Spelled::Edit, EDITS)
 }

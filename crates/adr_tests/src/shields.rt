@@ -1,5 +1,5 @@
 //! Bodies behind the shield.
-use crate::rows::{Asked, check};
+use crate::rows::{Spelled, check};
 use adr_value::shield_laws;
 use std::test::Fail;
 
@@ -34,5 +34,5 @@ BadNumber = "a\u0000"#;
 #[test]
 fn bodies_are_shielded(rt: HostRuntime) -> Result<(), Fail> {
     shield_laws();
-    check(rt.alloc(), Asked::Body, BODIES)
+    check(rt.alloc(), Spelled::Body, BODIES)
 }

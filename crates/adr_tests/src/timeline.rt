@@ -27,9 +27,9 @@ fn one(alloc: Global, start: i128, end: i128, written: u64) -> Result<Timeline, 
 }
 
 /// The start, the end and the written number of a segment, whose place is 0.
-type Row = (i128, i128, u64);
+type SegmentRow = (i128, i128, u64);
 
-fn is_row(segment: &PackedSegment, row: Row) -> bool {
+fn is_row(segment: &PackedSegment, row: SegmentRow) -> bool {
     let (start, end, written) = row;
     let winner = segment.winner();
     let is_alike = segment.start() == at(start) && segment.end() == End::At(at(end));
@@ -37,7 +37,7 @@ fn is_row(segment: &PackedSegment, row: Row) -> bool {
 }
 
 /// The rows behind those of the segments, or none where the first ones aren't theirs.
-fn rows_behind<'a>(segments: &[PackedSegment], rows: &'a [Row]) -> Option<&'a [Row]> {
+fn rows_behind<'a>(segments: &[PackedSegment], rows: &'a [SegmentRow]) -> Option<&'a [SegmentRow]> {
     let mut rest = rows;
     for segment in segments {
         let (row, later) = rest.split_first()?;
@@ -50,7 +50,7 @@ fn rows_behind<'a>(segments: &[PackedSegment], rows: &'a [Row]) -> Option<&'a [R
 }
 
 /// Whether these are the segments of the timeline, in this order, and no others.
-fn has(timeline: &Timeline, wanted: &[Row]) -> bool {
+fn has(timeline: &Timeline, wanted: &[SegmentRow]) -> bool {
     let mut rest = wanted;
     for chunk in timeline.segments() {
         match rows_behind(chunk.segments(), rest) {
@@ -62,7 +62,7 @@ fn has(timeline: &Timeline, wanted: &[Row]) -> bool {
 }
 
 /// What the three show.
-const SHOWN: &[Row] = &[(0, 5, 4), (5, 15, 5), (15, 20, 6)];
+const SHOWN: &[SegmentRow] = &[(0, 5, 4), (5, 15, 5), (15, 20, 6)];
 
 /// Whether the timeline of the three tells whose entry governs, or 0, and until when.
 fn is_told(timeline: &Timeline) -> bool {
@@ -86,7 +86,7 @@ fn is_told(timeline: &Timeline) -> bool {
 }
 
 /// Windows of the timeline of the three, and what is shown inside.
-const CLIPPED: [(i128, i128, &[Row]); 2] = [
+const CLIPPED: [(i128, i128, &[SegmentRow]); 2] = [
     (5, 6, &[(5, 6, 5)]),
     (4, 16, &[(4, 5, 4), (5, 15, 5), (15, 16, 6)]),
 ];
@@ -105,7 +105,7 @@ fn is_clipped(timeline: &Timeline) -> Result<bool, Refusal> {
 }
 
 /// Whether a copy of the timeline shows this.
-fn is_copied(timeline: &Timeline, wanted: &[Row]) -> Result<bool, Refusal> {
+fn is_copied(timeline: &Timeline, wanted: &[SegmentRow]) -> Result<bool, Refusal> {
     let copy = timeline.copy()?;
     let has = has(&copy, wanted);
     drop(copy);
@@ -144,7 +144,7 @@ fn the_least_entry_is_shown(rt: HostRuntime) -> Result<(), Fail> {
 /// Windows of a timeline from 0 up to 10 into which timelines of one entry are spliced in turn, behind its start, its
 /// end and its number, and the segments after each. The first entry parts the timeline, the second shows what was shown
 /// before and makes it whole, and the third follows with the same winner and makes the segment longer.
-const SPLICED: [(i128, i128, u64, &[Row]); 3] = [
+const SPLICED: [(i128, i128, u64, &[SegmentRow]); 3] = [
     (4, 6, 5, &[(0, 4, 4), (4, 6, 5), (6, 10, 4)]),
     (4, 6, 4, &[(0, 10, 4)]),
     (10, 12, 4, &[(0, 12, 4)]),

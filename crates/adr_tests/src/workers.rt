@@ -48,16 +48,16 @@ const MEETINGS: [(&str, usize); 6] = [
 
 /// Each of two workers waits at its first job until the other has begun.
 #[derive(Drop)]
-struct Meeting<R> {
+struct WorkerMeeting<R> {
     rt: R,
     first: AtomicBool,
     second: AtomicBool,
     missed: AtomicBool,
 }
 
-impl<R> Meeting<R> {
-    fn new(rt: R) -> Meeting<R> {
-        Meeting {
+impl<R> WorkerMeeting<R> {
+    fn new(rt: R) -> WorkerMeeting<R> {
+        WorkerMeeting {
             rt,
             first: AtomicBool::new(false),
             second: AtomicBool::new(false),
@@ -73,7 +73,7 @@ impl<R> Meeting<R> {
     }
 }
 
-impl<R: Clock> Gate for Meeting<R> {
+impl<R: Clock> Gate for WorkerMeeting<R> {
     fn pass(&self, worker: usize) {
         let (mine, other) = if worker == 0 {
             (&self.first, &self.second)
@@ -129,7 +129,7 @@ fn make_all<G: Gate + Sync>(
 /// Whether the workers of the edit behind so many run at once.
 fn meet<R: AllocGlobal + Clock + Threads + Sync>(
     rt: &R,
-    gate: &Meeting<R>,
+    gate: &WorkerMeeting<R>,
     tie: Tie,
     edits: (&str, usize),
 ) -> Result<bool, Refusal> {
@@ -144,7 +144,7 @@ fn meet<R: AllocGlobal + Clock + Threads + Sync>(
 fn two_workers_run_at_once(rt: HostRuntime) -> Result<(), Fail> {
     for edits in MEETINGS {
         for tie in [Tie::Newest, Tie::LatestStart] {
-            let meeting = Meeting::new(rt.clone()?);
+            let meeting = WorkerMeeting::new(rt.clone()?);
             assert!(rt; meet(&rt, &meeting, tie, edits)?, "{}", edits.1);
         }
     }

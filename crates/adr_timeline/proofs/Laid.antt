@@ -14,7 +14,7 @@ use Rattle.adr_model.specs.declared.entry.Rank.{Rank}
 use Rattle.adr_model.specs.declared.timeline.Winner.{Winner}
 use Rattle.adr_model.specs.declared.timeline.Segment.{Segment}
 use Rattle.adr_model.specs.Timeline.{shows, span_of, IsCanonical}
-use Rattle.adr_timeline.specs.declared.step.Step.{Step}
+use Rattle.adr_timeline.specs.declared.step.RankStep.{RankStep}
 use Rattle.adr_timeline.specs.Parts.{part, joined_all}
 use Rattle.adr_timeline.specs.Chunks.{listed}
 use Rattle.adr_timeline.specs.Overlay.{hull_with, hull, shown_entry, spans_of}
@@ -148,7 +148,7 @@ run_apart (e ∷ es) h =
 -- ---- what is laid over
 
 -- inside the window
-pub inside_shows : (shown es : List Entry) (new : List Segment) (steps : List Step) (w : Span) → IsInOrder steps → ((t : ℤ) → rank_from None steps t ≡ lesser (rank_at shown t) (rank_at es t)) → new ≡ joined_all [] (part (Some w.start) w.end (pieces steps)) → (t : ℤ) → shows new t ≡ (if covers w t then option_map winner_of_rank (lesser (rank_at shown t) (rank_at es t)) else None)
+pub inside_shows : (shown es : List Entry) (new : List Segment) (steps : List RankStep) (w : Span) → IsInOrder steps → ((t : ℤ) → rank_from None steps t ≡ lesser (rank_at shown t) (rank_at es t)) → new ≡ joined_all [] (part (Some w.start) w.end (pieces steps)) → (t : ℤ) → shows new t ≡ (if covers w t then option_map winner_of_rank (lesser (rank_at shown t) (rank_at es t)) else None)
 inside_shows shown es new steps w o r n t =
     let made = clip_made (pieces steps) new w (pieces_spread steps o) n in
     made.shown t ∙ ap (λ (v : Option Winner). if covers w t then v else None) (pieces_show steps t o ∙ ap (option_map winner_of_rank) (r t))

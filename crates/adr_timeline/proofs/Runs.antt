@@ -9,7 +9,7 @@ use Rattle.adr_time.specs.declared.span.Span.{Span}
 use Rattle.adr_model.specs.declared.entry.Entry.{Entry}
 use Rattle.adr_model.specs.declared.entry.Rank.{Rank}
 use Rattle.adr_model.specs.declared.timeline.Segment.{Segment}
-use Rattle.adr_timeline.specs.declared.step.Step.{Step}
+use Rattle.adr_timeline.specs.declared.step.RankStep.{RankStep}
 use Rattle.adr_timeline.specs.Build.{Takes}
 use Rattle.adr_timeline.specs.Parts.{joined_all, part}
 use Rattle.adr_timeline.specs.Steps.{Adds, AreRanked, IsMergeOf, goes_left, down_at, own_segment, pieces, steps_of, starts_from, is_run, rises, steps_in_turn, winner_of_rank}
@@ -18,19 +18,19 @@ use Rattle.adr_timeline.proofs.Least.{rank_append}
 use Rattle.adr_timeline.proofs.Stepped.{steps_rank, steps_order, steps_few}
 
 -- the steps start at the end or later
-abbrev StartFrom : End → List Step → Type 0
+abbrev StartFrom : End → List RankStep → Type 0
 StartFrom e [] = Unit {0}
 StartFrom e (s ∷ ss) = not (is_before s.from e) ≡ true
 
 -- nothing comes before the rest
-merge_rest : (b : Option Rank) (rest : List Step) → IsMerge None b [] rest rest
+merge_rest : (b : Option Rank) (rest : List RankStep) → IsMerge None b [] rest rest
 merge_rest b [] = merge_none None b
 merge_rest b (s ∷ ss) = merge_right None b s.rank s [] ss ss refl refl (merge_rest s.rank ss)
 
-abbrev pub up : ℤ → Rank → Step
+abbrev pub up : ℤ → Rank → RankStep
 up a r = record { from = a; rank = Some r }
 
-abbrev pub down : ℤ → Step
+abbrev pub down : ℤ → RankStep
 down u = record { from = u; rank = None }
 
 le_of_not : (u t : ℤ) → not (int_lt t u) ≡ true → int_le u t ≡ true
@@ -39,16 +39,16 @@ le_of_not u t h = grind (arith, ints)
 le_through : (a u t : ℤ) → int_lt a u ≡ true → not (int_lt t u) ≡ true → int_le a t ≡ true
 le_through a u t h k = grind (arith, ints)
 
-down_first : (u : ℤ) (rest : List Step) → StartFrom (At u) rest → goes_left (down u ∷ []) rest ≡ true
+down_first : (u : ℤ) (rest : List RankStep) → StartFrom (At u) rest → goes_left (down u ∷ []) rest ≡ true
 down_first u [] h = refl
 down_first u (s ∷ ss) h = le_of_not u s.from h
 
-up_first : (a u : ℤ) (r : Rank) (rest : List Step) → int_lt a u ≡ true → StartFrom (At u) rest → goes_left (up a r ∷ (down u ∷ [])) rest ≡ true
+up_first : (a u : ℤ) (r : Rank) (rest : List RankStep) → int_lt a u ≡ true → StartFrom (At u) rest → goes_left (up a r ∷ (down u ∷ [])) rest ≡ true
 up_first a u r [] n h = refl
 up_first a u r (s ∷ ss) n h = le_through a u s.from n h
 
 -- the steps of one entry, and those that start where it ends or later
-merge_entry : (a : ℤ) (e : End) (r : Rank) (rest : List Step) → is_before a e ≡ true → StartFrom e rest → IsMerge None None (up a r ∷ down_at e) rest ((up a r ∷ down_at e) ++ rest)
+merge_entry : (a : ℤ) (e : End) (r : Rank) (rest : List RankStep) → is_before a e ≡ true → StartFrom e rest → IsMerge None None (up a r ∷ down_at e) rest ((up a r ∷ down_at e) ++ rest)
 merge_entry a (At u) r rest n h =
     merge_left None None (Some r) (up a r) (down u ∷ []) rest (down u ∷ rest) (up_first a u r rest n h) refl
     (merge_left (Some r) None None (down u) [] rest rest (down_first u rest h) refl (merge_rest None rest))
@@ -69,7 +69,7 @@ turn_starts end [] h k = tt
 turn_starts end (e ∷ es) h k = rw (steps_if e (run_parts e es k).0) h
 
 -- the steps of one entry, merged with those of entries in turn
-pub one_ranked : (e : Entry) (es : List Entry) (steps : List Step) → AreRanked es (steps_in_turn es) → IsMergeOf (steps_of e) (steps_in_turn es) steps → AreRanked (e ∷ es) steps
+pub one_ranked : (e : Entry) (es : List Entry) (steps : List RankStep) → AreRanked es (steps_in_turn es) → IsMergeOf (steps_of e) (steps_in_turn es) steps → AreRanked (e ∷ es) steps
 one_ranked e es steps rest merged = (
   merged.0,
   omega (arith, merged.1, steps_few e, rest.1),
@@ -89,7 +89,7 @@ pub run_rises : (es : List Entry) → rises (steps_in_turn es) ≤ length es
 run_rises [] = omega arith
 run_rises (e ∷ es) = let parts = rises_append (steps_of e) (steps_in_turn es) in omega (arith, parts, one_rises e, run_rises es)
   where
-    rises_append : (xs ys : List Step) → rises (xs ++ ys) ≡ rises xs + rises ys
+    rises_append : (xs ys : List RankStep) → rises (xs ++ ys) ≡ rises xs + rises ys
     rises_append [] ys = omega arith
     rises_append (x ∷ xs) ys = let rest = rises_append xs ys in omega (arith, rest)
 
@@ -104,10 +104,10 @@ run_rises (e ∷ es) = let parts = rises_append (steps_of e) (steps_in_turn es) 
         by true h = let up_down = ap rises (steps_if e h) in omega (arith, up_down, down_rises e.span.end)
         by false h = rw h (omega arith)
 
-pub one_few : (e : Entry) (es run : List Entry) (left : List Step) → left ≡ steps_of e → run ≡ es → is_run es ≡ true → length left + length (steps_in_turn run) ≤ 2 * (1 + length es)
+pub one_few : (e : Entry) (es run : List Entry) (left : List RankStep) → left ≡ steps_of e → run ≡ es → is_run es ≡ true → length left + length (steps_in_turn run) ≤ 2 * (1 + length es)
 one_few e es run left l r h = rw (l, r) (omega (arith, steps_few e, (run_ranked es h).1))
 
-pub run_added : (es : List Entry) (old new : List Step) → is_run es ≡ true → new ≡ old ++ steps_in_turn es → Adds (AreRanked es) old new
+pub run_added : (es : List Entry) (old new : List RankStep) → is_run es ≡ true → new ≡ old ++ steps_in_turn es → Adds (AreRanked es) old new
 run_added es old new h n = (steps_in_turn es, n, run_ranked es h)
 
 -- the pieces of one entry, and of those that start where it ends or later

@@ -13,7 +13,7 @@ use Rattle.adr_model.specs.declared.entry.Rank.{Rank}
 use Rattle.adr_model.specs.declared.timeline.Winner.{Winner}
 use Rattle.adr_model.specs.declared.timeline.Segment.{Segment}
 use Rattle.adr_timeline.proofs.Segments.{winner_in}
-use Rattle.adr_timeline.specs.declared.step.Step.{Step}
+use Rattle.adr_timeline.specs.declared.step.RankStep.{RankStep}
 use Rattle.adr_timeline.specs.Steps.{Adds, AreRanked, IsMergeOf, lesser, rises, rank_at, rank_from, IsFrom, IsInOrder, down_at, steps_of, first_from, is_run, winner_of_rank, piece, pieces}
 use Rattle.adr_time.specs.Spans.{meets}
 use Rattle.adr_time.specs.declared.span.Span.{Span}
@@ -70,14 +70,14 @@ steps_few e = steps_few_if e (is_before e.span.start e.span.end)
 
 -- ---- a segment from each step up to the next
 
-from_through : (u v : ℤ) (ss : List Step) → u ≤ℤ v → IsFrom v ss → IsFrom u ss
+from_through : (u v : ℤ) (ss : List RankStep) → u ≤ℤ v → IsFrom v ss → IsFrom u ss
 from_through u v [] h k = tt
 from_through u v (s ∷ ss) h k = (through u v s.from h k.0, k.1)
   where
     through : (a b c : ℤ) → a ≤ℤ b → b ≤ℤ c → a ≤ℤ c
     through a b c p q = omega (arith, ints)
 
-pieces_from : (v : ℤ) (ss : List Step) → IsFrom v ss → StartsAfter (At v) (pieces ss)
+pieces_from : (v : ℤ) (ss : List RankStep) → IsFrom v ss → StartsAfter (At v) (pieces ss)
 pieces_from v [] h = tt
 pieces_from v (s ∷ ss) h = of_rank s.rank (pieces_from v ss (from_through v s.from ss h.0 h.1))
   where
@@ -85,11 +85,11 @@ pieces_from v (s ∷ ss) h = of_rank s.rank (pieces_from v ss (from_through v s.
     of_rank None rest = rest
     of_rank (Some r) rest = h.0
 
-ends_first : (v : ℤ) (ss : List Step) → IsFrom v ss → StartsBy v (first_from ss) × StartsAfter (first_from ss) (pieces ss)
+ends_first : (v : ℤ) (ss : List RankStep) → IsFrom v ss → StartsBy v (first_from ss) × StartsAfter (first_from ss) (pieces ss)
 ends_first v [] h = (tt, tt)
 ends_first v (s ∷ ss) h = (h.0, pieces_from s.from (s ∷ ss) ((let r : s.from ≤ℤ s.from = omega (arith, ints) in r), h.1))
 
-spread_from : (v : ℤ) (ss : List Step) → IsFrom v ss → IsSpread (pieces ss)
+spread_from : (v : ℤ) (ss : List RankStep) → IsFrom v ss → IsSpread (pieces ss)
 spread_from v [] h = tt
 spread_from v (s ∷ ss) h = of_rank s.rank (spread_from s.from ss h.1)
   where
@@ -98,7 +98,7 @@ spread_from v (s ∷ ss) h = of_rank s.rank (spread_from s.from ss h.1)
     of_rank (Some r) rest = let ends = ends_first s.from ss h.1 in (ends.0, ends.1, rest)
 
 -- they stand in order and apart
-pub pieces_spread : (ss : List Step) → IsInOrder ss → IsSpread (pieces ss)
+pub pieces_spread : (ss : List RankStep) → IsInOrder ss → IsSpread (pieces ss)
 pieces_spread [] h = tt
 pieces_spread (s ∷ ss) h = spread_from s.from (s ∷ ss) ((let r : s.from ≤ℤ s.from = omega (arith, ints) in r), h)
 
@@ -133,7 +133,7 @@ shown_next : (a b : ℤ) (r n : Option Rank) (rest : List Segment) (t : ℤ) →
 shown_next a b None n rest t h k = next_none (int_lt t a) (int_lt t b) n (winner_in rest t) (earlier_both t a b h) k
 shown_next a b (Some q) n rest t h k = rw (le_not a t) (next_step (int_lt t a) (int_lt t b) (Some q) n (winner_in rest t) (earlier_both t a b h) k q refl)
 
-shown_from : (s : Step) (ss : List Step) (t : ℤ) → IsFrom s.from ss → winner_in (pieces (s ∷ ss)) t ≡ (if int_lt t s.from then None else option_map winner_of_rank (rank_from s.rank ss t))
+shown_from : (s : RankStep) (ss : List RankStep) (t : ℤ) → IsFrom s.from ss → winner_in (pieces (s ∷ ss)) t ≡ (if int_lt t s.from then None else option_map winner_of_rank (rank_from s.rank ss t))
 shown_from s [] t h = shown_last s.from s.rank t
 shown_from s (r ∷ rs) t h = shown_next s.from r.from s.rank (rank_from r.rank rs t) (pieces (r ∷ rs)) t h.0 (shown_from r rs t h.1)
 
@@ -142,7 +142,7 @@ map_if true o = refl
 map_if false o = refl
 
 -- they show the winner of the last step by each instant
-pub pieces_show : (ss : List Step) (t : ℤ) → IsInOrder ss → winner_in (pieces ss) t ≡ option_map winner_of_rank (rank_from None ss t)
+pub pieces_show : (ss : List RankStep) (t : ℤ) → IsInOrder ss → winner_in (pieces ss) t ≡ option_map winner_of_rank (rank_from None ss t)
 pieces_show [] t h = refl
 pieces_show (s ∷ ss) t h = shown_from s ss t h ∙ map_if (int_lt t s.from) (rank_from s.rank ss t)
 
@@ -190,7 +190,7 @@ pub halves_rank : (front back all : List Entry) (t : ℤ) (left right whole : Op
 halves_rank front back all t left right whole p l r h = rw (h, l, r, p) (sym (rank_append front back t))
 
 -- as many steps go up at most as the ranked entries have
-pub rises_within : (entries : List Entry) (steps : List Step) → AreRanked entries steps → rises steps ≤ 2 * length entries
+pub rises_within : (entries : List Entry) (steps : List RankStep) → AreRanked entries steps → rises steps ≤ 2 * length entries
 rises_within entries steps ranked = omega (arith, rises_few steps, ranked.1)
 
 -- ---- the entries that meet a window
@@ -222,10 +222,10 @@ winner_meeting es w t = elim (cases_Bool (covers w t)) [
 
 -- ---- what is built
 
-pub build_canonical : (steps : List Step) (new : List Segment) (w : Span) → IsInOrder steps → new ≡ joined_all [] (part (Some w.start) w.end (pieces steps)) → IsCanonical new
+pub build_canonical : (steps : List RankStep) (new : List Segment) (w : Span) → IsInOrder steps → new ≡ joined_all [] (part (Some w.start) w.end (pieces steps)) → IsCanonical new
 build_canonical steps new w o n = (clip_made (pieces steps) new w (pieces_spread steps o) n).canonical
 
-pub build_shows : (es : List Entry) (steps : List Step) (new : List Segment) (w : Span) → IsInOrder steps → ((t : ℤ) → rank_from None steps t ≡ rank_at es t) → new ≡ joined_all [] (part (Some w.start) w.end (pieces steps)) → (t : ℤ) → shows new t ≡ (if covers w t then winner_at es t else None)
+pub build_shows : (es : List Entry) (steps : List RankStep) (new : List Segment) (w : Span) → IsInOrder steps → ((t : ℤ) → rank_from None steps t ≡ rank_at es t) → new ≡ joined_all [] (part (Some w.start) w.end (pieces steps)) → (t : ℤ) → shows new t ≡ (if covers w t then winner_at es t else None)
 build_shows es steps new w o r n t =
     let made = clip_made (pieces steps) new w (pieces_spread steps o) n in
     let wins : winner_in (pieces steps) t ≡ winner_at es t = pieces_show steps t o ∙ (ap (option_map winner_of_rank) (r t) ∙ winner_rank es t) in
@@ -234,7 +234,7 @@ build_shows es steps new w o r n t =
 -- ---- the steps of both halves, one after the other
 
 -- the first half's steps, the second's behind them, and those that were there before
-pub parts_there : (before after all l r : List Step) (start middle : ℕ) → after ≡ before ++ l → all ≡ after ++ r → start ≡ length before → middle ≡ length after
+pub parts_there : (before after all l r : List RankStep) (start middle : ℕ) → after ≡ before ++ l → all ≡ after ++ r → start ≡ length before → middle ≡ length after
     → (take start all ≡ before) × (drop start (take middle all) ≡ l) × (drop middle all ≡ r)
 parts_there before after all l r start middle h k s m = (
   rw (s, k, h, append_assoc before l r) (take-append_seam before (l ++ r)),
@@ -242,18 +242,18 @@ parts_there before after all l r start middle h k s m = (
   rw (m, k) (drop-append_seam after r),
 )
 
-pub places_there : (before after all l r : List Step) (start middle : ℕ) → after ≡ before ++ l → all ≡ after ++ r → start ≡ length before → middle ≡ length after
+pub places_there : (before after all l r : List RankStep) (start middle : ℕ) → after ≡ before ++ l → all ≡ after ++ r → start ≡ length before → middle ≡ length after
     → (start ≤ middle) × (middle ≤ length all)
 places_there before after all l r start middle h k s m =
     let within : length after ≡ length before + length l = ap length h ∙ length-append before l in
     let whole : length all ≡ length after + length r = ap length k ∙ length-append after r in
     (omega arith, omega arith)
 
-pub right_part : (after all o r right : List Step) (middle : ℕ) → all ≡ after ++ r → middle ≡ length after → o ≡ all → right ≡ drop middle o → right ≡ r
+pub right_part : (after all o r right : List RankStep) (middle : ℕ) → all ≡ after ++ r → middle ≡ length after → o ≡ all → right ≡ drop middle o → right ≡ r
 right_part after all o r right middle k m is d = d ∙ (rw (m, is, k) (drop-append_seam after r))
 
 -- what both halves give is ranked by all entries
-pub whole_ranked : (front back all : List Entry) (l r steps : List Step) → IsHalved front back all → AreRanked front l → AreRanked back r → IsMergeOf l r steps → AreRanked all steps
+pub whole_ranked : (front back all : List Entry) (l r steps : List RankStep) → IsHalved front back all → AreRanked front l → AreRanked back r → IsMergeOf l r steps → AreRanked all steps
 whole_ranked front back all l r steps h first second merged = (
   merged.0,
   omega (arith, merged.1, first.1, second.1, h.whole),
@@ -261,5 +261,5 @@ whole_ranked front back all l r steps h first second merged = (
 )
 
 -- the steps put at the end of none
-pub from_none : (entries : List Entry) (none new : List Step) → none ≡ [] → Adds (AreRanked entries) none new → AreRanked entries new
-from_none entries none new n made = rw (made.1 ∙ ap (λ (xs : List Step). xs ++ made.0) n) made.2
+pub from_none : (entries : List Entry) (none new : List RankStep) → none ≡ [] → Adds (AreRanked entries) none new → AreRanked entries new
+from_none entries none new n made = rw (made.1 ∙ ap (λ (xs : List RankStep). xs ++ made.0) n) made.2

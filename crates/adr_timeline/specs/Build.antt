@@ -4,7 +4,7 @@ use Rattle.adr_time.specs.declared.span.Span.{Span}
 use Rattle.adr_model.specs.declared.entry.Entry.{Entry}
 use Rattle.adr_model.specs.declared.timeline.Segment.{Segment}
 use Rattle.adr_model.specs.Entries.{meeting}
-use Rattle.adr_timeline.specs.declared.step.Step.{Step}
+use Rattle.adr_timeline.specs.declared.step.RankStep.{RankStep}
 use Rattle.adr_timeline.specs.Parts.{joined_all, part}
 use Rattle.adr_timeline.specs.Steps.{IsInOrder, pieces, rank_at, rank_from}
 
@@ -22,5 +22,5 @@ most_compared_all entries (w ∷ ws) = most_compared entries w + most_compared_a
 -- steps of the least rank of the entries were put at the end of the segments, as far as they are inside the window
 abbrev pub Takes : List Entry → Span → List Segment → List Segment → Type 0
 Takes entries window old new =
-    (steps : List Step) × IsInOrder steps × ((t : ℤ) → rank_from None steps t ≡ rank_at entries t)
+    (steps : List RankStep) × IsInOrder steps × ((t : ℤ) → rank_from None steps t ≡ rank_at entries t)
     × (new ≡ joined_all old (part (Some window.start) window.end (pieces steps)))

@@ -10,7 +10,7 @@ use Rattle.adr_model.specs.declared.timeline.Winner.{Winner}
 use Rattle.adr_model.specs.declared.timeline.Segment.{Segment}
 use Rattle.adr_model.specs.Rank.{goes_before}
 use Rattle.adr_model.specs.Governor.{first_of}
-use Rattle.adr_timeline.specs.declared.step.Step.{Step}
+use Rattle.adr_timeline.specs.declared.step.RankStep.{RankStep}
 
 -- the rank that goes before the other, where there are two
 abbrev pub lesser : Option Rank → Option Rank → Option Rank
@@ -23,7 +23,7 @@ abbrev pub rank_at : List Entry → ℤ → Option Rank
 rank_at entries t = option_map (λ e. e.rank) (first_of (filter (λ e. covers e.span t) entries))
 
 -- the rank of the last step by the instant, where that before the first step is given
-abbrev pub rank_from : Option Rank → List Step → ℤ → Option Rank
+abbrev pub rank_from : Option Rank → List RankStep → ℤ → Option Rank
 rank_from rank [] t = rank
 rank_from rank (s ∷ ss) t = if int_lt t s.from then rank else rank_from s.rank ss t
 
@@ -33,60 +33,60 @@ rise None = 0
 rise (Some rank) = 1
 
 -- how many of the steps lead up to a rank
-abbrev pub rises : List Step → ℕ
+abbrev pub rises : List RankStep → ℕ
 rises [] = 0
 rises (s ∷ ss) = rise s.rank + rises ss
 
 -- the steps are in order, the first at the instant or later
-abbrev pub IsFrom : ℤ → List Step → Type 0
+abbrev pub IsFrom : ℤ → List RankStep → Type 0
 IsFrom t [] = ⊤
 IsFrom t (s ∷ ss) = (t ≤ℤ s.from) × IsFrom s.from ss
 
 -- the steps are in order
-abbrev pub IsInOrder : List Step → Type 0
+abbrev pub IsInOrder : List RankStep → Type 0
 IsInOrder [] = ⊤
 IsInOrder (s ∷ ss) = IsFrom s.from ss
 
 -- such steps were put at the end of others
-abbrev pub Adds : (List Step → Type 0) → List Step → List Step → Type 0
-Adds Is old new = (added : List Step) × (new ≡ old ++ added) × Is added
+abbrev pub Adds : (List RankStep → Type 0) → List RankStep → List RankStep → Type 0
+Adds Is old new = (added : List RankStep) × (new ≡ old ++ added) × Is added
 
 -- the step from a rank to another, or none where they are the same
-abbrev pub IsStepTo : Option Rank → ℤ → Option Rank → List Step → Type 0
+abbrev pub IsStepTo : Option Rank → ℤ → Option Rank → List RankStep → Type 0
 IsStepTo before from rank steps =
     ((steps ≡ record { from = from; rank = rank } ∷ []) × (rank ≡ before → ⊥)) ⊎ ((steps ≡ []) × (rank ≡ before))
 
 -- the steps have the lesser rank of both lists at each instant, and are no more than theirs
-abbrev pub IsMergeOf : List Step → List Step → List Step → Type 0
+abbrev pub IsMergeOf : List RankStep → List RankStep → List RankStep → Type 0
 IsMergeOf left right steps =
     IsInOrder steps × (length steps ≤ length left + length right)
     × ((t : ℤ) → rank_from None steps t ≡ lesser (rank_from None left t) (rank_from None right t))
 
 -- the steps have the least rank of the entries at each instant
-abbrev pub AreRanked : List Entry → List Step → Type 0
+abbrev pub AreRanked : List Entry → List RankStep → Type 0
 AreRanked entries steps =
     IsInOrder steps × (length steps ≤ 2 * length entries) × ((t : ℤ) → rank_from None steps t ≡ rank_at entries t)
 
 -- the next step of two lists is the left one's
-abbrev pub goes_left : List Step → List Step → Bool
+abbrev pub goes_left : List RankStep → List RankStep → Bool
 goes_left left [] = true
 goes_left [] (s ∷ right) = false
 goes_left (r ∷ left) (s ∷ right) = int_le r.from s.from
 
 -- down at the end, where there is one
-abbrev pub down_at : End → List Step
+abbrev pub down_at : End → List RankStep
 down_at (At t) = record { from = t; rank = None } ∷ []
 down_at Endless = []
 
 -- up at the entry's start and down at its end, or none where it covers no instant
-abbrev pub steps_of : Entry → List Step
+abbrev pub steps_of : Entry → List RankStep
 steps_of e =
     if lasts e.span
     then record { from = e.span.start; rank = Some e.rank } ∷ down_at e.span.end
     else []
 
 -- where the first of the steps begins
-abbrev pub first_from : List Step → End
+abbrev pub first_from : List RankStep → End
 first_from [] = Endless
 first_from (s ∷ ss) = At s.from
 
@@ -99,7 +99,7 @@ piece from until None rest = rest
 piece from until (Some rank) rest = record { start = from; end = until; winner = winner_of_rank rank } ∷ rest
 
 -- a segment from each step up to the next
-abbrev pub pieces : List Step → List Segment
+abbrev pub pieces : List RankStep → List Segment
 pieces [] = []
 pieces (s ∷ ss) = piece s.from (first_from ss) s.rank (pieces ss)
 
@@ -114,7 +114,7 @@ is_run [] = true
 is_run (e ∷ es) = lasts e.span && starts_from e.span.end es && is_run es
 
 -- the steps of each entry in turn
-abbrev pub steps_in_turn : List Entry → List Step
+abbrev pub steps_in_turn : List Entry → List RankStep
 steps_in_turn [] = []
 steps_in_turn (e ∷ es) = steps_of e ++ steps_in_turn es
 

@@ -9,7 +9,7 @@ ghost use Rattle.adr_timeline.specs.Windows.{any_covers, are_apart};
 
 use crate::line::Line;
 use crate::near::{Near, find_meeting};
-use crate::step::{Step, is_run, join_run, join_steps, rank_anew};
+use crate::step::{RankStep, is_run, join_run, join_steps, rank_anew};
 use adr_model::Entry;
 use adr_rule::Meter;
 use adr_time::Span;
@@ -35,8 +35,8 @@ pub trait Source {
 #[derive(Drop)]
 struct Workspace {
     found: Vec<Entry>,
-    steps: Vec<Step>,
-    other: Vec<Step>,
+    steps: Vec<RankStep>,
+    other: Vec<RankStep>,
 }
 
 impl Workspace {

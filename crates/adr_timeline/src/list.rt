@@ -2,35 +2,35 @@
 ghost use Rattle.std.specs.Prelude.{◌≡◌, IsTrue, length};
 ghost use Rattle.adr_timeline.specs.Steps.{is_run, steps_in_turn};
 
-use crate::step::Step;
+use crate::step::RankStep;
 use adr_model::Entry;
 use adr_time::End;
 
 /// Steps that are read by place.
 pub(crate) trait StepList: Copy {
     ghost use Rattle.std.specs.Prelude.{◌≡◌, ◌<◌, List, Some, length, slice_get};
-    ghost use Rattle.adr_timeline.specs.declared.step.Step.{Step};
+    ghost use Rattle.adr_timeline.specs.declared.step.RankStep.{RankStep};
 
-    ghost listed: { Self → List Step };
+    ghost listed: { Self → List RankStep };
 
     /// How many steps there are.
     fn count(self) -> usize
         ensures { result ≡ length (listed self) };
 
     /// The step at a place.
-    fn at(self, place: usize) -> Step
+    fn at(self, place: usize) -> RankStep
         requires { place < length (listed self) }
         ensures { slice_get (listed self) place ≡ Some result };
 }
 
-impl<'a> StepList for &'a [Step] {
+impl<'a> StepList for &'a [RankStep] {
     ghost listed = { λ steps. steps.now };
 
     fn count(self) -> usize {
         self.len()
     }
 
-    fn at(self, place: usize) -> Step {
+    fn at(self, place: usize) -> RankStep {
         self[place]
     }
 }
@@ -77,16 +77,16 @@ impl<'a> StepList for StepsInTurn<'a> {
         self.count
     }
 
-    fn at(self, place: usize) -> Step {
+    fn at(self, place: usize) -> RankStep {
         let entry = &self.entries[place / 2];
         if place % 2 == 0 {
-            return Step {
+            return RankStep {
                 from: entry.span.start,
                 rank: Some(entry.rank),
             };
         }
         match entry.span.end {
-            End::At(end) => Step {
+            End::At(end) => RankStep {
                 from: end,
                 rank: None,
             },

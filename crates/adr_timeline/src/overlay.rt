@@ -10,7 +10,7 @@ ghost use Rattle.adr_timeline.specs.Windows.{any_covers, are_apart};
 use crate::chunk::Chunk;
 use crate::list::{StepList, StepsInTurn};
 use crate::packed::PackedSegment;
-use crate::step::{Step, add_run, merge};
+use crate::step::{RankStep, add_run, merge};
 use crate::windows::put_together;
 use adr_model::{Entry, Rank, Winner};
 use adr_rule::Meter;
@@ -122,10 +122,10 @@ pub(crate) fn shown_entries<R: Ranks>(
 /// Two lists of steps merged into one.
 fn merged<R: StepList>(
     alloc: Global,
-    left: &[Step],
+    left: &[RankStep],
     right: R,
     meter: &mut Meter,
-) -> Result<Vec<Step>, AllocError>
+) -> Result<Vec<RankStep>, AllocError>
     requires left { IsInOrder left.now }
     requires right { IsInOrder (R.listed right) }
     ensures merged { IfOk result (λ steps. IsMergeOf left.now (R.listed right) steps.items) }
@@ -144,7 +144,7 @@ pub(crate) fn steps_over(
     shown: &[Entry],
     run: &[Entry],
     meter: &mut Meter,
-) -> Result<Vec<Step>, AllocError>
+) -> Result<Vec<RankStep>, AllocError>
     requires shown { IsTrue (is_run shown.now) }
     requires in_turn { IsTrue (is_run run.now) }
     ensures order { IfOk result (λ steps. IsInOrder steps.items) }

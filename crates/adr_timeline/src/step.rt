@@ -13,7 +13,7 @@ use std::alloc::{AllocError, Global};
 
 /// The least rank from a moment on, up to the next step; None where no entry is.
 #[derive(Clone, Copy)]
-pub(crate) struct Step {
+pub(crate) struct RankStep {
     pub(crate) from: Moment,
     pub(crate) rank: Option<Rank>,
 }
@@ -54,7 +54,7 @@ fn is_same(one: &Option<Rank>, other: &Option<Rank>) -> bool
 
 /// Puts the step to a rank at the end, unless that is the rank of the step before it.
 fn push_change(
-    steps: &mut Vec<Step>,
+    steps: &mut Vec<RankStep>,
     before: Option<Rank>,
     from: Moment,
     rank: Option<Rank>,
@@ -62,13 +62,13 @@ fn push_change(
     ensures { OnOk result (Adds (IsStepTo before from rank) steps.old.items steps.new.items) }
 {
     if !is_same(&rank, &before) {
-        steps.push(Step { from, rank })?;
+        steps.push(RankStep { from, rank })?;
     }
     Ok(())
 }
 
 /// Whether the next step is the left list's: that of the right one is not earlier.
-fn goes_left<R: StepList>(left: &[Step], right: R, passed: usize) -> bool
+fn goes_left<R: StepList>(left: &[RankStep], right: R, passed: usize) -> bool
     ensures { result ≡ is_left_next left.now (drop passed (R.listed right)) }
 {
     if right.count() <= passed {
@@ -84,8 +84,8 @@ fn goes_left<R: StepList>(left: &[Step], right: R, passed: usize) -> bool
 /// changes nothing there is left out: where many entries lie over each other, few steps are left. At most one comparison
 /// for a step up.
 pub(crate) fn merge<R: StepList>(
-    steps: &mut Vec<Step>,
-    left: &[Step],
+    steps: &mut Vec<RankStep>,
+    left: &[RankStep],
     right: R,
     meter: &mut Meter,
 ) -> Result<(), AllocError>
@@ -122,18 +122,18 @@ pub(crate) fn merge<R: StepList>(
 
 /// Puts the steps of one entry at the end of others: up at its start and down at its end, or none where it covers no
 /// moment.
-pub(crate) fn add_steps_of(steps: &mut Vec<Step>, entry: &Entry) -> Result<(), AllocError>
+pub(crate) fn add_steps_of(steps: &mut Vec<RankStep>, entry: &Entry) -> Result<(), AllocError>
     ensures { OnOk result (steps.new.items ≡ steps.old.items ++ steps_of entry.now) }
 {
     if !entry.span.lasts() {
         return Ok(());
     }
-    steps.push(Step {
+    steps.push(RankStep {
         from: entry.span.start,
         rank: Some(entry.rank),
     })?;
     if let End::At(end) = entry.span.end {
-        steps.push(Step {
+        steps.push(RankStep {
             from: end,
             rank: None,
         })?;
@@ -166,7 +166,7 @@ pub fn is_run(entries: &[Entry]) -> bool
 }
 
 /// Puts the steps of each entry in turn at the end of others.
-pub(crate) fn add_run(steps: &mut Vec<Step>, entries: &[Entry]) -> Result<(), AllocError>
+pub(crate) fn add_run(steps: &mut Vec<RankStep>, entries: &[Entry]) -> Result<(), AllocError>
     ensures { OnOk result (steps.new.items ≡ steps.old.items ++ steps_in_turn entries.now) }
 {
     for entry in entries {
@@ -178,8 +178,8 @@ pub(crate) fn add_run(steps: &mut Vec<Step>, entries: &[Entry]) -> Result<(), Al
 /// Puts the steps of the least rank among an entry and others that come in turn at the end of others. Only those of the
 /// one are put at the end of the other list first.
 fn rank_over_run(
-    steps: &mut Vec<Step>,
-    other: &mut Vec<Step>,
+    steps: &mut Vec<RankStep>,
+    other: &mut Vec<RankStep>,
     one: &Entry,
     run: &[Entry],
     meter: &mut Meter,
@@ -200,8 +200,8 @@ fn rank_over_run(
 /// Puts the steps of the other list from a place up to a later one, merged with those from there on, at the end of
 /// others, and takes them off the other list.
 fn merge_from(
-    steps: &mut Vec<Step>,
-    other: &mut Vec<Step>,
+    steps: &mut Vec<RankStep>,
+    other: &mut Vec<RankStep>,
     start: usize,
     middle: usize,
     meter: &mut Meter,
@@ -224,8 +224,8 @@ fn merge_from(
 /// steps of the parts are merged from the end of the other list: for k entries at most about k log k steps, and about k
 /// where many lie over each other, as most levels have few steps then.
 fn rank(
-    steps: &mut Vec<Step>,
-    other: &mut Vec<Step>,
+    steps: &mut Vec<RankStep>,
+    other: &mut Vec<RankStep>,
     entries: &[Entry],
     meter: &mut Meter,
 ) -> Result<(), AllocError>
@@ -254,8 +254,8 @@ fn rank(
 /// all of them before the first is put there, the second where there are halves to merge.
 #[tactic(auto, using(crate::proofs::Stepped::from_none))]
 pub(crate) fn rank_anew(
-    steps: &mut Vec<Step>,
-    other: &mut Vec<Step>,
+    steps: &mut Vec<RankStep>,
+    other: &mut Vec<RankStep>,
     entries: &[Entry],
     meter: &mut Meter,
 ) -> Result<(), AllocError>
@@ -279,7 +279,7 @@ pub(crate) fn ranked(
     alloc: Global,
     entries: &[Entry],
     meter: &mut Meter,
-) -> Result<Vec<Step>, AllocError>
+) -> Result<Vec<RankStep>, AllocError>
     ensures order { IfOk result (λ steps. IsInOrder steps.items) }
     ensures few { IfOk result (λ steps. length steps.items ≤ 2 * length entries.now) }
     ensures ranks { IfOk result (λ steps. (t : ℤ) → rank_from None steps.items t ≡ rank_at entries.now t) }
@@ -293,7 +293,7 @@ pub(crate) fn ranked(
 }
 
 /// Puts the segment from a step up to the next at the end of others, as far as it is inside the window.
-fn join_step(line: &mut Line, step: &Step, until: End, window: &Span) -> Result<(), AllocError>
+fn join_step(line: &mut Line, step: &RankStep, until: End, window: &Span) -> Result<(), AllocError>
     ensures { OnOk result (line.new ≡ joined_all line.old (part (Some window.now.start) window.now.end (piece step.now.from until step.now.rank []))) }
 {
     let Some(rank) = step.rank else {
@@ -339,7 +339,7 @@ pub(crate) fn join_run(line: &mut Line, entries: &[Entry], window: &Span) -> Res
 }
 
 /// Where the first of the steps begins.
-fn first_from(steps: &[Step]) -> End
+fn first_from(steps: &[RankStep]) -> End
     ensures { result ≡ first_from steps.now }
 {
     match steps.first() {
@@ -349,7 +349,11 @@ fn first_from(steps: &[Step]) -> End
 }
 
 /// Puts the segments of the winners inside the window at the end of a line.
-pub(crate) fn join_steps(line: &mut Line, steps: &[Step], window: Span) -> Result<(), AllocError>
+pub(crate) fn join_steps(
+    line: &mut Line,
+    steps: &[RankStep],
+    window: Span,
+) -> Result<(), AllocError>
     ensures { OnOk result (line.new ≡ joined_all line.old (part (Some window.start) window.end (pieces steps.now))) }
 {
     for (place, step) in steps.iter().enumerate() {

@@ -25,7 +25,7 @@ const BETWEEN: u64 = 100;
 
 /// How often all readers looked, and how often the editor published.
 #[derive(Clone, Copy)]
-struct Counts {
+struct LookCounts {
     looks: u64,
     publications: u64,
 }
@@ -111,14 +111,14 @@ fn look_beside<J: Naming + Send, R: Clock + Threads + Wait + Sync>(
     alloc: Global,
     editor: &mut Editor<J>,
     readers: &mut [Reader<J>],
-) -> Counts {
+) -> LookCounts {
     let looks = AtomicU64::new(0);
     let (_, publications) = join(
         rt,
         || look_all(rt, readers, &looks),
         || publish_on(rt, alloc, editor),
     );
-    Counts {
+    LookCounts {
         looks: looks.load(Ordering::Relaxed),
         publications,
     }
@@ -131,7 +131,7 @@ fn looked<J: Naming + Send, R: AllocGlobal + Clock + Threads + Wait + Sync>(
     board: NewBoard,
     readers: usize,
     lines: String,
-) -> Result<Counts, Refusal>
+) -> Result<LookCounts, Refusal>
     requires history { board.diary.page.book ≡ J.history }
     requires tie { J.tie ≡ Newest }
     requires readers { (0 < readers) × (readers ≤ 64) }
@@ -154,7 +154,7 @@ pub(crate) fn print_lookers<R: AllocGlobal + Print + Clock + Threads + Wait + Sy
 ) -> io::Result<()>
     requires { (0 < readers) × (readers ≤ 64) }
 {
-    let Counts {
+    let LookCounts {
         looks,
         publications,
     } = told(looked::<Brand, R>(rt, NewBoard::new(), readers, lines))?;

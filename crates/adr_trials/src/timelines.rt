@@ -8,7 +8,7 @@ mod shape;
 use crate::timelines::measure::{fastest_build, measured};
 use crate::timelines::repair::Repair;
 pub(crate) use crate::timelines::shape::at;
-use crate::timelines::shape::{Shape, entries};
+use crate::timelines::shape::{TimelineShape, entries};
 use adr_timeline::Entry;
 use std::io;
 use std::rt::Clock;
@@ -34,7 +34,7 @@ fn print_time<R: Print>(rt: &R, nanoseconds: Option<u128>) -> io::Result<()> {
 /// timed, the nanoseconds of a build.
 fn print_build<R: AllocGlobal + Print + Clock>(
     rt: &R,
-    shape: Shape,
+    shape: TimelineShape,
     entries: &[Entry],
     is_timed: bool,
 ) -> io::Result<()> {
@@ -51,7 +51,11 @@ fn print_build<R: AllocGlobal + Print + Clock>(
 
 fn print_builds<R: AllocGlobal + Print + Clock>(rt: &R, is_timed: bool) -> io::Result<()> {
     println!(rt; "{}", if is_timed { TIMED_BUILDS } else { BUILDS })?;
-    for shape in [Shape::Disjoint, Shape::Nested, Shape::EndlessBelow] {
+    for shape in [
+        TimelineShape::Disjoint,
+        TimelineShape::Nested,
+        TimelineShape::EndlessBelow,
+    ] {
         for count in [256, 4096, 65_536] {
             let entries = entries(rt.alloc(), shape, count)?;
             print_build(rt, shape, &entries, is_timed)?;

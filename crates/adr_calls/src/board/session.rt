@@ -110,7 +110,7 @@ impl Twin {
 }
 
 /// A board, its twin, and what a reader saw last.
-struct Session<J: Naming> {
+struct BoardSession<J: Naming> {
     editor: Editor<J>,
     readers: Vec<Reader<J>>,
     twin: Twin,
@@ -191,10 +191,10 @@ fn look_in_vain<J: Naming>(readers: &mut [Reader<J>]) -> Result<u64, Refusal> {
     Err(Refusal::NoRuntime)
 }
 
-impl<J: Naming> Session<J> {
+impl<J: Naming> BoardSession<J> {
     /// Ends the board, and answers what its readers see after that.
     fn end<R: Wait>(self, rt: &R) -> Result<u64, Refusal> {
-        let Session {
+        let BoardSession {
             editor,
             mut readers,
             twin,
@@ -209,7 +209,7 @@ impl<J: Naming> Session<J> {
     }
 }
 
-impl<J: Naming> Tried for Session<J> {
+impl<J: Naming> Tried for BoardSession<J> {
     fn prepare(&mut self, _call: &Call) -> Result<(), Refusal> {
         self.twin.renew(self.editor.desk(), &**self.editor.last())
     }
@@ -244,7 +244,7 @@ impl<J: Naming> Tried for Session<J> {
 }
 
 /// What has publications that can be asked.
-trait Asked {
+trait Questioned {
     /// The last publication.
     fn last(&self) -> &Snapshot;
 
@@ -252,7 +252,7 @@ trait Asked {
     fn seen(&self) -> Option<&Snapshot>;
 }
 
-impl<J: Naming> Asked for Session<J> {
+impl<J: Naming> Questioned for BoardSession<J> {
     fn last(&self) -> &Snapshot {
         &**self.editor.last()
     }
@@ -279,7 +279,7 @@ fn try_seen<R: AllocGlobal + Print>(
 }
 
 /// Makes the call of the line, or asks the last publication its question, or, behind `seen`, what a reader saw last.
-fn try_one<B: Tried + Asked, R: AllocGlobal + Print + Wait + Threads + Sync>(
+fn try_one<B: Tried + Questioned, R: AllocGlobal + Print + Wait + Threads + Sync>(
     rt: &R,
     board: &mut B,
     number: usize,
@@ -292,7 +292,7 @@ fn try_one<B: Tried + Asked, R: AllocGlobal + Print + Wait + Threads + Sync>(
     }
 }
 
-fn try_each<B: Tried + Asked, R: AllocGlobal + Print + Wait + Threads + Sync>(
+fn try_each<B: Tried + Questioned, R: AllocGlobal + Print + Wait + Threads + Sync>(
     rt: &R,
     board: &mut B,
     lines: &str,
@@ -329,7 +329,7 @@ fn on_board<J: Naming, R: AllocGlobal + Print + Wait + Threads + Sync>(
             return Err(refusal);
         }
     };
-    let mut session = Session {
+    let mut session = BoardSession {
         editor,
         readers,
         twin,

@@ -1,7 +1,7 @@
 //! A repair of a long timeline in the windows of one edit.
 
 use crate::timelines::measure::{all_time, segments_in};
-use crate::timelines::shape::{Shape, entries};
+use crate::timelines::shape::{TimelineShape, entries};
 use adr_rule::Meter;
 use adr_test_values::telling::{taken, told};
 use adr_time::Span;
@@ -47,8 +47,8 @@ impl Drop for Repair {
 impl Repair {
     /// A line of that many segments, and windows over four segments each.
     pub(crate) fn of(alloc: Global, count: u32) -> io::Result<Repair> {
-        let inside = entries(alloc, Shape::Spread(count / WINDOWS), WINDOWS)?;
-        let entries = entries(alloc, Shape::Disjoint, count)?;
+        let inside = entries(alloc, TimelineShape::Spread(count / WINDOWS), WINDOWS)?;
+        let entries = entries(alloc, TimelineShape::Disjoint, count)?;
         let windows = inside.iter().map(|entry| entry.span).collect(alloc)?;
         let inner = built(alloc, &inside)?;
         let line = built(alloc, &entries)?;

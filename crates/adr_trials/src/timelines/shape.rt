@@ -8,7 +8,7 @@ use std::alloc::{AllocError, Global};
 
 /// How entries lie in time.
 #[derive(Clone, Copy)]
-pub(crate) enum Shape {
+pub(crate) enum TimelineShape {
     /// Each after the one before, with a gap between.
     Disjoint,
     /// Each inside the one before, and before it in rank.
@@ -19,13 +19,13 @@ pub(crate) enum Shape {
     Spread(u32),
 }
 
-impl Shape {
+impl TimelineShape {
     pub(crate) fn name(self) -> &'static str {
         match self {
-            Shape::Disjoint => "disjoint",
-            Shape::Nested => "nested",
-            Shape::EndlessBelow => "one endless below",
-            Shape::Spread(_) => "spread",
+            TimelineShape::Disjoint => "disjoint",
+            TimelineShape::Nested => "nested",
+            TimelineShape::EndlessBelow => "one endless below",
+            TimelineShape::Spread(_) => "spread",
         }
     }
 }
@@ -46,15 +46,15 @@ fn span(start: i128, end: i128) -> Span {
 }
 
 /// Where the entry of that place lies, of so many.
-fn span_of(shape: Shape, place: u32, count: u32) -> Span {
+fn span_of(shape: TimelineShape, place: u32, count: u32) -> Span {
     let number = i128::from(place);
     match shape {
-        Shape::Nested => span(number, 2 * i128::from(count) - number),
-        Shape::EndlessBelow if place == 0 => Span {
+        TimelineShape::Nested => span(number, 2 * i128::from(count) - number),
+        TimelineShape::EndlessBelow if place == 0 => Span {
             start: at(0),
             end: End::Endless,
         },
-        Shape::Spread(step) => {
+        TimelineShape::Spread(step) => {
             let start = 2 * number * i128::from(step);
             span(start, start + 8)
         }
@@ -63,7 +63,7 @@ fn span_of(shape: Shape, place: u32, count: u32) -> Span {
 }
 
 /// Later ones go before earlier ones in rank.
-fn entry_of(shape: Shape, place: u32, count: u32) -> Entry {
+fn entry_of(shape: TimelineShape, place: u32, count: u32) -> Entry {
     let rank = Rank {
         priority: u64::from(u32::MAX - place),
         late: 0,
@@ -77,7 +77,11 @@ fn entry_of(shape: Shape, place: u32, count: u32) -> Entry {
 }
 
 /// So many entries, in order of their starts.
-pub(crate) fn entries(alloc: Global, shape: Shape, count: u32) -> Result<Vec<Entry>, AllocError>
+pub(crate) fn entries(
+    alloc: Global,
+    shape: TimelineShape,
+    count: u32,
+) -> Result<Vec<Entry>, AllocError>
     ensures { IfOk result (λ entries. length entries.items ≡ count) }
 {
     (0..count)

@@ -1,6 +1,6 @@
 use Rattle.std.proofs.Common.{◌≡◌, ◌+◌, ◌-◌, ◌*◌, ◌/◌, length, take, slice_range, List, IfOk, subst, ap, ◌∙◌, arith}
 use Rattle.std.proofs.lemmas.Result.{IfOk-at_ok}
-use Rattle.adr_group.specs.declared.job.Job.{Job}
+use Rattle.adr_group.specs.declared.job.RepairJob.{RepairJob}
 use Rattle.adr_group.specs.Jobs.{AreDone}
 use Rattle.adr_group.proofs.Sharing.{bound_le, none_more, shared}
 use Rattle.adr_group.proofs.share.+workers.Goals as goal
@@ -34,4 +34,4 @@ returns-then-part-eq0-clause-done g t c =
     (bound_le worker c.args.count n w (omega arith) (omega arith))
     (c.chunk-part.ensures.part ∙ ap (λ k. slice_range jobs (worker * n / w) (k * n / w)) next)
     c.if-part-eq0.true in
-    subst (λ (l : List Job). IfOk c.do_first.result (λ v. AreDone indexes l v.items)) same c.do_first.ensures.done
+    subst (λ (l : List RepairJob). IfOk c.do_first.result (λ v. AreDone indexes l v.items)) same c.do_first.ensures.done

@@ -5,7 +5,7 @@ use Rattle.adr_value.specs.declared.limits.TheConstants.{MOST_INTERVALS}
 use Rattle.adr_read.specs.Sets.{required, optional, list_faults, list_in}
 use Rattle.adr_read.specs.Values.{targets_faults, targets_in}
 use Rattle.adr_read.specs.Periods.{period_faults, period_in, interval_faults, interval_in}
-use Rattle.adr_read.specs.declared.element.Context.{Context}
+use Rattle.adr_read.specs.declared.from_value.Context.{Context}
 use Rattle.adr_read.proofs.event.tail_of.Goals as goal
 
 pub returns : goal.returns

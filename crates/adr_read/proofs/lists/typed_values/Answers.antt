@@ -4,7 +4,7 @@ use Rattle.adr_read.specs.Looking.{member_at, the}
 use Rattle.adr_read.specs.Names.{member_text}
 use Rattle.adr_read.specs.Sets.{required, list_faults}
 use Rattle.adr_read.specs.Values.{datum_faults, values_in}
-use Rattle.adr_read.specs.declared.element.Context.{Context}
+use Rattle.adr_read.specs.declared.from_value.Context.{Context}
 use Rattle.adr_read.proofs.Reading.{object_gives}
 use Rattle.adr_read.proofs.lists.typed_values.Goals as goal
 

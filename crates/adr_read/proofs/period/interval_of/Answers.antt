@@ -10,7 +10,7 @@ use Rattle.adr_object.specs.declared.event.Period.{Period}
 use Rattle.adr_read.specs.Sets.{required, optional, list_faults, list_in}
 use Rattle.adr_read.specs.Values.{interval_id_faults, interval_id_in, payload_faults, payload_in}
 use Rattle.adr_read.specs.Periods.{period_faults, period_in}
-use Rattle.adr_read.specs.declared.element.Context.{Context}
+use Rattle.adr_read.specs.declared.from_value.Context.{Context}
 use Rattle.adr_read.proofs.period.interval_of.Goals as goal
 
 abbrev made : ℤ → (Option ℤ × Option Period) × List Payload → Interval

@@ -6,7 +6,7 @@ use Rattle.adr_time.specs.declared.length.Length.{Length}
 use Rattle.adr_object.specs.declared.event.Period.{Period}
 use Rattle.adr_read.specs.Sets.{required, optional}
 use Rattle.adr_read.specs.Periods.{start_faults, start_in, length_faults, length_in}
-use Rattle.adr_read.specs.declared.element.Context.{Context}
+use Rattle.adr_read.specs.declared.from_value.Context.{Context}
 use Rattle.adr_read.proofs.period.period_of.Goals as goal
 
 abbrev made : (ℤ × Option Length) × Option Length → Period

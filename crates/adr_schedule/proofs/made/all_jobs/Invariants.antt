@@ -2,7 +2,7 @@ use Rattle.std.proofs.Common.{◌++◌, List, flat_map, length}
 use Rattle.std.specs.List.{AllZip}
 use Rattle.std.specs.Option.{option_copied, option_map}
 use Rattle.adr_model.specs.Lists.{In}
-use Rattle.adr_group.specs.declared.job.Job.{Job}
+use Rattle.adr_group.specs.declared.job.RepairJob.{RepairJob}
 use Rattle.adr_group.specs.Jobs.{IsJobOf}
 use Rattle.adr_schedule.specs.declared.draft.Draft.{Draft}
 use Rattle.adr_schedule.specs.Draft.{tasks_of}
@@ -14,7 +14,7 @@ abbrev pub invariant-rest : goal.invariant-rest
 invariant-rest g l = record {
   own : (d : Draft) → In d l.rest → In d l.drafts;
   jobs : IsLaidBy (option_map g.R.Ranks.rank (option_copied l.ranks)) l.indexes l.change
-      → (more : List Job) → AllZip (IsJobOf l.indexes) (flat_map tasks_of l.rest) more
+      → (more : List RepairJob) → AllZip (IsJobOf l.indexes) (flat_map tasks_of l.rest) more
       → AllZip (IsJobOf l.indexes) (flat_map tasks_of l.drafts) (l.jobs.items ++ more);
 }
 

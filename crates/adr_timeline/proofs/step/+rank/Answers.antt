@@ -1,5 +1,5 @@
 use Rattle.std.proofs.Common.{rules, ◌++◌, ◌∙◌, List, ap, sym}
-use Rattle.adr_timeline.specs.declared.step.Step.{Step}
+use Rattle.adr_timeline.specs.declared.step.RankStep.{RankStep}
 use Rattle.std.proofs.lemmas.Result.{on_ok_weaker}
 use Rattle.adr_timeline.specs.Steps.{rises}
 use Rattle.adr_timeline.proofs.Runs.{run_added}
@@ -36,7 +36,7 @@ returns-clause-ranked t c =
     on_ok_weaker c.merge_from.result
     (λ merged. (
       merged.0,
-      merged.1 ∙ ap (λ (xs : List Step). xs ++ merged.0) (c.in_ok-rank-2.ensures.kept ∙ c.in_ok-rank.ensures.kept),
+      merged.1 ∙ ap (λ (xs : List RankStep). xs ++ merged.0) (c.in_ok-rank-2.ensures.kept ∙ c.in_ok-rank.ensures.kept),
       whole_ranked front back c.args.entries.now first.0 second.0 merged.0 h first.2 second.2 (rw (parts.1, parts.2) at merged.2),
     ))
     c.merge_from.ensures.merged

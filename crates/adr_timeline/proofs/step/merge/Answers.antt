@@ -1,6 +1,6 @@
 use Rattle.std.proofs.Common.{◌++◌, ◌<◌, [], ◌∷◌, List, drop, length, refl, sym, arith}
 use Rattle.std.proofs.lemmas.Option.{get_or_from_slice_get}
-use Rattle.adr_timeline.specs.declared.step.Step.{Step}
+use Rattle.adr_timeline.specs.declared.step.RankStep.{RankStep}
 use Rattle.adr_timeline.proofs.Merged.{left_there, over_left, over_right, right_there, turn_left, turn_right, merge_done, goes_rest, begun_at, added_more}
 use Rattle.adr_timeline.proofs.step.merge.Goals as goal
 use Rattle.adr_timeline.proofs.step.merge.Goals.{then-goes_left, else-goes_left, then-passed_left-left, else-passed_left-left+then-passed_right-count}
@@ -31,7 +31,7 @@ loop-passed_left-preserved g c = elim c.if-goes_left.branch [
       ] in
       let done = c.loop-passed_left.invariant.1.0 in
       let put = c.in_ok-push_change.ensures in
-      let more : List Step = done ++ put.0 in (
+      let more : List RankStep = done ++ put.0 in (
         c.lesser-rank.ensures.lesser,
         (
           more,
@@ -49,7 +49,7 @@ loop-passed_left-preserved g c = elim c.if-goes_left.branch [
       let goes = sym (goes_rest c.args.left.now (drop c.loop-passed_left.passed_right (g.R.StepList.listed c.args.right)) c.loop-passed_left.passed_left _ w.if-goes_left.ensures) in
       let done = c.loop-passed_left.invariant.1.0 in
       let put = c.in_ok-push_change.ensures in
-      let more : List Step = done ++ put.0 in (
+      let more : List RankStep = done ++ put.0 in (
         c.lesser-rank.ensures.lesser,
         (
           more,

@@ -22,7 +22,7 @@ returns-in_ok-without_led-in-Less g t c =
     let root = opened c.deref-node.result.now c.self.view_is c.in-Fork.is c.deref-node.ensures in
     let node = node_holds c.deref-node.result.now c.self.invariant c.in-Fork.is c.deref-node.ensures in
     let high : c.args.self.now.1 ≡ max c.deref-node.result.now.left.1 c.deref-node.result.now.right.1 + 1 = ap (λ d. d.1) root ∙ node.1 in
-    let same = ap (λ d. without (g.K.Key.code c.args.key.now) d.0) root ∙ without_below (g.K.Key.code c.args.key.now) _ _ _ (sym c.order_of.ensures ∙ c.in-Less.is) (opened_ascends c.deref-node.result.now c.self.view_is c.in-Fork.is c.deref-node.ensures c.requires.ascends) in
+    let same = ap (λ d. without (g.K.MapKey.code c.args.key.now) d.0) root ∙ without_below (g.K.MapKey.code c.args.key.now) _ _ _ (sym c.order_of.ensures ∙ c.in-Less.is) (opened_ascends c.deref-node.result.now c.self.view_is c.in-Fork.is c.deref-node.ensures c.requires.ascends) in
     let edited = c.in_ok-without_led-in-Less.ensures in
     rebalanced _ c.in_ok-without_led-in-Less.field-0 c.deref-node.result.now.right _ _ (c.args.self.now.1 - 1) c.args.self.now.1
     (same ∙ ap (λ xs. xs ++ c.deref-node.result.now.entry ∷ c.deref-node.result.now.right.0) (sym edited.0))
@@ -34,7 +34,7 @@ returns-in_ok-without_led-in-Greater g t c =
     let root = opened c.deref-node.result.now c.self.view_is c.in-Fork.is c.deref-node.ensures in
     let node = node_holds c.deref-node.result.now c.self.invariant c.in-Fork.is c.deref-node.ensures in
     let high : c.args.self.now.1 ≡ max c.deref-node.result.now.left.1 c.deref-node.result.now.right.1 + 1 = ap (λ d. d.1) root ∙ node.1 in
-    let same = ap (λ d. without (g.K.Key.code c.args.key.now) d.0) root ∙ without_above (g.K.Key.code c.args.key.now) _ _ _ (sym c.order_of.ensures ∙ c.in-Greater.is) (opened_ascends c.deref-node.result.now c.self.view_is c.in-Fork.is c.deref-node.ensures c.requires.ascends) in
+    let same = ap (λ d. without (g.K.MapKey.code c.args.key.now) d.0) root ∙ without_above (g.K.MapKey.code c.args.key.now) _ _ _ (sym c.order_of.ensures ∙ c.in-Greater.is) (opened_ascends c.deref-node.result.now c.self.view_is c.in-Fork.is c.deref-node.ensures c.requires.ascends) in
     let edited = c.in_ok-without_led-in-Greater.ensures in
     rebalanced _ c.deref-node.result.now.left c.in_ok-without_led-in-Greater.field-0 _ _ (c.args.self.now.1 - 1) c.args.self.now.1
     (same ∙ ap (λ xs. c.deref-node.result.now.left.0 ++ c.deref-node.result.now.entry ∷ xs) (sym edited.0))
@@ -46,5 +46,5 @@ returns-in-Equal g t c =
     let root = opened c.deref-node.result.now c.self.view_is c.in-Fork.is c.deref-node.ensures in
     let node = node_holds c.deref-node.result.now c.self.invariant c.in-Fork.is c.deref-node.ensures in
     let high : c.args.self.now.1 ≡ max c.deref-node.result.now.left.1 c.deref-node.result.now.right.1 + 1 = ap (λ d. d.1) root ∙ node.1 in
-    let same = ap (λ d. without (g.K.Key.code c.args.key.now) d.0) root ∙ without_at (g.K.Key.code c.args.key.now) _ _ _ (sym c.order_of.ensures ∙ c.in-Equal.is) (opened_ascends c.deref-node.result.now c.self.view_is c.in-Fork.is c.deref-node.ensures c.requires.ascends) in
+    let same = ap (λ d. without (g.K.MapKey.code c.args.key.now) d.0) root ∙ without_at (g.K.MapKey.code c.args.key.now) _ _ _ (sym c.order_of.ensures ∙ c.in-Equal.is) (opened_ascends c.deref-node.result.now c.self.view_is c.in-Fork.is c.deref-node.ensures c.requires.ascends) in
     retold _ _ _ _ _ (c.args.self.now.1 - 1) c.args.self.now.1 same (omega (arith, high)) (omega (arith, high)) c.join.ensures

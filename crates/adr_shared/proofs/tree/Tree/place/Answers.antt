@@ -45,6 +45,6 @@ path-preserved g c =
       within = omega (arith, c.path.invariant.within, parts, c.count-in-Greater.ensures.value);
       limit = c.path.invariant.limit;
       place =
-          ap (λ n. place_past (c.path.passed + (n + 1)) (place_of (g.K.Key.code c.args.key.now) c.deref-node.result.now.right.0)) c.count-in-Greater.ensures.value
+          ap (λ n. place_past (c.path.passed + (n + 1)) (place_of (g.K.MapKey.code c.args.key.now) c.deref-node.result.now.right.0)) c.count-in-Greater.ensures.value
           ∙ place_right _ _ _ whole c.path.invariant.ascends _ c.path.passed (sym c.order_of.ensures ∙ c.in-Greater.is) ∙ c.path.invariant.place;
     }

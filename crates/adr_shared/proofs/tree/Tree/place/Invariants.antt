@@ -8,7 +8,7 @@ invariant-path g l = record {
   ascends : IsAscending l.rest.0;
   within : l.passed + length l.rest.0 ≤ length l.self.0;
   limit : length l.self.0 < 2 ^ 32;
-  place : place_past l.passed (place_of (g.K.Key.code l.key) l.rest.0) ≡ place_of (g.K.Key.code l.key) l.self.0;
+  place : place_past l.passed (place_of (g.K.MapKey.code l.key) l.rest.0) ≡ place_of (g.K.MapKey.code l.key) l.self.0;
 }
 
 abbrev pub decreases-path : goal.decreases-path
