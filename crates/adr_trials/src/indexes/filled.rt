@@ -36,7 +36,8 @@ fn filled(alloc: Global, entries: Vec<Entry>) -> io::Result<Index>
 /// An index of a copy of the entries.
 fn index_of(alloc: Global, entries: &[Entry]) -> io::Result<Index>
     requires { AreRising 0 entries.now }
-    ensures { IfOk result (λ index. AreBelow (length entries.now) index.entries) }
+    ensures below { IfOk result (λ index. AreBelow (length entries.now) index.entries) }
+    ensures length { IfOk result (λ index. length index.entries ≡ length entries.now) }
 {
     let copy = Vec::from_slice(alloc, entries)?;
     filled(alloc, copy)
@@ -62,7 +63,8 @@ fn write_again(
     time: u32,
 ) -> io::Result<Vec<Entry>>
     requires { AreBelow (count + 16 * time) index.old.entries }
-    ensures { OnOk result (AreBelow (count + 16 * (time + 1)) index.new.entries) }
+    ensures below { OnOk result (AreBelow (count + 16 * (time + 1)) index.new.entries) }
+    ensures length { IfOk result (λ new. length new.items ≡ 16) }
 {
     let new = event(alloc, count, time)?;
     make_room(index, new.len())?;
